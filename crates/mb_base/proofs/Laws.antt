@@ -1,0 +1,311 @@
+-- A field that is read is the field that was written, and what was written is read again.
+use Rattle.std.proofs.Common.{◌≡◌, ℕ, zero, suc, ◌+◌, ◌-◌, ◌%◌, ◌^◌, ◌<◌, ◌≤◌, Bool, true, false, cond, ltb, leb, ◌&&◌, List, [], ◌∷◌, ◌++◌, length, get_or, take, drop, Result, Ok, Err, refl, sym, ap, subst, ◌∙◌, append_assoc, arith, inl, inr, add-zero}
+use Rattle.std.specs.Int.{Width, w8, w16, w64, byte_len, from_be_bytes, to_be_bytes}
+use Rattle.std.specs.List.{flat_map, AllByRecursion}
+use Rattle.std.proofs.lemmas.Bool.{cases_lt, ltb-false, le-ltb, leb-true, le-leb}
+use Rattle.std.proofs.lemmas.List.{take_at, drop_at, take-append-drop, length-append, length-take, get_or-drop, get_or-take, get_or_past}
+use Rattle.std.proofs.lemmas.List.Concat.{flat_map-cons}
+use Rattle.std.proofs.lemmas.Nat.{be_bytes_2, be_bytes_8, from_be_bytes-to_be_bytes_2, from_be_bytes-to_be_bytes_8}
+use Rattle.mb_base.specs.Spelling.{number, text16, list16}
+use Rattle.mb_base.specs.Reading.{◌>>=◌, Cursor, cursor, onward, Reads, bytes_at, number_at, number_in, text16_at, pair_at, then_at, map_at, repeat_at, list16_at}
+
+abbrev pub IsBytes : List ℕ → Type 0
+IsBytes bytes = (i : ℕ) → get_or bytes i 0 < 256
+
+pub IsBytes-drop : (n : ℕ) (bytes : List ℕ) → IsBytes bytes → IsBytes (drop n bytes)
+IsBytes-drop n bytes h i = rw get_or-drop (h (n + i))
+
+pub IsBytes-take : (n : ℕ) (bytes : List ℕ) → IsBytes bytes → IsBytes (take n bytes)
+IsBytes-take n bytes h i =
+    elim (cases_lt i n) [
+      | inl lt ↦ rw (get_or-take n bytes i 0 lt) (h i)
+      | inr le ↦ rw (get_or_past (take n bytes) i 0 (omega (arith, length-take n bytes))) (omega arith)
+    ]
+
+-- the value of a step that did not fail
+pub bind_ok : {A B : Type 0} (r : Result A ℕ) (f : A → Result B ℕ) (y : B) → (r >>= f) ≡ Ok y → (x : A) × (r ≡ Ok x) × (f x ≡ Ok y)
+bind_ok (Ok x) f y e = (x, refl, e)
+bind_ok (Err d) f y e = absurd cc
+
+-- a test that did not fail
+pub guard_ok : {A : Type 0} (b : Bool) (d : ℕ) (x y : A) → cond b (Err d) (Ok x) ≡ Ok y → (b ≡ false) × (x ≡ y)
+guard_ok true d x y e = absurd cc
+guard_ok false d x y e = (refl, cc)
+
+pub allow_ok : {A : Type 0} (b : Bool) (d : ℕ) (x y : A) → cond b (Ok x) (Err d) ≡ Ok y → (b ≡ true) × (x ≡ y)
+allow_ok true d x y e = (refl, cc)
+allow_ok false d x y e = absurd cc
+
+abbrev done : {A : Type 0} → A → Result A ℕ
+done x = Ok x
+
+pub ok_is : {A : Type 0} (x y : A) → done x ≡ done y → x ≡ y
+ok_is x y e = cc
+
+-- what was taken from the front
+pub record Takes (s : Cursor) (text : List ℕ) (t : Cursor) : Type 0 where
+  pub parts : s.rest ≡ text ++ t.rest
+  pub place : t.at ≡ s.at + length text
+  pub rest_fits : IsBytes t.rest
+
+pub Takes-then : (a : Cursor) (x : List ℕ) (b : Cursor) (y : List ℕ) (c : Cursor) → Takes a x b → Takes b y c → Takes a (x ++ y) c
+Takes-then a x b y c p q = record {
+  parts = p.parts ∙ ap (λ (t : List ℕ). x ++ t) q.parts ∙ sym (append_assoc x y c.rest);
+  place = omega (arith, p.place, q.place, length-append x y);
+  rest_fits = q.rest_fits;
+}
+
+-- the two laws of a field
+pub record IsField {A : Type 0} (f : Cursor → Reads A) (text : A → List ℕ) (P : A → Type 0) : Type 0 where
+  pub takes : (s : Cursor) (x : A) (t : Cursor) → IsBytes s.rest → f s ≡ Ok (x, t) → Takes s (text x) t × P x
+  pub again : (x : A) (at : ℕ) (rest : List ℕ) → P x → f (cursor at (text x ++ rest)) ≡ Ok (x, cursor (at + length (text x)) rest)
+
+-- what fits, said another way
+pub iff_field : {A : Type 0} (f : Cursor → Reads A) (tf : A → List ℕ) (P Q : A → Type 0) → ((x : A) → P x → Q x) → ((x : A) → Q x → P x) → IsField f tf P → IsField f tf Q
+iff_field f tf P Q to from hf = record {
+  takes = λ s x t fits e. let p = hf.takes s x t fits e in (p.0, to x p.1);
+  again = λ x at rest h. hf.again x at rest (from x h);
+}
+
+-- different values that fit are spelled differently
+pub field_injective : {A : Type 0} (f : Cursor → Reads A) (tf : A → List ℕ) (P : A → Type 0) → IsField f tf P → (x y : A) → P x → P y → tf x ≡ tf y → x ≡ y
+field_injective {A} f tf P hf x y px py e =
+    let first : f (cursor 0 (tf x ++ [])) ≡ Ok (x, cursor (0 + length (tf x)) []) = hf.again x 0 [] px in
+    let second : f (cursor 0 (tf x ++ [])) ≡ Ok (y, cursor (0 + length (tf y)) []) = rw e (hf.again y 0 [] py) in
+    ap (λ (v : A × Cursor). v.0) (ok_is (x, cursor (0 + length (tf x)) []) (y, cursor (0 + length (tf y)) []) (sym first ∙ second))
+
+-- one after the other
+pub pair_field : {A B : Type 0} (f : Cursor → Reads A) (tf : A → List ℕ) (P : A → Type 0) (g : Cursor → Reads B) (tg : B → List ℕ) (Q : B → Type 0)
+    → IsField f tf P → IsField g tg Q → IsField (pair_at f g) (λ p. tf p.0 ++ tg p.1) (λ p. P p.0 × Q p.1)
+pair_field {A} {B} f tf P g tg Q hf hg = record {
+  takes = λ s x t fits e.
+      let a = bind_ok (f s) (λ v. g v.1 >>= λ w. Ok ((v.0, w.0), w.1)) (x, t) e in
+      let b = bind_ok (g a.0.1) (λ w. Ok ((a.0.0, w.0), w.1)) (x, t) a.2 in
+      let p = hf.takes s a.0.0 a.0.1 fits a.1 in
+      let q = hg.takes a.0.1 b.0.0 b.0.1 p.0.rest_fits b.1 in
+      let both = Takes-then s (tf a.0.0) a.0.1 (tg b.0.0) b.0.1 p.0 q.0 in
+      subst (λ (y : (A × B) × Cursor). Takes s (tf y.0.0 ++ tg y.0.1) y.1 × (P y.0.0 × Q y.0.1)) (ok_is ((a.0.0, b.0.0), b.0.1) (x, t) b.2) (both, (p.1, q.1));
+  again = λ x at rest h.
+      let regrouped : (tf x.0 ++ tg x.1) ++ rest ≡ tf x.0 ++ (tg x.1 ++ rest) = append_assoc (tf x.0) (tg x.1) rest in
+      let place : (at + length (tf x.0)) + length (tg x.1) ≡ at + length (tf x.0 ++ tg x.1) = omega (arith, length-append (tf x.0) (tg x.1)) in
+      ap (λ (r : List ℕ). pair_at f g (cursor at r)) regrouped
+      ∙ rw (hf.again x.0 at (tg x.1 ++ rest) h.0, hg.again x.1 (at + length (tf x.0)) rest h.1) (ap (λ (k : ℕ). Ok (x, cursor k rest)) place);
+}
+
+-- one after the other, where the first says how the second is read
+pub then_field : {A B : Type 0} (f : Cursor → Reads A) (tf : A → List ℕ) (P : A → Type 0) (g : A → Cursor → Reads B) (tg : A → B → List ℕ) (Q : A → B → Type 0)
+    → IsField f tf P → ((a : A) → P a → IsField (g a) (tg a) (Q a)) → IsField (then_at f g) (λ p. tf p.0 ++ tg p.0 p.1) (λ p. P p.0 × Q p.0 p.1)
+then_field {A} {B} f tf P g tg Q hf hg = record {
+  takes = λ s x t fits e.
+      let a = bind_ok (f s) (λ v. g v.0 v.1 >>= λ w. Ok ((v.0, w.0), w.1)) (x, t) e in
+      let b = bind_ok (g a.0.0 a.0.1) (λ w. Ok ((a.0.0, w.0), w.1)) (x, t) a.2 in
+      let p = hf.takes s a.0.0 a.0.1 fits a.1 in
+      let q = (hg a.0.0 p.1).takes a.0.1 b.0.0 b.0.1 p.0.rest_fits b.1 in
+      let both = Takes-then s (tf a.0.0) a.0.1 (tg a.0.0 b.0.0) b.0.1 p.0 q.0 in
+      subst (λ (y : (A × B) × Cursor). Takes s (tf y.0.0 ++ tg y.0.0 y.0.1) y.1 × (P y.0.0 × Q y.0.0 y.0.1)) {x = ((a.0.0, b.0.0), b.0.1)} (ok_is ((a.0.0, b.0.0), b.0.1) (x, t) b.2) (both, (p.1, q.1));
+  again = λ x at rest h.
+      let regrouped : (tf x.0 ++ tg x.0 x.1) ++ rest ≡ tf x.0 ++ (tg x.0 x.1 ++ rest) = append_assoc (tf x.0) (tg x.0 x.1) rest in
+      let place : (at + length (tf x.0)) + length (tg x.0 x.1) ≡ at + length (tf x.0 ++ tg x.0 x.1) = omega (arith, length-append (tf x.0) (tg x.0 x.1)) in
+      ap (λ (r : List ℕ). then_at f g (cursor at r)) regrouped
+      ∙ rw (hf.again x.0 at (tg x.0 x.1 ++ rest) h.0, (hg x.0 h.0).again x.1 (at + length (tf x.0)) rest h.1) (ap (λ (k : ℕ). Ok (x, cursor k rest)) place);
+}
+
+-- made into another type: each value that fits there is made of one that fits here, and is spelled as that one
+pub made_field : {A B : Type 0} (make : A → B) (f : Cursor → Reads A) (tf : A → List ℕ) (P : A → Type 0) (text : B → List ℕ) (Q : B → Type 0)
+    → ((x : A) → P x → text (make x) ≡ tf x) → ((x : A) → P x → Q (make x)) → ((y : B) → Q y → (x : A) × (make x ≡ y) × P x)
+    → IsField f tf P → IsField (map_at make f) text Q
+made_field {A} {B} make f tf P text Q spelled into from hf = record {
+  takes = λ s y t fits e.
+      let a = bind_ok (f s) (λ v. Ok (make v.0, v.1)) (y, t) e in
+      let p = hf.takes s a.0.0 a.0.1 fits a.1 in
+      let made : Takes s (text (make a.0.0)) a.0.1 = subst (λ (u : List ℕ). Takes s u a.0.1) (sym (spelled a.0.0 p.1)) p.0 in
+      subst (λ (z : B × Cursor). Takes s (text z.0) z.1 × Q z.0) (ok_is (make a.0.0, a.0.1) (y, t) a.2) (made, into a.0.0 p.1);
+  again = λ y at rest h.
+      let x = from y h in
+      let one : map_at make f (cursor at (tf x.0 ++ rest)) ≡ Ok (make x.0, cursor (at + length (tf x.0)) rest) = rw (hf.again x.0 at rest x.2) refl in
+      let two : map_at make f (cursor at (text (make x.0) ++ rest)) ≡ Ok (make x.0, cursor (at + length (text (make x.0))) rest) = rw (spelled x.0 x.2) one in
+      subst (λ (z : B). map_at make f (cursor at (text z ++ rest)) ≡ Ok (z, cursor (at + length (text z)) rest)) x.1 two;
+}
+
+-- seen another way, where what is seen is seen back only for values that fit
+pub view_field : {A B : Type 0} (to : A → B) (from : B → A) (f : Cursor → Reads A) (tf : A → List ℕ) (P : A → Type 0)
+    → ((x : A) → P x → from (to x) ≡ x) → ((y : B) → to (from y) ≡ y) → IsField f tf P → IsField (map_at to f) (λ y. tf (from y)) (λ y. P (from y))
+view_field {A} {B} to from f tf P back forth hf =
+    made_field to f tf P (λ y. tf (from y)) (λ y. P (from y)) (λ x h. ap tf (back x h)) (λ x h. subst P (sym (back x h)) h) (λ y h. (from y, forth y, h)) hf
+
+-- seen another way
+pub map_field : {A B : Type 0} (to : A → B) (from : B → A) → ((x : A) → from (to x) ≡ x) → ((y : B) → to (from y) ≡ y) → (f : Cursor → Reads A) (tf : A → List ℕ) (P : A → Type 0)
+    → IsField f tf P → IsField (map_at to f) (λ y. tf (from y)) (λ y. P (from y))
+map_field {A} {B} to from back forth f tf P hf = record {
+  takes = λ s y t fits e.
+      let a = bind_ok (f s) (λ v. Ok (to v.0, v.1)) (y, t) e in
+      let p = hf.takes s a.0.0 a.0.1 fits a.1 in
+      subst (λ (z : B × Cursor). Takes s (tf (from z.0)) z.1 × P (from z.0)) (ok_is (to a.0.0, a.0.1) (y, t) a.2)
+      (subst (λ (x : A). Takes s (tf x) a.0.1 × P x) (sym (back a.0.0)) p);
+  again = λ y at rest h. rw (hf.again (from y) at rest h, forth y) refl;
+}
+
+-- ---- numbers and bytes
+
+pub record IsWide (w : Width) (limit : ℕ) : Type 0 where
+  pub len : (n : ℕ) → length (to_be_bytes w n) ≡ byte_len w
+  pub back : (bytes : List ℕ) → length bytes ≡ byte_len w → IsBytes bytes → to_be_bytes w (from_be_bytes w bytes) ≡ bytes
+  pub again : (n : ℕ) → n < limit → from_be_bytes w (to_be_bytes w n) ≡ n
+  pub below : (bytes : List ℕ) → IsBytes bytes → from_be_bytes w bytes < limit
+
+pub wide64 : IsWide w64 (2 ^ 64)
+wide64 = record {
+  len = λ n. refl;
+  back = λ bytes len fits. be_bytes_8 bytes _ len fits refl;
+  again = λ n lt. from_be_bytes-to_be_bytes_8 n lt;
+  below = λ bytes fits. omega (arith, fits 0, fits 1, fits 2, fits 3, fits 4, fits 5, fits 6, fits 7);
+}
+
+pub number_length : (w : Width) (limit n : ℕ) → IsWide w limit → length (number w n) ≡ byte_len w
+unfolding number
+number_length w limit n wide = wide.len n
+
+pub bytes_field : (count : ℕ) → IsField (bytes_at count) (λ x. x) (λ x. length x ≡ count)
+bytes_field count = record {
+  takes = λ s x t fits e.
+      let g = guard_ok (ltb (length s.rest) count) s.at (take count s.rest, onward count s) (x, t) e in
+      let long : count ≤ length s.rest = ltb-false _ _ g.0 in
+      let len : length (take count s.rest) ≡ count = omega (arith, length-take count s.rest) in
+      subst (λ (y : List ℕ × Cursor). Takes s y.0 y.1 × (length y.0 ≡ count)) g.1
+      (record { parts = sym (take-append-drop count s.rest); place = omega arith; rest_fits = IsBytes-drop count s.rest fits }, len);
+  again = λ x at rest len.
+      let long : ltb (length (x ++ rest)) count ≡ false = le-ltb _ _ (omega (arith, length-append x rest)) in
+      rw (long, take_at x rest count len, drop_at x rest count len, len) refl;
+}
+
+pub number_field : (w : Width) (limit : ℕ) → IsWide w limit → IsField (number_at w) (number w) (λ n. n < limit)
+unfolding number
+number_field w limit wide = record {
+  takes = λ s n t fits e.
+      let g = guard_ok (ltb (length s.rest) (byte_len w)) s.at (from_be_bytes w (take (byte_len w) s.rest), onward (byte_len w) s) (n, t) e in
+      let long : byte_len w ≤ length s.rest = ltb-false _ _ g.0 in
+      let len : length (take (byte_len w) s.rest) ≡ byte_len w = omega (arith, length-take (byte_len w) s.rest) in
+      let front = wide.back (take (byte_len w) s.rest) len (IsBytes-take (byte_len w) s.rest fits) in
+      let m = from_be_bytes w (take (byte_len w) s.rest) in
+      subst (λ (y : ℕ × Cursor). Takes s (to_be_bytes w y.0) y.1 × (y.0 < limit)) g.1
+      (record { parts = rw front (sym (take-append-drop (byte_len w) s.rest)); place = rw (wide.len m) refl; rest_fits = IsBytes-drop (byte_len w) s.rest fits }, wide.below _ (IsBytes-take (byte_len w) s.rest fits));
+  again = λ n at rest lt.
+      let len = wide.len n in
+      let long : ltb (length (to_be_bytes w n ++ rest)) (byte_len w) ≡ false = le-ltb _ _ (omega (arith, length-append (to_be_bytes w n) rest)) in
+      rw (long, take_at (to_be_bytes w n) rest (byte_len w) len, drop_at (to_be_bytes w n) rest (byte_len w) len, wide.again n lt, len) refl;
+}
+
+both_true : (a b : Bool) → (a && b) ≡ true → (a ≡ true) × (b ≡ true)
+both_true true b e = (refl, e)
+both_true false b e = absurd cc
+
+one_byte : (bytes : List ℕ) → length bytes ≡ 1 → get_or bytes 0 0 < 256 → to_be_bytes w8 (from_be_bytes w8 bytes) ≡ bytes
+one_byte [] len lt = absurd cc
+one_byte (b ∷ []) len lt = let e : b % 256 ≡ b = omega arith in rw e refl
+one_byte (b ∷ c ∷ bs) len lt = absurd (omega arith)
+
+below_256 : (n : ℕ) → n < 2 ^ 8 → from_be_bytes w8 (to_be_bytes w8 n) ≡ n
+below_256 n lt = omega arith
+
+pub wide16 : IsWide w16 (2 ^ 16)
+wide16 = record {
+  len = λ n. refl;
+  back = λ bytes len fits. be_bytes_2 bytes _ len fits refl;
+  again = λ n lt. from_be_bytes-to_be_bytes_2 n lt;
+  below = λ bytes fits. omega (arith, fits 0, fits 1);
+}
+
+pub wide8 : IsWide w8 (2 ^ 8)
+wide8 = record {
+  len = λ n. refl;
+  back = λ bytes len fits. one_byte bytes len (fits 0);
+  again = λ n lt. below_256 n lt;
+  below = λ bytes fits. omega (arith, fits 0);
+}
+
+-- a number from low up to high
+pub ranged_field : (w : Width) (limit low high : ℕ) → high < limit → IsWide w limit → IsField (number_in w low high) (number w) (λ n. (low ≤ n) × (n ≤ high))
+unfolding number_in
+ranged_field w limit low high lt wide =
+    let field = number_field w limit wide in
+    record {
+      takes = λ s n t fits e.
+          let a = bind_ok (number_at w s) (λ v. cond (leb low v.0 && leb v.0 high) (Ok v) (Err s.at)) (n, t) e in
+          let g = allow_ok (leb low a.0.0 && leb a.0.0 high) s.at a.0 (n, t) a.2 in
+          let both = both_true (leb low a.0.0) (leb a.0.0 high) g.0 in
+          subst (λ (y : ℕ × Cursor). Takes s (number w y.0) y.1 × ((low ≤ y.0) × (y.0 ≤ high))) g.1 ((field.takes s a.0.0 a.0.1 fits a.1).0, (leb-true _ _ both.0, leb-true _ _ both.1));
+      again = λ n at rest h.
+          rw (field.again n at rest (omega arith), le-leb _ _ h.0, le-leb _ _ h.1) refl;
+    }
+
+-- a number from low up to below high
+pub within_field : (w : Width) (limit low high : ℕ) → 1 ≤ high → high ≤ limit → IsWide w limit → IsField (number_in w low (high - 1)) (number w) (λ n. (low ≤ n) × (n < high))
+within_field w limit low high some le wide =
+    iff_field _ _ _ _ (λ n h. (h.0, omega (arith, h.1))) (λ n h. (h.0, omega (arith, h.1))) (ranged_field w limit low (high - 1) (omega arith) wide)
+
+-- a number below high
+pub below_field : (w : Width) (limit high : ℕ) → 1 ≤ high → high ≤ limit → IsWide w limit → IsField (number_in w 0 (high - 1)) (number w) (λ n. n < high)
+below_field w limit high some le wide = iff_field _ _ _ _ (λ n h. h.1) (λ n h. (omega arith, h)) (within_field w limit 0 high some le wide)
+
+-- a length of at most `most`, and that many bytes
+pub text16_field : (most : ℕ) → most < 2 ^ 16 → IsField (text16_at most) text16 (λ x. length x ≤ most)
+unfolding text16_at
+text16_field most lt =
+    let field = ranged_field w16 (2 ^ 16) 0 most lt wide16 in
+    record {
+      takes = λ s x t fits e.
+          let a = bind_ok (number_in w16 0 most s) (λ len. bytes_at len.0 len.1) (x, t) e in
+          let p = field.takes s a.0.0 a.0.1 fits a.1 in
+          let q = (bytes_field a.0.0).takes a.0.1 x t p.0.rest_fits a.2 in
+          let both = Takes-then s (number w16 a.0.0) a.0.1 x t p.0 q.0 in
+          (subst (λ (k : ℕ). Takes s (number w16 k ++ x) t) (sym q.1) both, omega (arith, q.1, p.1.1));
+      again = λ x at rest h.
+          let regrouped : (number w16 (length x) ++ x) ++ rest ≡ number w16 (length x) ++ (x ++ rest) = append_assoc (number w16 (length x)) x rest in
+          let place : (at + length (number w16 (length x))) + length x ≡ at + length (number w16 (length x) ++ x) = omega (arith, length-append (number w16 (length x)) x) in
+          ap (λ (r : List ℕ). text16_at most (cursor at r)) regrouped
+          ∙ rw (field.again (length x) at (x ++ rest) (omega arith, h), (bytes_field (length x)).again x (at + length (number w16 (length x))) rest refl) (ap (λ (k : ℕ). Ok (x, cursor k rest)) place);
+    }
+
+-- n times the same
+pub repeat_takes : {A : Type 0} (f : Cursor → Reads A) (tf : A → List ℕ) (P : A → Type 0) → IsField f tf P
+    → (n : ℕ) (s : Cursor) (xs : List A) (t : Cursor) → IsBytes s.rest → repeat_at f n s ≡ Ok (xs, t) → Takes s (flat_map tf xs) t × (length xs ≡ n) × AllByRecursion P xs
+unfolding repeat_at
+repeat_takes {A} f tf P hf zero s xs t fits e =
+    subst (λ (y : List A × Cursor). Takes s (flat_map tf y.0) y.1 × (length y.0 ≡ 0) × AllByRecursion P y.0) (ok_is ([], s) (xs, t) e) (record { parts = refl; place = omega arith; rest_fits = fits }, refl, tt)
+repeat_takes {A} f tf P hf (suc n) s xs t fits e =
+    let a = bind_ok (f s) (λ first. repeat_at f n first.1 >>= λ others. Ok (first.0 ∷ others.0, others.1)) (xs, t) e in
+    let b = bind_ok (repeat_at f n a.0.1) (λ others. Ok (a.0.0 ∷ others.0, others.1)) (xs, t) a.2 in
+    let first = hf.takes s a.0.0 a.0.1 fits a.1 in
+    let second = repeat_takes f tf P hf n a.0.1 b.0.0 b.0.1 first.0.rest_fits b.1 in
+    let both = Takes-then s (tf a.0.0) a.0.1 (flat_map tf b.0.0) b.0.1 first.0 second.0 in
+    subst (λ (y : List A × Cursor). Takes s (flat_map tf y.0) y.1 × (length y.0 ≡ suc n) × AllByRecursion P y.0) (ok_is (a.0.0 ∷ b.0.0, b.0.1) (xs, t) b.2) (rw flat_map-cons both, ap suc second.1, (first.1, second.2))
+
+pub repeat_again : {A : Type 0} (f : Cursor → Reads A) (tf : A → List ℕ) (P : A → Type 0) → IsField f tf P
+    → (xs : List A) (at : ℕ) (rest : List ℕ) → AllByRecursion P xs → repeat_at f (length xs) (cursor at (flat_map tf xs ++ rest)) ≡ Ok (xs, cursor (at + length (flat_map tf xs)) rest)
+unfolding repeat_at
+repeat_again f tf P hf [] at rest fits = rw add-zero refl
+repeat_again f tf P hf (x ∷ xs) at rest fits =
+    let regrouped : flat_map tf (x ∷ xs) ++ rest ≡ tf x ++ (flat_map tf xs ++ rest) = ap (λ (r : List ℕ). r ++ rest) (flat_map-cons tf x xs) ∙ append_assoc (tf x) (flat_map tf xs) rest in
+    let place : (at + length (tf x)) + length (flat_map tf xs) ≡ at + length (flat_map tf (x ∷ xs)) = omega (arith, length-append (tf x) (flat_map tf xs), ap length (flat_map-cons tf x xs)) in
+    ap (λ (r : List ℕ). repeat_at f (suc (length xs)) (cursor at r)) regrouped
+    ∙ rw (hf.again x at (flat_map tf xs ++ rest) fits.0, repeat_again f tf P hf xs (at + length (tf x)) rest fits.1) (ap (λ (k : ℕ). Ok (x ∷ xs, cursor k rest)) place)
+
+-- a count of at most `most`, and that many
+pub list16_field : {A : Type 0} (most : ℕ) → most < 2 ^ 16 → (f : Cursor → Reads A) (tf : A → List ℕ) (P : A → Type 0) → IsField f tf P → IsField (list16_at most f) (list16 tf) (λ xs. (length xs ≤ most) × AllByRecursion P xs)
+unfolding list16_at
+list16_field {A} most lt f tf P hf =
+    let field = ranged_field w16 (2 ^ 16) 0 most lt wide16 in
+    record {
+      takes = λ s xs t fits e.
+          let a = bind_ok (number_in w16 0 most s) (λ n. repeat_at f n.0 n.1) (xs, t) e in
+          let p = field.takes s a.0.0 a.0.1 fits a.1 in
+          let q = repeat_takes f tf P hf a.0.0 a.0.1 xs t p.0.rest_fits a.2 in
+          let both = Takes-then s (number w16 a.0.0) a.0.1 (flat_map tf xs) t p.0 q.0 in
+          (subst (λ (k : ℕ). Takes s (number w16 k ++ flat_map tf xs) t) (sym q.1) both, (omega (arith, q.1, p.1.1), q.2));
+      again = λ xs at rest h.
+          let count = number w16 (length xs) in
+          let regrouped : (count ++ flat_map tf xs) ++ rest ≡ count ++ (flat_map tf xs ++ rest) = append_assoc count (flat_map tf xs) rest in
+          let place : (at + length count) + length (flat_map tf xs) ≡ at + length (count ++ flat_map tf xs) = omega (arith, length-append count (flat_map tf xs)) in
+          ap (λ (r : List ℕ). list16_at most f (cursor at r)) regrouped
+          ∙ rw (field.again (length xs) at (flat_map tf xs ++ rest) (omega arith, h.0), repeat_again f tf P hf xs (at + length count) rest h.1) (ap (λ (k : ℕ). Ok (xs, cursor k rest)) place);
+    }

@@ -1,0 +1,5 @@
+pub mod Fields
+pub mod Injective
+pub mod Messages
+pub mod OnLiterals
+mod Malformed

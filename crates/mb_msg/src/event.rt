@@ -1,0 +1,72 @@
+//! What a host is given, and what it answers.
+
+use crate::parts::Request;
+use mb_base::{Client, Host, Items, Pos, Seq, View};
+
+/// What happens to a host.
+#[derive(Debug, PartialEq, Drop)]
+pub enum Event {
+    /// These bytes came.
+    Given(Items<u8>),
+}
+
+/// What became of an event: the first that fits, in the order of the checks.
+#[derive(Clone, Copy, Debug, PartialEq, Eq)]
+pub enum Outcome {
+    /// The bytes are no message. `at` is the offset of the first field that is short or has a value that isn't allowed.
+    Malformed { at: usize },
+    /// A stamped message whose certificate does not verify.
+    BadUi,
+    /// The counter is below the next one that is expected of the sender.
+    Stale { next: u64 },
+    /// The counter is above the next one that is expected of the sender.
+    Ahead { next: u64 },
+    /// A vote of a view above the host's, which is told.
+    LaterView { view: View },
+    /// A vote at a position beyond the window above the stable position, which is told.
+    BeyondWindow { low: Pos },
+    /// A vote without its request, at a position that isn't executed. The host's view and last executed position are told.
+    NeedBody { view: View, exec: Pos },
+    /// A request whose tag does not verify.
+    BadTag,
+    /// A request numbered below the client's last executed one, which is told.
+    Old { last: Seq },
+    /// The client's last executed request. The stored reply is sent again.
+    Again,
+    /// Nothing to do.
+    Idle,
+    /// All else.
+    Took,
+}
+
+/// To whom a message is sent.
+#[derive(Clone, Copy, Debug, PartialEq, Eq)]
+pub enum To {
+    /// Each other host.
+    All,
+    Host(Host),
+    Client(Client),
+}
+
+/// A message that is sent, as its bytes.
+#[derive(Debug, PartialEq, Drop)]
+pub struct Sent {
+    pub to: To,
+    pub bytes: Items<u8>,
+}
+
+/// A request at its place in the one list. It is fresh where its number was above its client's last one, and else it changed nothing.
+#[derive(Debug, PartialEq, Drop)]
+pub struct Slot {
+    pub pos: Pos,
+    pub request: Request,
+    pub fresh: bool,
+}
+
+/// What one event brought about at a host: messages in the order in which they were made, and slots in the order in which they were executed.
+#[derive(Debug, PartialEq, Drop)]
+pub struct Step {
+    pub outcome: Outcome,
+    pub sent: Items<Sent>,
+    pub executed: Items<Slot>,
+}

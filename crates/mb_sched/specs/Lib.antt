@@ -1,0 +1,10 @@
+pub mod Words
+pub mod Lines
+pub mod EventLines
+pub mod Headers
+pub mod Schedules
+pub mod Limits
+pub mod ScheduleText
+pub mod Forms
+pub mod Printing
+pub mod Report

@@ -1,0 +1,86 @@
+-- The text of a report.
+use Rattle.std.specs.Prelude.{ℕ, Bool, true, false, List, [], ◌∷◌, ◌++◌, length, map, codes, Option, Some, None}
+use Rattle.std.specs.List.{flat_map}
+use Rattle.std.specs.Fmt.{decimal}
+use Rattle.mb_base.specs.Shapes.{Bytes}
+use Rattle.mb_msg.specs.declared.event.Slot.{Slot}
+use Rattle.mb_msg.specs.declared.parts.Phase.{Phase}
+use Rattle.mb_msg.specs.declared.parts.Phase.TheVariants.{Changing, Entered, Open}
+use Rattle.mb_sched.specs.declared.report.ClientLine.{ClientLine}
+use Rattle.mb_sched.specs.declared.report.HostLine.{HostLine}
+use Rattle.mb_sched.specs.declared.report.HostState.{HostState}
+use Rattle.mb_sched.specs.declared.report.LastResult.{LastResult}
+use Rattle.mb_sched.specs.declared.report.RefusedLine.{RefusedLine}
+use Rattle.mb_sched.specs.declared.report.Report.{Report}
+use Rattle.mb_sched.specs.declared.report.Word.{Word}
+use Rattle.mb_sched.specs.declared.report.Word.TheVariants.{Malformed, BadUi, BadTag, Stale, Ahead, NeedBody, LaterView, BeyondWindow, Old}
+use Rattle.mb_sched.specs.Printing.{line_of, hex_word}
+
+-- client 3 is named c3
+abbrev pub client_name : ℕ → Bytes
+client_name client = codes "c" ++ decimal client
+
+-- host 2 is named h2
+abbrev pub host_name : ℕ → Bytes
+host_name host = codes "h" ++ decimal host
+
+-- whether a slot's request changed the state
+abbrev pub fresh_name : Bool → Bytes
+fresh_name true = codes "fresh"
+fresh_name false = codes "again"
+
+-- an outcome in lower case
+abbrev pub word_name : Word → Bytes
+word_name Malformed = codes "malformed"
+word_name BadUi = codes "badui"
+word_name BadTag = codes "badtag"
+word_name Stale = codes "stale"
+word_name Ahead = codes "ahead"
+word_name NeedBody = codes "needbody"
+word_name LaterView = codes "laterview"
+word_name BeyondWindow = codes "beyondwindow"
+word_name Old = codes "old"
+
+-- a phase in lower case
+abbrev pub phase_name : Phase → Bytes
+phase_name Changing = codes "changing"
+phase_name Entered = codes "entered"
+phase_name Open = codes "open"
+
+-- a slot: its position, the client, the number of the request, and the operation
+abbrev pub slot_line : Slot → Bytes
+slot_line s = line_of (codes "slot" ∷ decimal s.pos ∷ client_name s.request.client ∷ decimal s.request.seq ∷ fresh_name s.fresh ∷ hex_word s.request.op ∷ [])
+
+-- a refused event: its number, the outcome, and the numbers of the outcome
+abbrev pub refused_line : RefusedLine → Bytes
+refused_line r = line_of (codes "refused" ∷ decimal r.event ∷ word_name r.name ∷ map decimal r.numbers)
+
+-- where a host stands; a faulty one has no state
+abbrev pub state_words : Option HostState → List Bytes
+state_words None = codes "faulty" ∷ []
+state_words (Some s) = codes "view" ∷ decimal s.view ∷ phase_name s.phase ∷ codes "exec" ∷ decimal s.exec ∷ codes "low" ∷ decimal s.low ∷ codes "log" ∷ decimal s.log ∷ codes "longest" ∷ decimal s.longest ∷ []
+
+-- a host, and where it stands
+abbrev pub host_line : HostLine → Bytes
+host_line h = line_of (codes "host" ∷ host_name h.host ∷ state_words h.state)
+
+-- the last accepted result of a client, if there is one: the number of the request, its position, and the result
+abbrev pub result_line : ℕ → Option LastResult → Bytes
+result_line client None = []
+result_line client (Some r) = line_of (codes "result" ∷ client_name client ∷ decimal r.seq ∷ decimal r.pos ∷ hex_word r.result ∷ [])
+
+-- a client: how many requests it asked, how many results it accepted, and the last of these on a line of its own
+abbrev pub client_lines : ClientLine → Bytes
+client_lines c = line_of (codes "client" ∷ client_name c.client ∷ codes "asked" ∷ decimal c.asked ∷ codes "accepted" ∷ decimal c.accepted ∷ []) ++ result_line c.client c.last
+
+-- a report: its head, the slots, the refused events, the hosts, the clients, and its end
+unfoldable pub report_text : Report → Bytes
+report_text r =
+    line_of (codes "minbft" ∷ codes "report" ∷ codes "1" ∷ [])
+    ++ (line_of (codes "events" ∷ decimal r.events ∷ codes "messages" ∷ decimal r.messages ∷ [])
+    ++ (line_of (codes "line" ∷ decimal (length r.line) ∷ [])
+    ++ (flat_map slot_line r.line
+    ++ (flat_map refused_line r.refused
+    ++ (flat_map host_line r.hosts
+    ++ (flat_map client_lines r.clients
+    ++ line_of (codes "end" ∷ [])))))))

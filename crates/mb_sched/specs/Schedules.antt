@@ -1,0 +1,84 @@
+-- What a whole text says: a schedule, or its first line that is bad or unbuilt.
+use Rattle.std.specs.Prelude.{◌≡◌, ℕ, ◌+◌, ◌*◌, ◌≤◌, ◌<◌, Bool, false, if◌then◌else◌, List, [], ◌∷◌, length, drop, replicate, Result, Ok, Err}
+use Rattle.mb_base.specs.Shapes.{Bytes, max_faults, interval, client_count}
+use Rattle.mb_sched.specs.declared.schedule.BadText.{BadText}
+use Rattle.mb_sched.specs.declared.schedule.BadText.TheVariants as text
+use Rattle.mb_sched.specs.declared.schedule.Schedule.{Schedule}
+use Rattle.mb_sched.specs.declared.schedule.WorldEvent.{WorldEvent}
+use Rattle.mb_sched.specs.Words.{words}
+use Rattle.mb_sched.specs.Lines.{lines, is_ended, numbered, Fault, Bad, Unbuilt, ◌>>=◌}
+use Rattle.mb_sched.specs.Headers.{HeaderContents, header_of}
+use Rattle.mb_sched.specs.EventLines.{event_line}
+
+-- the most bytes that a text may have
+abbrev pub max_text : ℕ
+max_text = 16777216
+
+-- the number of the line of an event; events count from 1
+abbrev pub line_number : ℕ → ℕ
+line_number event = event + 6
+
+-- the events of lines, the first of which has the number n; where the text isn't ended, one more line is bad
+unfoldable pub events_from : ℕ → ℕ → Bool → ℕ → List Bytes → Result (List WorldEvent) Fault
+events_from hosts clients ended n [] = if ended then Ok [] else Err (Bad n)
+events_from hosts clients ended n (line ∷ more) = do
+  event ← numbered n (event_line hosts clients (words line))
+  events ← events_from hosts clients ended (n + 1) more
+  Ok (event ∷ events)
+
+-- a schedule as its text says it, with its shape by the three numbers
+pub record Contents : Type 0 where
+  pub f : ℕ
+  pub k : ℕ
+  pub clients : ℕ
+  pub secret : Bytes
+  pub faulty_hosts : List Bool
+  pub faulty_clients : List Bool
+  pub events : List WorldEvent
+
+-- a header and events with nobody faulty
+abbrev pub with_events : HeaderContents → List WorldEvent → Contents
+with_events header events = record {
+  f = header.f;
+  k = header.k;
+  clients = header.clients;
+  secret = header.secret;
+  faulty_hosts = replicate (2 * header.f + 1) false;
+  faulty_clients = replicate header.clients false;
+  events = events;
+}
+
+-- the schedule of a text, or its first line that is bad or unbuilt
+unfoldable pub schedule_of : Bytes → Result Contents Fault
+schedule_of text = do
+  header ← header_of (lines text)
+  events ← events_from (2 * header.f + 1) header.clients (is_ended text) (line_number 1) (drop 6 (lines text))
+  Ok (with_events header events)
+
+-- what a schedule's text has to say
+abbrev pub contents : Schedule → Contents
+contents s = record {
+  f = max_faults s.shape;
+  k = interval s.shape;
+  clients = client_count s.shape;
+  secret = s.secret;
+  faulty_hosts = s.faulty_hosts;
+  faulty_clients = s.faulty_clients;
+  events = s.events;
+}
+
+-- a text is that of a schedule
+abbrev pub IsScheduleText : Bytes → Schedule → Type 0
+IsScheduleText text s = (length text ≤ max_text) × (schedule_of text ≡ Ok (contents s))
+
+-- what a text's fault is called
+abbrev pub IsFault : BadText → Bytes → Type 0
+IsFault text.TooLong bytes = max_text < length bytes
+IsFault (text.BadLine number) bytes = (length bytes ≤ max_text) × (schedule_of bytes ≡ Err (Bad number))
+IsFault (text.Unbuilt number) bytes = (length bytes ≤ max_text) × (schedule_of bytes ≡ Err (Unbuilt number))
+IsFault text.NoMemory bytes = Unit {0}
+
+-- parsing answers the text's schedule or its first fault, and says nothing only where memory runs out
+abbrev pub Parses : Result Schedule BadText → Bytes → Type 0
+Parses (Ok s) bytes = IsScheduleText bytes s
+Parses (Err e) bytes = IsFault e bytes

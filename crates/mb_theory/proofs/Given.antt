@@ -1,0 +1,158 @@
+-- A message that is given to a host keeps the invariant.
+use Rattle.std.proofs.Common.{◌≡◌, ℕ, ◌+◌, ◌<◌, ◌∷◌, length, refl, sym, ap, subst, ◌∙◌, inl, inr, arith, Option, Some, None, Result, Ok, Err}
+use Rattle.std.proofs.lemmas.Bool.{cases_Bool}
+use Rattle.mb_base.specs.declared.names.Ui.{Ui}
+use Rattle.mb_base.specs.Shapes.{Bytes, primary, host_count}
+use Rattle.mb_msg.specs.declared.parts.Request.{Request}
+use Rattle.mb_msg.specs.declared.event.Event.TheVariants as event
+use Rattle.mb_msg.specs.declared.event.Outcome.{Outcome}
+use Rattle.mb_msg.specs.declared.event.Outcome.TheVariants as outcome
+use Rattle.mb_msg.specs.declared.message.Prepare.{Prepare}
+use Rattle.mb_msg.specs.declared.message.Commit.{Commit}
+use Rattle.mb_msg.specs.declared.message.Reply.{Reply}
+use Rattle.mb_msg.specs.declared.message.Message.{Message}
+use Rattle.mb_msg.specs.declared.message.Message.TheVariants as message
+use Rattle.mb_msg.specs.declared.message.Stamped.{Stamped as StampedMessage}
+use Rattle.mb_msg.specs.declared.message.Stamped.TheVariants as stamped
+use Rattle.mb_msg.specs.Bares as bare
+use Rattle.mb_msg.specs.Bares.{Bare, request_digest, ui_of}
+use Rattle.mb_msg.specs.Reading.{message_of}
+use Rattle.mb_msg.specs.Spelling.{spelling}
+use Rattle.mb_msg.proofs.Messages.{message_again}
+use Rattle.mb_model.specs.History.{Accepted, History, said, taken_of, last_counter}
+use Rattle.mb_model.specs.Steps.{Progress, begin, write}
+use Rattle.mb_model.specs.Checks.{stamped_refusal, request_refusal}
+use Rattle.mb_model.specs.Rules.{enough}
+use Rattle.mb_model.specs.Transition.{named_prepare, offer_prepare, casts_vote, accept, give_stamped, give_request, give, with_rules, on_message, on_bytes, transition}
+use Rattle.mb_model.proofs.Options.{option_cases}
+use Rattle.mb_model.proofs.Refusals.{passes_stamped}
+use Rattle.mb_theory.proofs.Lists.{In}
+use Rattle.mb_theory.proofs.Counters.{at_counter, at_bound}
+use Rattle.mb_theory.proofs.Legal.{Stamps, PrepareMade, CommitMade, IsMade, InTurn}
+use Rattle.mb_theory.proofs.Growth.{prepare_grows, commit_grows}
+use Rattle.mb_theory.proofs.Searches.{own_taken}
+use Rattle.mb_theory.proofs.ReadBack.{shape_fits, reply_read}
+use Rattle.mb_theory.proofs.Invariant.{at_same, Run, entry_grows}
+use Rattle.mb_theory.proofs.Part.{Before, me, now, LegalNow, SpellsMadeNow, Part, legal_now, writes, sends}
+use Rattle.mb_theory.proofs.Rules.{reply_made, runs}
+
+module _ {S : Type 0} (run : Run S) (w : Before run) where
+  -- ---- what is accepted
+
+  -- a message that was stamped and is not refused is another host's next one
+  in_turn : (d : History) (m : StampedMessage) (b : Bare) → LegalNow run w d → at_counter (now run w d (ui_of m).host) (ui_of m).counter ≡ Some b → stamped_refusal (me run w) d m ≡ None → InTurn w.host (ui_of m) d
+  in_turn d m b l issued e =
+      let u : Ui = ui_of m in
+      let next : u.counter ≡ last_counter d u.host + 1 = (passes_stamped (me run w) d m e).0.next in
+      record {
+        next = next;
+        other = λ own.
+            let bound = (at_bound (now run w d u.host) u.counter b issued).1 in
+            let mine : now run w d u.host ≡ said d = ap (now run w d) own ∙ ap said (at_same w.histories w.host d) in
+            let taken : taken_of d u.host ≡ said d = ap (taken_of d) own ∙ own_taken (me run w) (now run w d) w.requests d l in
+            omega (arith, next, bound, ap length mine, ap length taken);
+      }
+
+  accepts_prepare : (x : Progress) (m : Prepare) → Part run w x → PrepareMade run.schedule.shape (now run w x.history) w.requests m → stamped_refusal (me run w) x.history (stamped.Prepare m) ≡ None
+      → Part run w (write (Accepted (message.Prepare m)) x)
+  accepts_prepare x m i made e =
+      let u = now run w x.history in
+      let issued : at_counter (u m.ui.host) m.ui.counter ≡ Some (bare.Prepare 0 m.pos (request_digest made.request)) =
+      subst (λ (g : ℕ). at_counter (u g) m.ui.counter ≡ Some (bare.Prepare 0 m.pos (request_digest made.request))) (sym made.leads) made.orders.issued in
+      let turn = in_turn x.history (stamped.Prepare m) _ (legal_now run w x i) issued e in
+      let grows = entry_grows run w.requests w.histories w.host x.history (Accepted (message.Prepare m)) in
+      writes run w x (Accepted (message.Prepare m)) refl i (prepare_grows run.schedule.shape u w.requests (now run w (Accepted (message.Prepare m) ∷ x.history)) w.requests grows m made, turn)
+
+  accepts_commit : (x : Progress) (m : Commit) → Part run w x → CommitMade run.schedule.shape (now run w x.history) w.requests m → stamped_refusal (me run w) x.history (stamped.Commit m) ≡ None
+      → Part run w (write (Accepted (message.Commit m)) x)
+  accepts_commit x m i made e =
+      let turn = in_turn x.history (stamped.Commit m) _ (legal_now run w x i) made.issued e in
+      let grows = entry_grows run w.requests w.histories w.host x.history (Accepted (message.Commit m)) in
+      writes run w x (Accepted (message.Commit m)) refl i (commit_grows run.schedule.shape (now run w x.history) w.requests (now run w (Accepted (message.Commit m) ∷ x.history)) w.requests grows m made, turn)
+
+  -- ---- each kind
+
+  -- the PREPARE that a COMMIT names was made too
+  named_made : (u : Stamps) (m : Commit) → CommitMade run.schedule.shape u w.requests m → PrepareMade run.schedule.shape u w.requests (named_prepare (me run w) m)
+  named_made u m x = record {
+    request = x.request;
+    body = x.body;
+    orders = x.orders;
+    in_view = x.in_view;
+    leads = ap (primary run.schedule.shape) x.in_view;
+    fits = record { view = x.fits.view; pos = x.fits.pos; body = x.fits.body; ui = record { host = primary_below m.view; counter = x.fits.counter; cert = x.fits.cert } };
+  } where
+    primary_below : (v : ℕ) → primary run.schedule.shape v < host_count run.schedule.shape
+    primary_below v = omega arith
+
+  offers : (x : Progress) (m : Prepare) → Part run w x → PrepareMade run.schedule.shape (now run w x.history) w.requests m → Part run w (offer_prepare (me run w) m x)
+  unfolding offer_prepare
+  offers x m i made = elim (option_cases (stamped_refusal (me run w) x.history (stamped.Prepare m))) [
+    | inl none ↦ rw none (accepts_prepare x m i made none)
+    | inr (o, some) ↦ rw some i
+  ]
+
+  -- a COMMIT, and the PREPARE that it names where it casts a vote
+  accepts_both : (x : Progress) (m : Commit) → Part run w x → CommitMade run.schedule.shape (now run w x.history) w.requests m → stamped_refusal (me run w) x.history (stamped.Commit m) ≡ None → Part run w (accept (me run w) (stamped.Commit m) x)
+  accepts_both x m i made e =
+      let y : Progress = write (Accepted (message.Commit m)) x in
+      let took : Part run w y = accepts_commit x m i made e in
+      let grows = entry_grows run w.requests w.histories w.host x.history (Accepted (message.Commit m)) in
+      let still = commit_grows run.schedule.shape (now run w x.history) w.requests (now run w y.history) w.requests grows m made in
+      elim (cases_Bool (casts_vote (me run w) x.history m)) [
+        | inl votes ↦ rw votes (offers y (named_prepare (me run w) m) took (named_made (now run w y.history) m still))
+        | inr other ↦ rw other took
+      ]
+
+  gives_prepare : (x : Progress) (m : Prepare) → Part run w x → PrepareMade run.schedule.shape (now run w x.history) w.requests m → Part run w (give (me run w) (message.Prepare m) x).left
+  unfolding give_stamped
+  gives_prepare x m i made = elim (option_cases (stamped_refusal (me run w) x.history (stamped.Prepare m))) [
+    | inl none ↦ rw none (accepts_prepare x m i made none)
+    | inr (o, some) ↦ rw some i
+  ]
+
+  gives_commit : (x : Progress) (m : Commit) → Part run w x → CommitMade run.schedule.shape (now run w x.history) w.requests m → Part run w (give (me run w) (message.Commit m) x).left
+  unfolding give_stamped
+  gives_commit x m i made = elim (option_cases (stamped_refusal (me run w) x.history (stamped.Commit m))) [
+    | inl none ↦ rw none (accepts_both x m i made none)
+    | inr (o, some) ↦ rw some i
+  ]
+
+  gives_request : (x : Progress) (r : Request) → Part run w x → In w.requests r → Part run w (give (me run w) (message.Request r) x).left
+  unfolding give_request
+  gives_request x r i there = go (request_refusal (me run w) x.history r) refl where
+    go : (o : Option Outcome) → request_refusal (me run w) x.history r ≡ o → Part run w (give (me run w) (message.Request r) x).left
+    go None e = rw e (writes run w x (Accepted (message.Request r)) refl i there)
+    go (Some outcome.Again) e = rw e (sends run w x _ i (reply_made run w x.history r.client _))
+    go (Some o) e = rw e i
+
+  gives : (x : Progress) (m : Message) → Part run w x → IsMade run.schedule.shape (now run w x.history) w.requests m → Part run w (give (me run w) m x).left
+  gives x (message.Request r) i made = gives_request x r i made
+  gives x (message.Prepare m) i made = gives_prepare x m i made
+  gives x (message.Commit m) i made = gives_commit x m i made
+  gives x (message.Reply m) i made = i
+
+  -- ---- the whole step
+
+  ruled : (o : Outcome) (x : Progress) → Part run w x → Part run w (with_rules (me run w) o x).left
+  ruled outcome.Took x i = runs run w enough x i
+  ruled o x i = i
+
+  answers : (x : Progress) (m : Message) → Part run w x → IsMade run.schedule.shape (now run w x.history) w.requests m → Part run w (on_message (me run w) m x).left
+  answers x m i made = ruled (give (me run w) m x).outcome (give (me run w) m x).left (gives x m i made)
+
+  -- a REPLY is passed over
+  idles : (x : Progress) (m : Reply) (o : Result Message ℕ) → Part run w x → message_of run.schedule.shape (spelling (message.Reply m)) ≡ o → Part run w (on_bytes (me run w) o x).left
+  idles x m (Err at) i e = i
+  idles x m (Ok y) i e = let r = reply_read run.schedule.shape m y e in subst (λ (z : Message). Part run w (on_bytes (me run w) (Ok z) x).left) r.1 i
+
+  reads : (x : Progress) (m : Message) → Part run w x → IsMade run.schedule.shape (now run w x.history) w.requests m → Part run w (on_bytes (me run w) (message_of run.schedule.shape (spelling m)) x).left
+  reads x (message.Request r) i made = rw (message_again run.schedule.shape (shape_fits run.schedule.shape) (message.Request r) (w.fitting r made)) (answers x (message.Request r) i made)
+  reads x (message.Prepare m) i made = rw (message_again run.schedule.shape (shape_fits run.schedule.shape) (message.Prepare m) made.fits) (answers x (message.Prepare m) i made)
+  reads x (message.Commit m) i made = rw (message_again run.schedule.shape (shape_fits run.schedule.shape) (message.Commit m) made.fits) (answers x (message.Commit m) i made)
+  reads x (message.Reply m) i made = idles x m _ i refl
+
+  -- bytes of the pool that are given to this host
+  pub transits : (d : History) (bytes : Bytes) → Part run w (begin d) → SpellsMadeNow run w d bytes → Part run w (transition (me run w) d (event.Given bytes)).left
+  unfolding transition
+  transits d bytes i k = subst (λ (b : Bytes). Part run w (on_bytes (me run w) (message_of run.schedule.shape b) (begin d)).left) (sym k.spelled) (reads (begin d) k.says i k.made)

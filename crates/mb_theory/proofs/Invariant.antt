@@ -1,0 +1,179 @@
+-- The invariant of the world, and that a justified entry keeps it.
+use Rattle.std.proofs.Common.{◌≡◌, ℕ, ◌+◌, ◌≤◌, ◌<◌, Bool, true, false, List, [], ◌∷◌, ◌++◌, length, refl, sym, ap, subst, ◌∙◌, inl, inr, ◌⊎◌, arith, eqb, Some, length-append}
+use Rattle.std.specs.Prelude.{slice_get, take}
+use Rattle.std.specs.List.{AllByRecursion}
+use Rattle.std.proofs.Math.Path.{fun_ext}
+use Rattle.std.proofs.lemmas.Bool.{cases_Bool, eqb-true, eq-eqb}
+use Rattle.std.proofs.lemmas.List.{take-append-le, append-nil}
+use Rattle.std.proofs.lemmas.Option.{slice_get_within}
+use Rattle.mb_base.specs.Shapes.{Bytes, host_count, client_count}
+use Rattle.mb_msg.specs.declared.parts.Request.{Request}
+use Rattle.mb_msg.specs.declared.event.Slot.{Slot}
+use Rattle.mb_model.specs.Service.{Machine, Served, is_fresh, served_all, start}
+use Rattle.mb_model.specs.History.{Entry, Accepted, Stamped, Executed, History, Self, said, exec_of}
+use Rattle.mb_model.specs.History as history
+use Rattle.mb_model.specs.Slots.{state_of}
+use Rattle.mb_sched.specs.declared.schedule.Schedule.{Schedule}
+use Rattle.mb_theory.specs.World.{update, self_of}
+use Rattle.mb_theory.proofs.Lists.{In, get_more, all_append, IsLonger}
+use Rattle.mb_theory.proofs.Counters.{IsOnce, same_once, once_more}
+use Rattle.mb_theory.proofs.Legal.{Stamps, Orders, Justified, Legal, SpellsMade}
+use Rattle.mb_theory.proofs.Growth.{Grows, orders_grows, pool_grows, legal_grows}
+
+-- ---- one host of all
+
+pub at_same : {A : Type 0} (f : ℕ → A) (h : ℕ) (x : A) → update f h x h ≡ x
+at_same f h x = rw (eq-eqb h h refl) refl
+
+-- what holds of each host holds after a change of one
+pub update_keeps : {A : Type 0} (P : ℕ → A → Type 0) (f : ℕ → A) (h : ℕ) (x y : A) → ((g : ℕ) → P g (update f h x g)) → P h y → (g : ℕ) → P g (update f h y g)
+update_keeps P f h x y old new g = elim (cases_Bool (eqb g h)) [
+  | inl same ↦ rw same (subst (λ (i : ℕ). P i y) (sym (eqb-true g h same)) new)
+  | inr other ↦ let o : P g (f g) = rw other at (old g) in rw other o
+]
+
+pub update_begins : {A : Type 0} (f : ℕ → A) (h : ℕ) → update f h (f h) ≡ f
+update_begins f h = fun_ext (λ g. elim (cases_Bool (eqb g h)) as (λ _. update f h (f h) g ≡ f g) [
+  | inl same ↦ rw same (ap f (sym (eqb-true g h same)))
+  | inr other ↦ rw other refl
+])
+
+abbrev pub stamps_of : (ℕ → History) → Stamps
+stamps_of f = λ g. said (f g)
+
+-- ---- the invariant
+
+-- A schedule over a service.
+pub record Run (S : Type 0) : Type 0 where
+  pub machine : Machine S
+  pub initial : S
+  pub schedule : Schedule
+
+module _ {S : Type 0} (run : Run S) where
+  abbrev pub self : ℕ → Self S
+  self h = self_of run.machine run.initial run.schedule h
+
+  -- the sequential service after these slots
+  abbrev pub after : List Slot → Served S
+  after slots = served_all run.machine (start run.machine run.initial (client_count run.schedule.shape)) slots
+
+  -- A slot of the line was executed by a host, and its request ordered by the primary; its place and its mark are right.
+  pub record InLine (f : ℕ → History) (requests : List Request) (line : List Slot) (q : ℕ) (slot : Slot) : Type 0 where
+    pub by : ℕ
+    pub is_host : by < host_count run.schedule.shape
+    pub there : In (f by) (Executed slot)
+    pub counter : ℕ
+    pub orders : Orders run.schedule.shape (stamps_of f) requests slot.pos counter slot.request
+    pub place : slot.pos ≡ q + 1
+    pub fresh : slot.fresh ≡ is_fresh (after (take q line)) slot.request
+
+  -- A host has executed a beginning of the line, and has the state after it.
+  pub record Follows (line : List Slot) (h : ℕ) (d : History) : Type 0 where
+    pub short : exec_of d ≤ length line
+    pub state : state_of (self h) d ≡ after (take (exec_of d) line)
+    pub slots : (slot : Slot) → In d (Executed slot) → (q : ℕ) × (slot.pos ≡ q + 1) × (slice_get line q ≡ Some slot)
+
+  -- All messages were made, all histories are legal, and line and hosts agree.
+  pub record Invariant (requests : List Request) (f : ℕ → History) (pool : List Bytes) (line : List Slot) : Type 0 where
+    pub made : AllByRecursion (SpellsMade run.schedule.shape (stamps_of f) requests) pool
+    pub legal : (g : ℕ) → Legal (self g) (stamps_of f) requests (f g)
+    pub in_line : (q : ℕ) (slot : Slot) → slice_get line q ≡ Some slot → InLine f requests line q slot
+    pub hosts : (g : ℕ) → Follows line g (f g)
+
+  pub follows_longer : (line line' : List Slot) (h : ℕ) (d : History) → IsLonger line line' → Follows line h d → Follows line' h d
+  follows_longer line line' h d o x = subst (λ (l : List Slot). Follows l h d) o.is (record {
+    short = omega (arith, x.short, length-append line o.rest);
+    state = x.state ∙ ap after (sym (take-append-le (exec_of d) line o.rest x.short));
+    slots = λ slot i. let y = x.slots slot i in (y.0, y.1, get_more line o.rest y.0 slot y.2);
+  })
+
+  in_line_longer : (f : ℕ → History) (requests : List Request) (line line' : List Slot) (q : ℕ) (slot : Slot) → IsLonger line line' → q < length line → InLine f requests line q slot → InLine f requests line' q slot
+  in_line_longer f requests line line' q slot o lt x = subst (λ (l : List Slot). InLine f requests l q slot) o.is (record {
+    by = x.by;
+    is_host = x.is_host;
+    there = x.there;
+    counter = x.counter;
+    orders = x.orders;
+    place = x.place;
+    fresh = x.fresh ∙ ap (λ (l : List Slot). is_fresh (after l) slot.request) (sym (take-append-le q line o.rest (omega arith)));
+  })
+
+  pub in_line_grows : (f f' : ℕ → History) (requests requests' : List Request) (line : List Slot) (q : ℕ) (slot : Slot)
+      → Grows (stamps_of f) requests (stamps_of f') requests' → ((g : ℕ) (x : Entry) → In (f g) x → In (f' g) x) → InLine f requests line q slot → InLine f' requests' line q slot
+  in_line_grows f f' requests requests' line q slot g more x = record {
+    by = x.by;
+    is_host = x.is_host;
+    there = more x.by (Executed slot) x.there;
+    counter = x.counter;
+    place = x.place;
+    fresh = x.fresh;
+    orders = orders_grows run.schedule.shape (stamps_of f) requests (stamps_of f') requests' g _ _ _ x.orders;
+  }
+
+  -- ---- one more entry at one host
+
+  said_once : (e : Entry) (d : History) → IsOnce (said d) (said (e ∷ d))
+  unfolding history.stamped
+  said_once (Accepted m) d = same_once (said d)
+  said_once (Stamped m) d = once_more _ (said d)
+  said_once (Executed slot) d = same_once (said d)
+
+  pub entry_grows : (requests : List Request) (f : ℕ → History) (h : ℕ) (d : History) (e : Entry) → Grows (stamps_of (update f h d)) requests (stamps_of (update f h (e ∷ d))) requests
+  entry_grows requests f h d e = record { stamped_more = λ g. there g; asked_more = λ r i. i } where
+    there : (g : ℕ) → IsOnce (said (update f h d g)) (said (update f h (e ∷ d) g))
+    there g = elim (cases_Bool (eqb g h)) as (λ _. IsOnce (said (update f h d g)) (said (update f h (e ∷ d) g))) [
+      | inl same ↦ rw same (said_once e d)
+      | inr other ↦ rw other (same_once (said (f g)))
+    ]
+
+  entry_more : (f : ℕ → History) (h : ℕ) (d : History) (e : Entry) (g : ℕ) (x : Entry) → In (update f h d g) x → In (update f h (e ∷ d) g) x
+  entry_more f h d e g x i = elim (cases_Bool (eqb g h)) [
+    | inl same ↦ rw same (inr (rw same at i))
+    | inr other ↦ rw other (rw other at i)
+  ]
+
+  pub entry_keeps : (requests : List Request) (f : ℕ → History) (h : ℕ) (d : History) (e : Entry) (pool added : List Bytes) (line line' : List Slot)
+      → Invariant requests (update f h d) pool line
+      → Justified (self h) (stamps_of (update f h (e ∷ d))) requests e d
+      → AllByRecursion (SpellsMade run.schedule.shape (stamps_of (update f h (e ∷ d))) requests) added
+      → IsLonger line line'
+      → ((q : ℕ) (slot : Slot) → slice_get line' q ≡ Some slot → (slice_get line q ≡ Some slot) ⊎ InLine (update f h (e ∷ d)) requests line' q slot)
+      → Follows line' h (e ∷ d)
+      → Invariant requests (update f h (e ∷ d)) (pool ++ added) line'
+  entry_keeps requests f h d e pool added line line' i justified made longer slots mine =
+      let u : Stamps = stamps_of (update f h d) in
+      let u' : Stamps = stamps_of (update f h (e ∷ d)) in
+      let grows = entry_grows requests f h d e in
+      let before : Legal (self h) u requests d = subst (λ (x : History). Legal (self h) u requests x) (at_same f h d) (i.legal h) in
+      record {
+        made = all_append _ pool added (pool_grows run.schedule.shape u requests u' requests grows pool i.made) made;
+        legal = update_keeps (λ g x. Legal (self g) u' requests x) f h d (e ∷ d) (λ g. legal_grows (self g) u requests u' requests grows _ (i.legal g)) (justified, legal_grows (self h) u requests u' requests grows d before);
+        in_line = λ q slot at. elim (slots q slot at) [
+          | inl old ↦ in_line_longer (update f h (e ∷ d)) requests line line' q slot longer (slice_get_within line q slot old) (in_line_grows (update f h d) (update f h (e ∷ d)) requests requests line q slot grows (entry_more f h d e) (i.in_line q slot old))
+          | inr new ↦ new
+        ];
+        hosts = update_keeps (λ g x. Follows line' g x) f h d (e ∷ d) (λ g. follows_longer line line' g _ longer (i.hosts g)) mine;
+      }
+
+  -- ---- entries that change no state
+
+  abbrev pub is_quiet : Entry → Bool
+  is_quiet (Accepted m) = true
+  is_quiet (Stamped m) = true
+  is_quiet (Executed slot) = false
+
+  quiet_follows : (line : List Slot) (h : ℕ) (d : History) (e : Entry) → is_quiet e ≡ true → Follows line h d → Follows line h (e ∷ d)
+  unfolding exec_of state_of
+  quiet_follows line h d (Accepted m) q x = record { short = x.short; state = x.state; slots = λ slot i. elim i [ inl other ↦ absurd cc | inr before ↦ x.slots slot before ] }
+  quiet_follows line h d (Stamped m) q x = record { short = x.short; state = x.state; slots = λ slot i. elim i [ inl other ↦ absurd cc | inr before ↦ x.slots slot before ] }
+  quiet_follows line h d (Executed slot) q x = absurd cc
+
+  pub quiet_keeps : (requests : List Request) (f : ℕ → History) (h : ℕ) (d : History) (e : Entry) (pool added : List Bytes) (line : List Slot)
+      → is_quiet e ≡ true
+      → Invariant requests (update f h d) pool line
+      → Justified (self h) (stamps_of (update f h (e ∷ d))) requests e d
+      → AllByRecursion (SpellsMade run.schedule.shape (stamps_of (update f h (e ∷ d))) requests) added
+      → Invariant requests (update f h (e ∷ d)) (pool ++ added) line
+  quiet_keeps requests f h d e pool added line quiet i justified made =
+      entry_keeps requests f h d e pool added line line i justified made (record { rest = []; is = append-nil line }) (λ q slot at. inl at)
+      (quiet_follows line h d e quiet (subst (λ (x : History). Follows line h x) (at_same f h d) (i.hosts h)))

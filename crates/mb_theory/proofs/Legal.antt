@@ -1,0 +1,103 @@
+-- What each entry of a host's history rests on: on what stood before it, on what clients asked and on what the hosts stamped.
+use Rattle.std.proofs.Common.{◌≡◌, ℕ, ◌+◌, ◌≤◌, List, [], ◌∷◌, Some}
+use Rattle.mb_base.specs.declared.shape.Shape.{Shape}
+use Rattle.mb_base.specs.declared.names.Ui.{Ui}
+use Rattle.mb_base.specs.Shapes.{Bytes, primary, quorum}
+use Rattle.mb_msg.specs.declared.parts.Request.{Request}
+use Rattle.mb_msg.specs.declared.event.Slot.{Slot}
+use Rattle.mb_msg.specs.declared.message.Body.TheVariants.{Whole}
+use Rattle.mb_msg.specs.declared.message.Prepare.{Prepare}
+use Rattle.mb_msg.specs.declared.message.Commit.{Commit}
+use Rattle.mb_msg.specs.declared.message.Message.{Message}
+use Rattle.mb_msg.specs.declared.message.Message.TheVariants as message
+use Rattle.mb_msg.specs.declared.message.Stamped.TheVariants as stamped
+use Rattle.mb_msg.specs.Bares as bare
+use Rattle.mb_msg.specs.Bares.{Bare, request_digest}
+use Rattle.mb_msg.specs.Fits.{FitsPrepare, FitsCommit}
+use Rattle.mb_msg.specs.Spelling.{spelling}
+use Rattle.mb_model.specs.Service.{is_fresh}
+use Rattle.mb_model.specs.History.{Entry, Accepted, Stamped, Executed, History, Self, counter_of, last_counter, exec_of}
+use Rattle.mb_model.specs.Slots.{matching, state_of}
+use Rattle.mb_theory.proofs.Lists.{In}
+use Rattle.mb_theory.proofs.Counters.{at_counter}
+
+-- what each host stamped, newest first
+abbrev pub Stamps : Type 0
+Stamps = ℕ → List Bare
+
+-- ---- what clients and hosts made
+
+module _ (shape : Shape) (stamps : Stamps) (requests : List Request) where
+  -- The primary of view 0 ordered an asked request at a position, under a counter.
+  pub record Orders (p n : ℕ) (r : Request) : Type 0 where
+    pub was_asked : In requests r
+    pub issued : at_counter (stamps (primary shape 0)) n ≡ Some (bare.Prepare 0 p (request_digest r))
+
+  -- The primary of view 0 stamped this PREPARE, with the whole request.
+  pub record PrepareMade (m : Prepare) : Type 0 where
+    pub request : Request
+    pub body : m.body ≡ Whole request
+    pub orders : Orders m.pos m.ui.counter request
+    pub in_view : m.view ≡ 0
+    pub leads : m.ui.host ≡ primary shape 0
+    pub fits : FitsPrepare shape m
+
+  -- A backup of view 0 stamped this COMMIT, with the whole request, for a PREPARE that the primary stamped.
+  pub record CommitMade (m : Commit) : Type 0 where
+    pub request : Request
+    pub body : m.body ≡ Whole request
+    pub orders : Orders m.pos m.counter request
+    pub in_view : m.view ≡ 0
+    pub backs : m.ui.host ≡ primary shape 0 → ⊥
+    pub issued : at_counter (stamps m.ui.host) m.ui.counter ≡ Some (bare.Commit 0 m.pos m.counter m.cert (request_digest request))
+    pub fits : FitsCommit shape m
+
+  -- a client or a host made this message; of a REPLY nothing is said
+  abbrev pub IsMade : Message → Type 0
+  IsMade (message.Request r) = In requests r
+  IsMade (message.Prepare m) = PrepareMade m
+  IsMade (message.Commit m) = CommitMade m
+  IsMade (message.Reply m) = Unit {0}
+
+  -- These bytes spell a message that was made.
+  pub record SpellsMade (bytes : Bytes) : Type 0 where
+    pub says : Message
+    pub spelled : bytes ≡ spelling says
+    pub made : IsMade says
+
+-- ---- entries
+
+-- An identifier of another host came in its turn.
+pub record InTurn (h : ℕ) (u : Ui) (d : History) : Type 0 where
+  pub other : u.host ≡ h → ⊥
+  pub next : u.counter ≡ last_counter d u.host + 1
+
+-- An identifier is this host's next one; in view 0 a position is a counter.
+pub record IsOwn (h : ℕ) (u : Ui) (pos : ℕ) (d : History) : Type 0 where
+  pub own : u.host ≡ h
+  pub next : u.counter ≡ counter_of d + 1
+  pub place : pos ≡ counter_of d + 1
+
+module _ {S : Type 0} (self : Self S) (stamps : Stamps) (requests : List Request) where
+  -- A slot is the next one to execute, the primary ordered its request there, and f+1 votes for that were counted.
+  pub record IsSupported (slot : Slot) (d : History) : Type 0 where
+    pub counter : ℕ
+    pub orders : Orders self.shape stamps requests slot.pos counter slot.request
+    pub place : slot.pos ≡ exec_of d + 1
+    pub fresh : slot.fresh ≡ is_fresh (state_of self d) slot.request
+    pub voted : quorum self.shape ≤ matching self d 0 slot.pos (record { counter = counter; request = request_digest slot.request })
+
+  -- what an entry rests on, behind what stood before it
+  abbrev pub Justified : Entry → History → Type 0
+  Justified (Accepted (message.Request r)) d = In requests r
+  Justified (Accepted (message.Prepare m)) d = PrepareMade self.shape stamps requests m × InTurn self.host m.ui d
+  Justified (Accepted (message.Commit m)) d = CommitMade self.shape stamps requests m × InTurn self.host m.ui d
+  Justified (Accepted (message.Reply m)) d = ⊥
+  Justified (Stamped (stamped.Prepare m)) d = PrepareMade self.shape stamps requests m × IsOwn self.host m.ui m.pos d
+  Justified (Stamped (stamped.Commit m)) d = CommitMade self.shape stamps requests m × IsOwn self.host m.ui m.pos d
+  Justified (Executed slot) d = IsSupported slot d
+
+  -- each entry is justified behind what stood before it
+  abbrev pub Legal : History → Type 0
+  Legal [] = Unit {0}
+  Legal (e ∷ d) = Justified e d × Legal d

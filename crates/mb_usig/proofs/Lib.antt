@@ -1,0 +1,5 @@
+mod Fronts
+pub mod Laws
+pub mod SmallBytes
+pub mod OnLiterals
+mod Vectors

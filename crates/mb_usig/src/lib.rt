@@ -1,0 +1,14 @@
+//! The trusted counter of a host (USIG), and the keys and tags of all that is signed.
+#![tactic(auto)]
+
+mod keyed_hash;
+mod keys;
+mod pen;
+mod usig;
+
+pub use keyed_hash::hmac;
+pub use pen::Pen;
+pub use usig::{Spent, Usig};
+
+#[cfg(test)]
+mod tests;

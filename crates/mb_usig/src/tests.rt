@@ -1,0 +1,91 @@
+use crate::{Pen, Usig, hmac};
+use mb_base::{Key, Shape, Ui};
+
+const SECRET: Key = [0; 32];
+
+// The expected certificates and tags were made with Python's hmac and hashlib.
+
+const FIRST_CERT: &[u8; 32] =
+    b"\xf9\xc8\x86\x4a\x63\xc6\xb4\x35\xd2\xd0\xee\xfb\xee\xa3\x19\xb4\xf0\xb1\x8e\x6f\x7c\xa9\x82\xbe\xd2\x2d\x0f\x11\x0c\xc6\x9b\x5b";
+
+const SECOND_CERT: &[u8; 32] =
+    b"\x33\x84\xef\xbd\x8c\xce\x33\x9e\x74\x15\x92\xc0\x57\xd9\x44\xd9\x66\x51\x6b\x05\x5d\x85\x48\xeb\x34\x9f\xc0\xee\x63\xa3\x2e\x95";
+
+// Client 3, sequence number 7, and the operation or the result.
+const REQUEST: &[u8] = b"\x03\0\0\0\0\0\0\0\x07\0\x07PUT a 1";
+
+const REQUEST_TAG: &[u8; 32] =
+    b"\x01\x71\xc8\x2e\xd3\x76\x1f\x68\x76\x46\x1f\xd6\x26\x18\x8f\xdf\x40\xef\x4e\x37\x33\x09\x8e\xac\xa2\x42\x27\xa9\x4f\xbd\xa6\x7e";
+
+const REPLY: &[u8] = b"\x03\0\0\0\0\0\0\0\x07\0\0\0\0\0\0\0\x09\0\x02OK";
+
+const REPLY_TAG: &[u8; 32] =
+    b"\xaa\xe1\xa4\x64\x54\xdb\xb6\x85\xa1\x0b\x87\x9d\x95\x09\xeb\x63\x31\xca\xd9\x30\xc0\x55\x5b\xa1\x53\xbc\xea\x26\x2b\x29\x8f\x55";
+
+// The first two test cases of RFC 4231.
+#[test]
+fn hmac_vectors(rt: HostRuntime) {
+    let tag = hmac(&[0x0b; 20], b"Hi There");
+    assert_eq!(rt;
+        tag,
+        *b"\xb0\x34\x4c\x61\xd8\xdb\x38\x53\x5c\xa8\xaf\xce\xaf\x0b\xf1\x2b\x88\x1d\xc2\x00\xc9\x83\x3d\xa7\x26\xe9\x37\x6c\x2e\x32\xcf\xf7"
+    );
+    let tag = hmac(b"Jefe", b"what do ya want for nothing?");
+    assert_eq!(rt;
+        tag,
+        *b"\x5b\xdc\xc1\x46\xbf\x60\x75\x4e\x6a\x04\x24\x26\x08\x95\x75\xc7\x5a\x00\x3f\x08\x9d\x27\x39\x83\x9d\xec\x58\xb9\x64\xec\x38\x43"
+    );
+}
+
+#[test]
+fn counters_rise(rt: HostRuntime) {
+    let shape = Shape::new(1, 4, 4).expect(&rt, "1, 4 and 4 are a shape");
+    let mut usig = Usig::new(shape, 2, &SECRET);
+    assert_eq!(rt; usig.counter(), 0);
+    let first = usig
+        .create_ui(b"first message")
+        .expect(&rt, "counters are left");
+    let second = usig
+        .create_ui(b"second message")
+        .expect(&rt, "counters are left");
+    assert_eq!(rt;
+        first,
+        Ui {
+            host: 2,
+            counter: 1,
+            cert: *FIRST_CERT
+        }
+    );
+    assert_eq!(rt;
+        second,
+        Ui {
+            host: 2,
+            counter: 2,
+            cert: *SECOND_CERT
+        }
+    );
+    assert_eq!(rt; (usig.host(), usig.counter()), (2, 2));
+    let other = Usig::new(shape, 0, &SECRET);
+    assert!(rt; other.verify_ui(b"first message", &first));
+    assert!(rt; !other.verify_ui(b"second message", &first));
+    assert!(rt;
+        !other.verify_ui(
+            b"first message",
+            &Ui {
+                counter: 2,
+                ..first
+            }
+        )
+    );
+    assert!(rt; !other.verify_ui(b"first message", &Ui { host: 1, ..first }));
+}
+
+#[test]
+fn tags_of_clients(rt: HostRuntime) {
+    let shape = Shape::new(1, 4, 4).expect(&rt, "1, 4 and 4 are a shape");
+    let usig = Usig::new(shape, 2, &SECRET);
+    assert_eq!(rt; Pen::new(&SECRET, 3).tag_request(REQUEST), *REQUEST_TAG);
+    assert!(rt; usig.verify_request(3, REQUEST, REQUEST_TAG));
+    assert!(rt; !usig.verify_request(2, REQUEST, REQUEST_TAG));
+    assert_eq!(rt; usig.tag_reply(3, REPLY), *REPLY_TAG);
+}

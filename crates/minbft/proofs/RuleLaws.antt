@@ -1,0 +1,249 @@
+-- Which rule applies, by what a replica finds in its tables.
+use Rattle.std.proofs.Common.{◌≡◌, ◌⊎◌, ℕ, zero, suc, ◌+◌, ◌-◌, ◌^◌, ◌<◌, ◌≤◌, Bool, true, false, not, cond, ltb, leb, nat_lt, nat_le, ◌&&◌, List, [], ◌∷◌, Option, Some, None, option_map, option_and_then, slice_get, max, refl, sym, ap, subst, ◌∙◌, inl, inr, arith}
+use Rattle.std.specs.Option.{option_or}
+use Rattle.std.specs.List.{range_with_len}
+use Rattle.std.specs.Ordering.{ord_max, nat_cmp}
+use Rattle.std.proofs.lemmas.Grind.{common_steps}
+use Rattle.std.proofs.lemmas.Bool.{lt-ltb, le-ltb, le-leb, lt-leb}
+use Rattle.std.proofs.lemmas.Option.{same_Some}
+use Rattle.mb_base.specs.Shapes.{Bytes, client_count, span}
+use Rattle.mb_msg.specs.declared.parts.Request.{Request}
+use Rattle.mb_msg.specs.declared.message.Body.{Body}
+use Rattle.mb_msg.specs.declared.message.Body.TheVariants.{Whole, Bare as Short}
+use Rattle.mb_msg.specs.declared.message.Prepare.{Prepare}
+use Rattle.mb_msg.specs.declared.message.Stamped.{Stamped as StampedMessage}
+use Rattle.mb_msg.specs.declared.message.Stamped.TheVariants as stamped
+use Rattle.mb_msg.specs.Bares.{request_bytes, request_digest, body_digest}
+use Rattle.mb_model.specs.declared.known.KnownSlot.{KnownSlot}
+use Rattle.mb_model.specs.History.{History, Self, stamped_in, is_primary, last_of, exec_of}
+use Rattle.mb_model.specs.Slots.{if_above, pending, slot_from, slot_of_prepare, whole_body, in_window, slot_in, slot_at}
+use Rattle.mb_model.specs.Rules.{Rule, Commit, Execute, Prepare as Order, has_room, next_position, with_request, commit_enabled, is_committed, if_committed, execute_enabled, unordered, number_of, greatest_in_slots, window, prepare_enabled}
+use Rattle.minbft.specs.declared.replica.Replica.{Replica}
+use Rattle.minbft.specs.Store.{Pairs}
+use Rattle.minbft.specs.Represents.{me, Represents}
+use Rattle.minbft.specs.declared.rules.Due.TheVariants as due
+use Rattle.minbft.specs.Due.{Names}
+
+-- the numbers from one on begin with it
+pub range-next : (i n : ℕ) → i < n → range_with_len (0 + i + 1) (n - i) ≡ (0 + i + 1) ∷ range_with_len (0 + (i + 1) + 1) (n - (i + 1))
+range-next i n lt =
+    let left : n - i ≡ suc (n - (i + 1)) = omega arith in
+    let start : 0 + i + 1 + 1 ≡ 0 + (i + 1) + 1 = omega arith in
+    rw (left, ← start) refl
+
+-- ---- a test made of two
+
+-- the first holds, so the second decides
+pub and-first : (x y a b : Bool) → x ≡ true → x ≡ a → y ≡ b → y ≡ (a && b)
+and-first x y a b holds is other = rw (← is, holds) other
+
+-- the first fails
+pub and-fails : (x a b : Bool) → x ≡ false → x ≡ a → x ≡ (a && b)
+and-fails x a b fails is = rw (← is, fails) refl
+
+-- the first must not hold, and does not
+pub not-first : (x y a b : Bool) → x ≡ false → x ≡ a → y ≡ b → y ≡ (not a && b)
+not-first x y a b fails is other = rw (← is, fails) other
+
+pub not-fails : (x a b : Bool) → x ≡ true → x ≡ a → not x ≡ (not a && b)
+not-fails x a b holds is = rw (← is, holds) refl
+
+-- ---- the digest of a slot
+
+option_or-cases : {A : Type 0} (a b : Option A) (k : A) → option_or a b ≡ Some k → (a ≡ Some k) ⊎ (b ≡ Some k)
+option_or-cases None b k e = inr e
+option_or-cases (Some x) b k e = inl e
+
+cond-some : {A : Type 0} (b : Bool) (o : Option A) (k : A) → cond b o None ≡ Some k → o ≡ Some k
+cond-some true o k e = e
+cond-some false o k e = absurd cc
+
+whole-digest : (body : Body Request) (r : Request) → whole_body body ≡ Some r → body_digest request_bytes body ≡ request_digest r
+whole-digest (Whole q) r e = let same : q ≡ r = cc in ap request_digest same
+whole-digest (Short digest) r e = absurd cc
+
+prepare-digest : (m : Prepare) (v p : ℕ) (k : KnownSlot) (r : Request) → slot_of_prepare m v p ≡ Some k → k.request ≡ Some r → k.digest ≡ request_digest r
+prepare-digest m v p k r e whole =
+    let made : KnownSlot = record { counter = m.ui.counter; cert = m.ui.cert; digest = body_digest request_bytes m.body; request = whole_body m.body } in
+    let same : made ≡ k = cc (cond-some _ (Some made) k e) in
+    sym (ap (λ (x : KnownSlot). x.digest) same) ∙ whole-digest m.body r (ap (λ (x : KnownSlot). x.request) same ∙ whole)
+
+from-digest : (m : Option StampedMessage) (v p : ℕ) (k : KnownSlot) (r : Request) → slot_from m v p ≡ Some k → k.request ≡ Some r → k.digest ≡ request_digest r
+from-digest (Some (stamped.Prepare m)) v p k r e whole = prepare-digest m v p k r e whole
+from-digest (Some (stamped.Commit m)) v p k r e whole = absurd cc
+from-digest None v p k r e whole = absurd cc
+
+module _ {S : Type 0} (self : Self S) where
+  slot_in-digest : (d : History) (v p : ℕ) (k : KnownSlot) (r : Request) → slot_in self d v p ≡ Some k → k.request ≡ Some r → k.digest ≡ request_digest r
+  unfolding slot_in
+  slot_in-digest [] v p k r e whole = absurd cc
+  slot_in-digest (x ∷ d) v p k r e whole =
+      elim (option_or-cases (slot_in self d v p) (cond (in_window self d p) (slot_from (stamped_in x) v p) None) k e) [
+        | inl there ↦ slot_in-digest d v p k r there whole
+        | inr now ↦ from-digest (stamped_in x) v p k r (cond-some (in_window self d p) (slot_from (stamped_in x) v p) k now) whole
+      ]
+
+  -- the digest that is kept with a request is its own
+  pub slot_at-digest : (d : History) (p : ℕ) (k : KnownSlot) (r : Request) → slot_at self d p ≡ Some k → k.request ≡ Some r → k.digest ≡ request_digest r
+  slot_at-digest d p k r e whole = slot_in-digest d 0 p k r (cond-some (in_window self d p) (slot_in self d 0 p) k e) whole
+
+-- ---- COMMIT
+
+-- a primary, or a host without room, commits nothing
+pub commit-barred : (r : Replica) (d : History) (may : Bool) → may ≡ false → may ≡ (not (is_primary (me r) d) && has_room (me r) d) → commit_enabled (me r) d ≡ None
+unfolding commit_enabled
+commit-barred r d may fails is = rw (← is, fails) refl
+
+-- a backup commits the slot behind its last vote, where it has a request
+pub commit-open : (r : Replica) (d : History) (may : Bool) (o : Option KnownSlot) → Represents (me r) r d → may ≡ true → may ≡ (not (is_primary (me r) d) && has_room (me r) d)
+    → o ≡ slot_at (me r) d (r.last + 1) → commit_enabled (me r) d ≡ with_request (me r) (Commit (r.last + 1)) o
+unfolding commit_enabled
+commit-open r d may o st holds is slot = rw (← is, holds, slot, st.last) refl
+
+-- it has none
+pub commit-without : (r : Replica) (d : History) (p : ℕ) (k : KnownSlot) → commit_enabled (me r) d ≡ with_request (me r) (Commit p) (Some k) → k.request ≡ None → commit_enabled (me r) d ≡ None
+commit-without r d p k enabled e = enabled ∙ ap (option_map (Commit p k)) e
+
+-- it has one, of which this is a copy
+pub commit-named : (r : Replica) (d : History) (p : ℕ) (k : KnownSlot) (q copy : Request) → commit_enabled (me r) d ≡ with_request (me r) (Commit p) (Some k) → Some k ≡ slot_at (me r) d p
+    → k.request ≡ Some q → copy ≡ q → Names (Some (due.Commit (record { pos = p; counter = k.counter; cert = k.cert; digest = k.digest; request = copy }))) (commit_enabled (me r) d)
+commit-named r d p k q copy enabled slot whole same =
+    let request : k.request ≡ Some copy = whole ∙ ap (λ x. Some x) (sym same) in
+    let named : with_request (me r) (Commit p) (Some k) ≡ Some (Commit p k copy) = ap (option_map (Commit p k)) request in
+    let kept : k ≡ record { counter = k.counter; cert = k.cert; digest = k.digest; request = Some copy } = ap (λ x. record { counter = k.counter; cert = k.cert; digest = k.digest; request = x }) request in
+    (enabled ∙ (named ∙ ap (λ x. Some (Commit p x copy)) kept), slot_at-digest (me r) d p k copy (sym slot) request)
+
+-- ---- executions
+
+-- a host executes the slot behind its last executed one, where f+1 votes agree with it
+pub execute-open : (r : Replica) (d : History) (o : Option KnownSlot) → Represents (me r) r d → o ≡ slot_at (me r) d (r.exec + 1) → execute_enabled (me r) d ≡ if_committed (me r) d (r.exec + 1) o
+unfolding execute_enabled
+execute-open r d o st slot = rw (slot, st.exec, le-leb 0 (exec_of d) (omega arith)) refl
+
+module _ (r : Replica) (d : History) (p : ℕ) (k : KnownSlot) (b : Bool) (enabled : execute_enabled (me r) d ≡ if_committed (me r) d p (Some k)) (is : b ≡ is_committed (me r) d p k) where
+  pub execute-barred : b ≡ false → execute_enabled (me r) d ≡ None
+  execute-barred fails = enabled ∙ rw (← is, fails) refl
+
+  pub execute-without : b ≡ true → k.request ≡ None → execute_enabled (me r) d ≡ None
+  execute-without holds whole = enabled ∙ rw (← is, holds) (ap (option_map (Execute p)) whole)
+
+  pub execute-named : (q copy : Request) → b ≡ true → k.request ≡ Some q → copy ≡ q → execute_enabled (me r) d ≡ Some (Execute p copy)
+  execute-named q copy holds whole same = enabled ∙ rw (← is, holds) (ap (option_map (Execute p)) (whole ∙ ap (λ x. Some x) (sym same)))
+
+-- two tests of equal numbers
+pub leb-same : (a b x y : ℕ) → a ≡ x → b ≡ y → leb a b ≡ leb x y
+leb-same a b x y e f = cc
+
+-- ---- PREPARE
+
+module _ (r : Replica) (d : History) (limit : ℕ) (st : Represents (me r) r d) (is : limit ≡ 0 + span r.shape) where
+  -- the next position is in the window
+  pub order-then : (room : Bool) → r.last < limit → span r.shape < 2 ^ 32 → room ≡ has_room (me r) d
+      → room ≡ (in_window (me r) d (next_position (me r) d) && (nat_lt (next_position (me r) d) (2 ^ 63) && has_room (me r) d))
+  order-then room below small room_is =
+      let last = st.last in
+      rw (lt-ltb 0 (last_of d + 1) (omega arith), le-leb (last_of d + 1) (0 + span r.shape) (omega arith), lt-ltb (last_of d + 1) (2 ^ 63) (omega arith)) room_is
+
+  -- it is not
+  pub order-else : limit ≤ r.last → ltb r.last limit ≡ (in_window (me r) d (next_position (me r) d) && (nat_lt (next_position (me r) d) (2 ^ 63) && has_room (me r) d))
+  order-else beyond =
+      let last = st.last in
+      rw (le-ltb r.last limit beyond, lt-ltb 0 (last_of d + 1) (omega arith), lt-leb (last_of d + 1) (0 + span r.shape) (omega arith)) refl
+
+-- a host may order a request
+abbrev pub may_order : Replica → History → Bool
+may_order r d = is_primary (me r) d && (in_window (me r) d (next_position (me r) d) && (nat_lt (next_position (me r) d) (2 ^ 63) && has_room (me r) d))
+
+pub prepare-barred : (r : Replica) (d : History) (may : Bool) → may ≡ false → may ≡ may_order r d → prepare_enabled (me r) d ≡ None
+unfolding prepare_enabled
+prepare-barred r d may fails is = rw (← is, fails) refl
+
+-- the primary orders the first request that is not ordered yet
+pub prepare-open : (r : Replica) (d : History) (may : Bool) (o : Option Request) → Represents (me r) r d → may ≡ true → may ≡ may_order r d
+    → o ≡ unordered (me r) d (range_with_len 0 (client_count r.shape)) → prepare_enabled (me r) d ≡ option_map (Order (r.last + 1)) o
+unfolding prepare_enabled
+prepare-open r d may o st holds is first = rw (← is, holds, first, st.last) refl
+
+pub prepare-named : (r : Replica) (d : History) (p : ℕ) (q copy : Request) → prepare_enabled (me r) d ≡ Some (Order p q) → copy ≡ q → prepare_enabled (me r) d ≡ Some (Order p copy)
+prepare-named r d p q copy enabled same = enabled ∙ ap (λ x. Some (Order p x)) (sym same)
+
+-- ---- the greatest number of a client among the slots
+
+pub ord_max-nat : (a b : ℕ) → ord_max nat_cmp a b ≡ max a b
+ord_max-nat a b = grind (arith, common_steps)
+
+-- the slots from a place of the window on are still to be looked at
+abbrev pub GreatestSoFar : Replica → ℕ → ℕ → ℕ → Type 0
+GreatestSoFar r c i greatest = (d : History) → Represents (me r) r d
+    → max greatest (greatest_in_slots (me r) d c (range_with_len (0 + i + 1) (span r.shape - i))) ≡ greatest_in_slots (me r) d c (window (me r) d)
+
+pub greatest-none : (r : Replica) (c : ℕ) → GreatestSoFar r c 0 0
+greatest-none r c d st =
+    let all : span r.shape - 0 ≡ span r.shape = omega arith in
+    rw all (omega arith)
+
+pub greatest-more : (r : Replica) (c i greatest n more : ℕ) (o : Option KnownSlot) → i < span r.shape → slice_get r.tables.slots.items i ≡ Some o → n ≡ number_of (me r) c (option_and_then (λ k. k.request) o)
+    → more ≡ max greatest n → GreatestSoFar r c i greatest → GreatestSoFar r c (i + 1) more
+unfolding greatest_in_slots
+greatest-more r c i greatest n more o lt there is step so_far d st =
+    let rest = greatest_in_slots (me r) d c (range_with_len (0 + (i + 1) + 1) (span r.shape - (i + 1))) in
+    let next : range_with_len (0 + i + 1) (span r.shape - i) ≡ (0 + i + 1) ∷ range_with_len (0 + (i + 1) + 1) (span r.shape - (i + 1)) = range-next i (span r.shape) lt in
+    let slot : o ≡ slot_at (me r) d (0 + i + 1) =
+    same_Some o (slot_in (me r) d 0 (0 + i + 1)) (sym there ∙ st.tables.slots i lt) ∙ rw (lt-ltb 0 (0 + i + 1) (omega arith), le-leb (0 + i + 1) (0 + span r.shape) (omega arith)) refl in
+    let number : n ≡ number_of (me r) c (option_and_then (λ k. k.request) (slot_at (me r) d (0 + i + 1))) = is ∙ ap (λ x. number_of (me r) c (option_and_then (λ k. k.request) x)) slot in
+    let before : max greatest (greatest_in_slots (me r) d c ((0 + i + 1) ∷ range_with_len (0 + (i + 1) + 1) (span r.shape - (i + 1)))) ≡ greatest_in_slots (me r) d c (window (me r) d) =
+    ap (λ l. max greatest (greatest_in_slots (me r) d c l)) (sym next) ∙ so_far d st in
+    let joined : max more rest ≡ max greatest (max n rest) = omega (arith, step) in
+    joined ∙ (ap (λ x. max greatest (max x rest)) number ∙ before)
+
+pub greatest-all : (r : Replica) (c i greatest : ℕ) → span r.shape ≤ i → GreatestSoFar r c i greatest → (d : History) → Represents (me r) r d → greatest ≡ greatest_in_slots (me r) d c (window (me r) d)
+unfolding greatest_in_slots
+greatest-all r c i greatest le so_far d st =
+    let none : span r.shape - i ≡ 0 = omega arith in
+    let nothing : max greatest (greatest_in_slots (me r) d c (range_with_len (0 + i + 1) (span r.shape - i))) ≡ greatest = rw none (omega arith) in
+    sym nothing ∙ so_far d st
+
+-- ---- the first request that is not ordered yet
+
+-- what a client has to be ordered
+abbrev pub unordered_of : Replica → History → ℕ → Option Request
+unordered_of r d c = if_above (greatest_in_slots (me r) d c (window (me r) d)) (pending d c)
+
+-- the clients from one on are still to be looked at
+abbrev pub UnorderedSoFar : Replica → ℕ → Type 0
+UnorderedSoFar r i = (d : History) → Represents (me r) r d → unordered (me r) d (range_with_len i (client_count r.shape - i)) ≡ unordered (me r) d (range_with_len 0 (client_count r.shape))
+
+pub unordered-none : (r : Replica) → UnorderedSoFar r 0
+unordered-none r d st =
+    let all : client_count r.shape - 0 ≡ client_count r.shape = omega arith in
+    rw all refl
+
+-- the next client is the first of them
+pub unordered-next : (r : Replica) (d : History) (i : ℕ) → i < client_count r.shape
+    → unordered (me r) d (range_with_len i (client_count r.shape - i)) ≡ option_or (unordered_of r d i) (unordered (me r) d (range_with_len (i + 1) (client_count r.shape - (i + 1))))
+unfolding unordered
+unordered-next r d i lt =
+    let left : client_count r.shape - i ≡ suc (client_count r.shape - (i + 1)) = omega arith in
+    rw left refl
+
+-- it has none
+pub unordered-more : (r : Replica) (i : ℕ) → i < client_count r.shape → ((d : History) → Represents (me r) r d → None ≡ unordered_of r d i) → UnorderedSoFar r i → UnorderedSoFar r (i + 1)
+unordered-more r i lt nothing so_far d st =
+    let next = unordered-next r d i lt in
+    let rest = unordered (me r) d (range_with_len (i + 1) (client_count r.shape - (i + 1))) in
+    ap (λ o. option_or o rest) (nothing d st) ∙ (sym next ∙ so_far d st)
+
+-- it has one
+pub unordered-found : (r : Replica) (d : History) (i : ℕ) (q : Request) → Represents (me r) r d → i < client_count r.shape → Some q ≡ unordered_of r d i → UnorderedSoFar r i
+    → Some q ≡ unordered (me r) d (range_with_len 0 (client_count r.shape))
+unordered-found r d i q st lt found so_far =
+    let next = unordered-next r d i lt in
+    let rest = unordered (me r) d (range_with_len (i + 1) (client_count r.shape - (i + 1))) in
+    ap (λ o. option_or o rest) found ∙ (sym next ∙ so_far d st)
+
+pub unordered-all : (r : Replica) (d : History) (i : ℕ) → Represents (me r) r d → client_count r.shape ≤ i → UnorderedSoFar r i → None ≡ unordered (me r) d (range_with_len 0 (client_count r.shape))
+unfolding unordered
+unordered-all r d i st le so_far =
+    let left : client_count r.shape - i ≡ 0 = omega arith in
+    let nothing : unordered (me r) d (range_with_len i (client_count r.shape - i)) ≡ None = rw left refl in
+    sym nothing ∙ so_far d st

@@ -1,0 +1,15 @@
+use Rattle.std.proofs.Common.{◌≡◌, refl, sym, ap, ◌∙◌, subst}
+use Rattle.mb_msg.specs.declared.message.Message.TheVariants as message
+use Rattle.mb_msg.specs.declared.message.Stamped.TheVariants as stamped
+use Rattle.mb_model.specs.History.{Accepted}
+use Rattle.minbft.specs.Represents.{me}
+use Rattle.minbft.proofs.AcceptLaws.{accepted_next, accepted_stamped}
+use Rattle.minbft.proofs.replica.Replica.count_commit.Goals as goal
+
+pub returns-clause-stands : goal.returns-clause-stands
+returns-clause-stands c = λ d st passes.
+    let r = c.args.self.now in
+    let m = c.args.commit.now in
+    let next = accepted_next (me r) d (stamped.Commit m) st.own passes in
+    accepted_stamped (me r) r _ d (message.Commit m) (stamped.Commit m) refl refl refl refl refl refl refl refl passes st
+    (c.take_commit.ensures.stands (me r) d (Accepted (message.Commit m)) m st.tables refl refl refl refl refl (sym c.digest.ensures) next.next)

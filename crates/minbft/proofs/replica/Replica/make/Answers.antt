@@ -1,0 +1,22 @@
+use Rattle.std.proofs.Common.{◌≡◌, [], replicate, None, refl, sym, ap, ◌∙◌}
+use Rattle.mb_model.specs.Service.{no_reply}
+use Rattle.minbft.specs.Store.{store_machine}
+use Rattle.minbft.proofs.Beginning.{requests_fit-start, replies_fit-start, nothing_happened}
+use Rattle.minbft.proofs.replica.Replica.make.Goals as goal
+
+pub invariant_of-result-clause-pending_fit : goal.invariant_of-result-clause-pending_fit
+invariant_of-result-clause-pending_fit c = requests_fit-start c.args.shape _ _ c.in_ok-no_requests.ensures
+
+pub invariant_of-result-clause-replies_fit : goal.invariant_of-result-clause-replies_fit
+invariant_of-result-clause-replies_fit c = replies_fit-start _ _ c.in_ok-no_replies.ensures
+
+pub returns-clause-stands : goal.returns-clause-stands
+returns-clause-stands c =
+    let count = c.from-clients.ensures ∙ c.clients.ensures in
+    nothing_happened (record { shape = c.args.shape; host = c.args.host; secret = c.args.secret.now; machine = store_machine; initial = [] }) _ refl refl
+    (ap (λ u. record { shape = c.args.shape; host = c.args.host; secret = u.secret; machine = store_machine; initial = [] }) c.new.ensures)
+    (ap (λ u. u.counter) c.new.ensures) refl refl
+    (c.in_ok-no_requests.ensures ∙ ap (λ n. replicate n None) count)
+    (c.in_ok-no_replies.ensures ∙ ap (λ n. replicate n no_reply) count)
+    c.new-2.ensures
+    (c.in_ok-make.ensures.stands _ refl)

@@ -1,0 +1,22 @@
+use Rattle.std.proofs.Common.{◌≡◌, ◌+◌, ◌<◌, ◌≤◌, ℕ, slice_get, refl, sym, ap, ◌∙◌}
+use Rattle.mb_msg.specs.declared.message.Stamped.TheVariants as stamped
+use Rattle.minbft.proofs.TableLaws.{taken_by, refused, kept_in, commit_slot, vote-passed, vote-kept}
+use Rattle.minbft.proofs.tables.Tables.take_commit.Goals as goal
+
+pub returns-then-not-is_kept-clause-stands : goal.returns-then-not-is_kept-clause-stands
+returns-then-not-is_kept-clause-stands c = λ s d e m st is ev ep ec eu ed next.
+    let out = refused c.is_kept.result c.is_kept.ensures.1 c.if-not-is_kept.true in
+    taken_by s e d (stamped.Commit m) is c.args.ui.now c.from.result eu c.from.ensures c.args.self.now _ refl c.args.self.now.fronts_len c.requires next refl
+    (λ i lt. commit_slot _ _ refl)
+    (λ i h lt of. vote-passed h m.view m.pos i m.body m.ui m.counter c.args.view c.args.pos ev ep _ _ out lt)
+    st
+
+pub returns-clause-stands : goal.returns-clause-stands
+returns-clause-stands c = λ s d e m st is ev ep ec eu ed next.
+    let kept = c.is_kept.ensures.0 c.if-not-is_kept.false in
+    let t = c.args.self.now in
+    taken_by s e d (stamped.Commit m) is c.args.ui.now c.from.result eu c.from.ensures t c.count_vote.new.self c.count_vote.ensures.shape t.fronts_len c.requires next
+    (ap (λ v. v.items) c.count_vote.ensures.fronts)
+    (λ i lt. commit_slot _ _ (ap (λ v. slice_get v.items i) c.count_vote.ensures.slots))
+    (λ i h lt of. vote-kept h m.view m.pos i m.body m.ui m.counter c.args.view c.args.pos ev ep c.args.ui.now c.args.digest c.args.counter _ _ eu ed ec kept.0 (c.count_vote.ensures.votes i h lt of))
+    st

@@ -1,0 +1,27 @@
+use Rattle.std.proofs.Common.{◌≡◌, ◌+◌, ◌<◌, ◌≤◌, ℕ, slice_get, refl, sym, ap, ◌∙◌, subst, arith}
+use Rattle.mb_base.specs.Shapes.{span, host_count}
+use Rattle.mb_base.specs.declared.shape.Shape.{Shape}
+use Rattle.mb_msg.specs.declared.message.Stamped.TheVariants as stamped
+use Rattle.minbft.specs.Represents.{kept_vote}
+use Rattle.minbft.proofs.TableLaws.{taken_by, refused, kept_in, prepare_slot-passed, prepare_slot-kept, vote-passed, vote-kept}
+use Rattle.minbft.proofs.tables.Tables.take_prepare.Goals as goal
+
+pub returns-then-not-is_kept-clause-stands : goal.returns-then-not-is_kept-clause-stands
+returns-then-not-is_kept-clause-stands c = λ s d e m st is ev ep eu ed er next.
+    let out = refused c.is_kept.result c.is_kept.ensures.1 c.if-not-is_kept.true in
+    taken_by s e d (stamped.Prepare m) is c.args.ui.now c.from.result eu c.from.ensures c.args.self.now _ refl c.args.self.now.fronts_len c.requires.host next refl
+    (λ i lt. prepare_slot-passed m c.args.view c.args.pos i ev ep _ _ out lt)
+    (λ i h lt of. vote-passed h m.view m.pos i m.body m.ui m.ui.counter c.args.view c.args.pos ev ep _ _ out lt)
+    st
+
+pub returns-clause-stands : goal.returns-clause-stands
+returns-clause-stands c = λ s d e m st is ev ep eu ed er next.
+    let kept = c.is_kept.ensures.0 c.if-not-is_kept.false in
+    let t = c.args.self.now in
+    taken_by s e d (stamped.Prepare m) is c.args.ui.now c.from.result eu c.from.ensures t c.keep_slot.new.self (c.keep_slot.ensures.shape ∙ c.count_vote.ensures.shape) t.fronts_len c.requires.host next
+    (ap (λ v. v.items) (c.keep_slot.ensures.fronts ∙ c.count_vote.ensures.fronts))
+    (λ i lt. prepare_slot-kept m c.args.view c.args.pos i ev ep c.args.ui.now c.args.digest c.args.request _ _ _ (ap (λ v. slice_get v.items i) c.count_vote.ensures.slots) eu ed er kept.0
+    (c.keep_slot.ensures.slots i (subst (λ (x : Shape). i < span x) (sym c.count_vote.ensures.shape) lt)))
+    (λ i h lt of. vote-kept h m.view m.pos i m.body m.ui m.ui.counter c.args.view c.args.pos ev ep c.args.ui.now c.args.digest c.args.ui.now.counter _ _ eu ed (ap (λ u. u.counter) eu) kept.0
+    (ap (λ v. kept_in v.items i h) c.keep_slot.ensures.votes ∙ c.count_vote.ensures.votes i h lt of))
+    st

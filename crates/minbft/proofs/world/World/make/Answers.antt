@@ -1,0 +1,17 @@
+use Rattle.std.proofs.Common.{sym, refl}
+use Rattle.minbft.specs.Reports.{refusals}
+use Rattle.minbft.proofs.WorldLaws.{nothing_asked}
+use Rattle.minbft.proofs.world.World.make.Goals as goal
+
+pub returns-clause-stands : goal.returns-clause-stands
+unfolding refusals
+returns-clause-stands c = λ s e f. record {
+  shape = sym e;
+  pens = c.in_ok-pens.ensures.pens s e f;
+  asked = λ k lt. rw c.in_ok-none_asked.ensures (nothing_asked _ k);
+  pool = c.new.ensures.items;
+  hosts = c.in_ok-hosts.ensures.stands s e f;
+  line = c.new-2.ensures.items;
+  refused = c.new-3.ensures.items;
+  events = refl;
+}

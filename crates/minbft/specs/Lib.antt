@@ -1,0 +1,12 @@
+pub mod Store
+pub mod World
+pub mod Hosts
+pub mod Sound
+pub mod Represents
+pub mod Reports
+pub mod StoreTables
+pub mod Refusals
+pub mod Halting
+pub mod Due
+pub mod WorldTables
+pub mod Program
