@@ -1,16 +1,15 @@
 -- A field that is read is the field that was written, and what was written is read again.
-use Rattle.std.proofs.Common.{◌≡◌, ℕ, zero, suc, ◌+◌, ◌-◌, ◌%◌, ◌^◌, ◌<◌, ◌≤◌, Bool, true, false, cond, ltb, leb, ◌&&◌, List, [], ◌∷◌, ◌++◌, length, get_or, take, drop, Result, Ok, Err, refl, sym, ap, subst, ◌∙◌, append_assoc, arith, inl, inr, add-zero}
-use Rattle.std.specs.Int.{Width, w8, w16, w64, byte_len, from_be_bytes, to_be_bytes}
+use Rattle.std.proofs.Common.{◌≡◌, ℕ, zero, suc, ◌+◌, ◌-◌, ◌%◌, ◌^◌, ◌<◌, ◌≤◌, Bool, true, false, cond, ltb, leb, eqb, ◌&&◌, List, [], ◌∷◌, ◌++◌, length, map, get_or, take, drop, Option, Some, None, Result, Ok, Err, refl, sym, ap, subst, ◌∙◌, append_assoc, arith, inl, inr, add-zero, lit<, lit≤}
+use Rattle.std.specs.Prelude.{IfSome}
+use Rattle.std.specs.Int.{Width, w8, w16, w32, w64, byte_len, from_be_bytes, to_be_bytes}
 use Rattle.std.specs.List.{flat_map, AllByRecursion}
-use Rattle.std.proofs.lemmas.Bool.{cases_lt, ltb-false, le-ltb, leb-true, le-leb}
-use Rattle.std.proofs.lemmas.List.{take_at, drop_at, take-append-drop, length-append, length-take, get_or-drop, get_or-take, get_or_past}
+use Rattle.std.proofs.lemmas.Bool.{cases_lt, ltb-false, le-ltb, leb-true, le-leb, eqb-true, eq-eqb}
+use Rattle.std.proofs.lemmas.List.{take_at, drop_at, take-append-drop, append-nil, length-append, length-take, get_or-drop, get_or-take, get_or_past}
 use Rattle.std.proofs.lemmas.List.Concat.{flat_map-cons}
-use Rattle.std.proofs.lemmas.Nat.{be_bytes_2, be_bytes_8, from_be_bytes-to_be_bytes_2, from_be_bytes-to_be_bytes_8}
-use Rattle.mb_base.specs.Spelling.{number, text16, list16}
-use Rattle.mb_base.specs.Reading.{◌>>=◌, Cursor, cursor, onward, Reads, bytes_at, number_at, number_in, text16_at, pair_at, then_at, map_at, repeat_at, list16_at}
-
-abbrev pub IsBytes : List ℕ → Type 0
-IsBytes bytes = (i : ℕ) → get_or bytes i 0 < 256
+use Rattle.std.proofs.lemmas.Nat.{be_bytes_2, be_bytes_4, be_bytes_8, from_be_bytes-to_be_bytes_2, from_be_bytes-to_be_bytes_4, from_be_bytes-to_be_bytes_8}
+use Rattle.mb_base.specs.Spelling.{number, text, text16, listed, optional, Rises}
+pub use Rattle.mb_base.specs.Spelling.{IsBytes}
+use Rattle.mb_base.specs.Reading.{◌>>=◌, Cursor, cursor, onward, Reads, bytes_at, number_at, number_in, checked_at, multiple_in, is_other, number_without, text_in, text16_at, pair_at, then_at, map_at, nothing_at, optional_at, repeat_at, list_in, rising_at}
 
 pub IsBytes-drop : (n : ℕ) (bytes : List ℕ) → IsBytes bytes → IsBytes (drop n bytes)
 IsBytes-drop n bytes h i = rw get_or-drop (h (n + i))
@@ -66,6 +65,18 @@ iff_field f tf P Q to from hf = record {
   takes = λ s x t fits e. let p = hf.takes s x t fits e in (p.0, to x p.1);
   again = λ x at rest h. hf.again x at rest (from x h);
 }
+
+-- what fits, and its bytes, said another way
+pub like_field : {A : Type 0} (f : Cursor → Reads A) (tf tg : A → List ℕ) (P Q : A → Type 0) → ((x : A) → P x → Q x) → ((x : A) → Q x → P x) → ((x : A) → P x → tf x ≡ tg x) → IsField f tf P → IsField f tg Q
+like_field f tf tg P Q to from same hf = record {
+  takes = λ s x t fits e. let p = hf.takes s x t fits e in (subst (λ (u : List ℕ). Takes s u t) (same x p.1) p.0, to x p.1);
+  again = λ x at rest h. subst (λ (u : List ℕ). f (cursor at (u ++ rest)) ≡ Ok (x, cursor (at + length u) rest)) (same x (from x h)) (hf.again x at rest (from x h));
+}
+
+-- one of two, by a test that was made
+pub cond_field : {A : Type 0} (b : Bool) (f g : Cursor → Reads A) (tf : A → List ℕ) (P : A → Type 0) → (b ≡ true → IsField f tf P) → (b ≡ false → IsField g tf P) → IsField (cond b f g) tf P
+cond_field true f g tf P first second = first refl
+cond_field false f g tf P first second = second refl
 
 -- different values that fit are spelled differently
 pub field_injective : {A : Type 0} (f : Cursor → Reads A) (tf : A → List ℕ) (P : A → Type 0) → IsField f tf P → (x y : A) → P x → P y → tf x ≡ tf y → x ≡ y
@@ -223,6 +234,14 @@ wide8 = record {
   below = λ bytes fits. omega (arith, fits 0);
 }
 
+pub wide32 : IsWide w32 (2 ^ 32)
+wide32 = record {
+  len = λ n. refl;
+  back = λ bytes len fits. be_bytes_4 bytes _ len fits refl;
+  again = λ n lt. from_be_bytes-to_be_bytes_4 n lt;
+  below = λ bytes fits. omega (arith, fits 0, fits 1, fits 2, fits 3);
+}
+
 -- a number from low up to high
 pub ranged_field : (w : Width) (limit low high : ℕ) → high < limit → IsWide w limit → IsField (number_in w low high) (number w) (λ n. (low ≤ n) × (n ≤ high))
 unfolding number_in
@@ -247,24 +266,121 @@ within_field w limit low high some le wide =
 pub below_field : (w : Width) (limit high : ℕ) → 1 ≤ high → high ≤ limit → IsWide w limit → IsField (number_in w 0 (high - 1)) (number w) (λ n. n < high)
 below_field w limit high some le wide = iff_field _ _ _ _ (λ n h. h.1) (λ n h. (omega arith, h)) (within_field w limit 0 high some le wide)
 
--- a length of at most `most`, and that many bytes
-pub text16_field : (most : ℕ) → most < 2 ^ 16 → IsField (text16_at most) text16 (λ x. length x ≤ most)
-unfolding text16_at
-text16_field most lt =
-    let field = ranged_field w16 (2 ^ 16) 0 most lt wide16 in
+-- what passes the test
+pub checked_field : {A : Type 0} (test : A → Bool) (f : Cursor → Reads A) (tf : A → List ℕ) (P : A → Type 0) → IsField f tf P → IsField (checked_at test f) tf (λ x. P x × (test x ≡ true))
+unfolding checked_at
+checked_field {A} test f tf P hf = record {
+  takes = λ s x t fits e.
+      let a = bind_ok (f s) (λ v. cond (test v.0) (Ok v) (Err s.at)) (x, t) e in
+      let g = allow_ok (test a.0.0) s.at a.0 (x, t) a.2 in
+      let p = hf.takes s a.0.0 a.0.1 fits a.1 in
+      subst (λ (y : A × Cursor). Takes s (tf y.0) y.1 × (P y.0 × (test y.0 ≡ true))) g.1 (p.0, (p.1, g.0));
+  again = λ x at rest h. rw (hf.again x at rest h.0, h.1) refl;
+}
+
+-- a number from low up to below high that is a multiple of k
+pub multiple_field : (k low high : ℕ) → 1 ≤ high → high ≤ 2 ^ 64 → IsField (multiple_in k low (high - 1)) (number w64) (λ n. ((low ≤ n) × (n < high)) × (n % k ≡ 0))
+unfolding multiple_in
+multiple_field k low high some le =
+    iff_field _ _ _ _ (λ n h. (h.0, eqb-true (n % k) 0 h.1)) (λ n h. (h.0, eq-eqb (n % k) 0 h.1)) (
+    checked_field (λ n. eqb (n % k) 0) _ _ _ (within_field w64 (2 ^ 64) low high some le wide64))
+
+-- a number of one byte from low up to below high, and another than the one that is left out
+pub without_field : (left_out : Option ℕ) (low high : ℕ) → 1 ≤ high → high ≤ 2 ^ 8 → IsField (number_without left_out low (high - 1)) (number w8) (λ n. ((low ≤ n) × (n < high)) × (is_other left_out n ≡ true))
+unfolding number_without
+without_field left_out low high some le = checked_field (is_other left_out) _ _ _ (within_field w8 (2 ^ 8) low high some le wide8)
+
+-- nothing, which stands for one value
+pub nothing_field : {A : Type 0} (x : A) → IsField (nothing_at x) (λ y. []) (λ y. x ≡ y)
+nothing_field {A} x = record {
+  takes = λ s y t fits e. subst (λ (v : A × Cursor). Takes s [] v.1 × (x ≡ v.0)) (ok_is (x, s) (y, t) e) (record { parts = refl; place = omega arith; rest_fits = fits }, refl);
+  again = λ y at rest h. rw add-zero (ap (λ (v : A). Ok (v, cursor at rest)) h);
+}
+
+-- a length from low up to high, and that many bytes
+pub text_field : (w : Width) (limit low high : ℕ) → high < limit → IsWide w limit → IsField (text_in w low high) (text w) (λ x. (low ≤ length x) × (length x ≤ high))
+unfolding text_in
+text_field w limit low high lt wide =
+    let field = ranged_field w limit low high lt wide in
     record {
       takes = λ s x t fits e.
-          let a = bind_ok (number_in w16 0 most s) (λ len. bytes_at len.0 len.1) (x, t) e in
+          let a = bind_ok (number_in w low high s) (λ len. bytes_at len.0 len.1) (x, t) e in
           let p = field.takes s a.0.0 a.0.1 fits a.1 in
           let q = (bytes_field a.0.0).takes a.0.1 x t p.0.rest_fits a.2 in
-          let both = Takes-then s (number w16 a.0.0) a.0.1 x t p.0 q.0 in
-          (subst (λ (k : ℕ). Takes s (number w16 k ++ x) t) (sym q.1) both, omega (arith, q.1, p.1.1));
+          let both = Takes-then s (number w a.0.0) a.0.1 x t p.0 q.0 in
+          (subst (λ (k : ℕ). Takes s (number w k ++ x) t) (sym q.1) both, (omega (arith, q.1, p.1.0), omega (arith, q.1, p.1.1)));
       again = λ x at rest h.
-          let regrouped : (number w16 (length x) ++ x) ++ rest ≡ number w16 (length x) ++ (x ++ rest) = append_assoc (number w16 (length x)) x rest in
-          let place : (at + length (number w16 (length x))) + length x ≡ at + length (number w16 (length x) ++ x) = omega (arith, length-append (number w16 (length x)) x) in
-          ap (λ (r : List ℕ). text16_at most (cursor at r)) regrouped
-          ∙ rw (field.again (length x) at (x ++ rest) (omega arith, h), (bytes_field (length x)).again x (at + length (number w16 (length x))) rest refl) (ap (λ (k : ℕ). Ok (x, cursor k rest)) place);
+          let regrouped : (number w (length x) ++ x) ++ rest ≡ number w (length x) ++ (x ++ rest) = append_assoc (number w (length x)) x rest in
+          let place : (at + length (number w (length x))) + length x ≡ at + length (number w (length x) ++ x) = omega (arith, length-append (number w (length x)) x) in
+          ap (λ (r : List ℕ). text_in w low high (cursor at r)) regrouped
+          ∙ rw (field.again (length x) at (x ++ rest) h, (bytes_field (length x)).again x (at + length (number w (length x))) rest refl) (ap (λ (k : ℕ). Ok (x, cursor k rest)) place);
     }
+
+-- a length of at most `most`, and that many bytes
+pub text16_field : (most : ℕ) → most < 2 ^ 16 → IsField (text16_at most) text16 (λ x. length x ≤ most)
+text16_field most lt = iff_field _ _ _ _ (λ x h. h.1) (λ x h. (omega arith, h)) (text_field w16 (2 ^ 16) 0 most lt wide16)
+
+-- nothing, or a part
+module _ {A : Type 0} (f : Cursor → Reads A) (tf : A → List ℕ) (P : A → Type 0) (hf : IsField f tf P) where
+  abbrev flag_of : Option A → ℕ
+  flag_of None = 0
+  flag_of (Some x) = 1
+
+  abbrev part : Option A → List ℕ
+  part None = []
+  part (Some x) = tf x
+
+  abbrev Flagged : ℕ → Option A → Type 0
+  Flagged k x = (flag_of x ≡ k) × IfSome x P
+
+  abbrev behind_at : ℕ → Cursor → Reads (Option A)
+  behind_at k c = cond (eqb k 0) (nothing_at None c) (map_at Some f c)
+
+  small : (x : Option A) → (0 ≤ flag_of x) × (flag_of x ≤ 1)
+  small None = (lit≤ tt, lit≤ tt)
+  small (Some x) = (lit≤ tt, lit≤ tt)
+
+  spelled : (x : Option A) → number w8 (flag_of x) ++ part x ≡ optional tf x
+  spelled None = append-nil (number w8 0)
+  spelled (Some x) = refl
+
+  none_of : (x : Option A) → Flagged 0 x → None ≡ x
+  none_of None h = refl
+  none_of (Some x) h = absurd (omega (arith, h.0))
+
+  some_of : (x : Option A) → Flagged 1 x → (y : A) × (Some y ≡ x) × P y
+  some_of None h = absurd (omega (arith, h.0))
+  some_of (Some y) h = (y, refl, h.1)
+
+  behind_field : (k : ℕ) → k ≤ 1 → IsField (behind_at k) part (Flagged k)
+  behind_field zero le = record {
+    takes = λ s x t fits e. subst (λ (v : Option A × Cursor). Takes s (part v.0) v.1 × Flagged 0 v.0) (ok_is (None, s) (x, t) e) (record { parts = refl; place = omega arith; rest_fits = fits }, (refl, tt));
+    again = λ x at rest h.
+        let e = none_of x h in
+        subst (λ (v : Option A). behind_at 0 (cursor at (part v ++ rest)) ≡ Ok (v, cursor (at + length (part v)) rest)) e (rw add-zero refl);
+  }
+  behind_field (suc zero) le = made_field Some f tf P part (Flagged 1) (λ x h. refl) (λ x h. (refl, h)) some_of hf
+  behind_field (suc (suc k)) le = absurd (omega arith)
+
+  pub optional_field : IsField (optional_at f) (optional tf) (λ x. IfSome x P)
+  unfolding optional_at
+  optional_field =
+      let flag = ranged_field w8 (2 ^ 8) 0 1 (lit< tt) wide8 in
+      record {
+        takes = λ s x t fits e.
+            let a = bind_ok (number_in w8 0 1 s) (λ v. behind_at v.0 v.1) (x, t) e in
+            let p = flag.takes s a.0.0 a.0.1 fits a.1 in
+            let q = (behind_field a.0.0 p.1.1).takes a.0.1 x t p.0.rest_fits a.2 in
+            let both = Takes-then s (number w8 a.0.0) a.0.1 (part x) t p.0 q.0 in
+            let text : number w8 a.0.0 ++ part x ≡ optional tf x = ap (λ (k : ℕ). number w8 k ++ part x) (sym q.1.0) ∙ spelled x in
+            (subst (λ (v : List ℕ). Takes s v t) text both, q.1.1);
+        again = λ x at rest h.
+            let k = flag_of x in
+            let regrouped : optional tf x ++ rest ≡ number w8 k ++ (part x ++ rest) = ap (λ (u : List ℕ). u ++ rest) (sym (spelled x)) ∙ append_assoc (number w8 k) (part x) rest in
+            let place : (at + length (number w8 k)) + length (part x) ≡ at + length (optional tf x) = omega (arith, length-append (number w8 k) (part x), ap length (spelled x)) in
+            ap (λ (r : List ℕ). optional_at f (cursor at r)) regrouped
+            ∙ rw (flag.again k at (part x ++ rest) (small x), (behind_field k (small x).1).again x (at + length (number w8 k)) rest (refl, h)) (ap (λ (n : ℕ). Ok (x, cursor n rest)) place);
+      }
 
 -- n times the same
 pub repeat_takes : {A : Type 0} (f : Cursor → Reads A) (tf : A → List ℕ) (P : A → Type 0) → IsField f tf P
@@ -290,22 +406,64 @@ repeat_again f tf P hf (x ∷ xs) at rest fits =
     ap (λ (r : List ℕ). repeat_at f (suc (length xs)) (cursor at r)) regrouped
     ∙ rw (hf.again x at (flat_map tf xs ++ rest) fits.0, repeat_again f tf P hf xs (at + length (tf x)) rest fits.1) (ap (λ (k : ℕ). Ok (x ∷ xs, cursor k rest)) place)
 
--- a count of at most `most`, and that many
-pub list16_field : {A : Type 0} (most : ℕ) → most < 2 ^ 16 → (f : Cursor → Reads A) (tf : A → List ℕ) (P : A → Type 0) → IsField f tf P → IsField (list16_at most f) (list16 tf) (λ xs. (length xs ≤ most) × AllByRecursion P xs)
-unfolding list16_at
-list16_field {A} most lt f tf P hf =
-    let field = ranged_field w16 (2 ^ 16) 0 most lt wide16 in
+-- n times the same
+pub repeat_field : {A : Type 0} (n : ℕ) (f : Cursor → Reads A) (tf : A → List ℕ) (P : A → Type 0) → IsField f tf P → IsField (repeat_at f n) (flat_map tf) (λ xs. (length xs ≡ n) × AllByRecursion P xs)
+repeat_field {A} n f tf P hf = record {
+  takes = λ s xs t fits e. let q = repeat_takes f tf P hf n s xs t fits e in (q.0, (q.1, q.2));
+  again = λ xs at rest h. subst (λ (k : ℕ). repeat_at f k (cursor at (flat_map tf xs ++ rest)) ≡ Ok (xs, cursor (at + length (flat_map tf xs)) rest)) h.0 (repeat_again f tf P hf xs at rest h.1);
+}
+
+-- a count from low up to high, and that many
+pub list_field : {A : Type 0} (w : Width) (limit low high : ℕ) → high < limit → IsWide w limit → (f : Cursor → Reads A) (tf : A → List ℕ) (P : A → Type 0) → IsField f tf P
+    → IsField (list_in w low high f) (listed w tf) (λ xs. ((low ≤ length xs) × (length xs ≤ high)) × AllByRecursion P xs)
+unfolding list_in
+list_field {A} w limit low high lt wide f tf P hf =
+    let field = ranged_field w limit low high lt wide in
     record {
       takes = λ s xs t fits e.
-          let a = bind_ok (number_in w16 0 most s) (λ n. repeat_at f n.0 n.1) (xs, t) e in
+          let a = bind_ok (number_in w low high s) (λ n. repeat_at f n.0 n.1) (xs, t) e in
           let p = field.takes s a.0.0 a.0.1 fits a.1 in
           let q = repeat_takes f tf P hf a.0.0 a.0.1 xs t p.0.rest_fits a.2 in
-          let both = Takes-then s (number w16 a.0.0) a.0.1 (flat_map tf xs) t p.0 q.0 in
-          (subst (λ (k : ℕ). Takes s (number w16 k ++ flat_map tf xs) t) (sym q.1) both, (omega (arith, q.1, p.1.1), q.2));
+          let both = Takes-then s (number w a.0.0) a.0.1 (flat_map tf xs) t p.0 q.0 in
+          (subst (λ (k : ℕ). Takes s (number w k ++ flat_map tf xs) t) (sym q.1) both, ((omega (arith, q.1, p.1.0), omega (arith, q.1, p.1.1)), q.2));
       again = λ xs at rest h.
-          let count = number w16 (length xs) in
+          let count = number w (length xs) in
           let regrouped : (count ++ flat_map tf xs) ++ rest ≡ count ++ (flat_map tf xs ++ rest) = append_assoc count (flat_map tf xs) rest in
           let place : (at + length count) + length (flat_map tf xs) ≡ at + length (count ++ flat_map tf xs) = omega (arith, length-append count (flat_map tf xs)) in
-          ap (λ (r : List ℕ). list16_at most f (cursor at r)) regrouped
-          ∙ rw (field.again (length xs) at (flat_map tf xs ++ rest) (omega arith, h.0), repeat_again f tf P hf xs (at + length count) rest h.1) (ap (λ (k : ℕ). Ok (xs, cursor k rest)) place);
+          ap (λ (r : List ℕ). list_in w low high f (cursor at r)) regrouped
+          ∙ rw (field.again (length xs) at (flat_map tf xs ++ rest) h.0, repeat_again f tf P hf xs (at + length count) rest h.1) (ap (λ (k : ℕ). Ok (xs, cursor k rest)) place);
     }
+
+-- n times the same, each with a number above that of the one before
+module _ {A : Type 0} (f : ℕ → Cursor → Reads A) (tf : A → List ℕ) (number_of : A → ℕ) (P : A → Type 0) (hf : (least : ℕ) → IsField (f least) tf (λ x. P x × (least ≤ number_of x))) where
+  abbrev RisesHere : ℕ → ℕ → List A → Type 0
+  RisesHere n least xs = (length xs ≡ n) × (Rises least (map number_of xs) × AllByRecursion P xs)
+
+  rising_takes : (n least : ℕ) (s : Cursor) (xs : List A) (t : Cursor) → IsBytes s.rest → rising_at f number_of n least s ≡ Ok (xs, t) → Takes s (flat_map tf xs) t × RisesHere n least xs
+  unfolding rising_at
+  rising_takes zero least s xs t fits e =
+      subst (λ (y : List A × Cursor). Takes s (flat_map tf y.0) y.1 × RisesHere 0 least y.0) (ok_is ([], s) (xs, t) e) (record { parts = refl; place = omega arith; rest_fits = fits }, (refl, (tt, tt)))
+  rising_takes (suc n) least s xs t fits e =
+      let a = bind_ok (f least s) (λ first. rising_at f number_of n (number_of first.0 + 1) first.1 >>= λ others. Ok (first.0 ∷ others.0, others.1)) (xs, t) e in
+      let b = bind_ok (rising_at f number_of n (number_of a.0.0 + 1) a.0.1) (λ others. Ok (a.0.0 ∷ others.0, others.1)) (xs, t) a.2 in
+      let first = (hf least).takes s a.0.0 a.0.1 fits a.1 in
+      let second = rising_takes n (number_of a.0.0 + 1) a.0.1 b.0.0 b.0.1 first.0.rest_fits b.1 in
+      let both = Takes-then s (tf a.0.0) a.0.1 (flat_map tf b.0.0) b.0.1 first.0 second.0 in
+      subst (λ (y : List A × Cursor). Takes s (flat_map tf y.0) y.1 × RisesHere (suc n) least y.0) (ok_is (a.0.0 ∷ b.0.0, b.0.1) (xs, t) b.2)
+      (rw flat_map-cons both, (ap suc second.1.0, ((first.1.1, second.1.1.0), (first.1.0, second.1.1.1))))
+
+  rising_again : (least : ℕ) (xs : List A) (at : ℕ) (rest : List ℕ) → Rises least (map number_of xs) → AllByRecursion P xs
+      → rising_at f number_of (length xs) least (cursor at (flat_map tf xs ++ rest)) ≡ Ok (xs, cursor (at + length (flat_map tf xs)) rest)
+  unfolding rising_at
+  rising_again least [] at rest rises fits = rw add-zero refl
+  rising_again least (x ∷ xs) at rest rises fits =
+      let regrouped : flat_map tf (x ∷ xs) ++ rest ≡ tf x ++ (flat_map tf xs ++ rest) = ap (λ (r : List ℕ). r ++ rest) (flat_map-cons tf x xs) ∙ append_assoc (tf x) (flat_map tf xs) rest in
+      let place : (at + length (tf x)) + length (flat_map tf xs) ≡ at + length (flat_map tf (x ∷ xs)) = omega (arith, length-append (tf x) (flat_map tf xs), ap length (flat_map-cons tf x xs)) in
+      ap (λ (r : List ℕ). rising_at f number_of (suc (length xs)) least (cursor at r)) regrouped
+      ∙ rw ((hf least).again x at (flat_map tf xs ++ rest) (fits.0, rises.0), rising_again (number_of x + 1) xs (at + length (tf x)) rest rises.1 fits.1) (ap (λ (k : ℕ). Ok (x ∷ xs, cursor k rest)) place)
+
+  pub rising_field : (n least : ℕ) → IsField (rising_at f number_of n least) (flat_map tf) (RisesHere n least)
+  rising_field n least = record {
+    takes = λ s xs t fits e. rising_takes n least s xs t fits e;
+    again = λ xs at rest h. subst (λ (k : ℕ). rising_at f number_of k least (cursor at (flat_map tf xs ++ rest)) ≡ Ok (xs, cursor (at + length (flat_map tf xs)) rest)) h.0 (rising_again least xs at rest h.1.0 h.1.1);
+  }

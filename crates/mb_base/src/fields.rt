@@ -1,6 +1,7 @@
 //! Reading big-endian fields, one after the other. The offset of the first byte of a field that is short is its error.
 
 ghost use Rattle.std.specs.Prelude.{◌≡◌, ◌≤◌, ◌==◌, length, IfOk};
+ghost use Rattle.mb_base.specs.Spelling.{IsBytes};
 
 /// A byte slice and a place in it. All numbers are big-endian.
 #[derive(Clone, Copy)]
@@ -8,6 +9,7 @@ pub struct Fields<'a> {
     bytes: &'a [u8],
     place: usize,
     ghost within: { place ≤ length bytes.now },
+    ghost in_range: { IsBytes bytes.now },
 }
 
 /// Fewer bytes are left than the field has.

@@ -5,14 +5,14 @@ use Rattle.std.specs.List.{range_with_len}
 use Rattle.std.specs.Option.{option_or}
 use Rattle.std.proofs.lemmas.Bool.{and_parts, not-true, ltb-true, leb-true}
 use Rattle.mb_base.specs.Shapes.{quorum, client_count}
-use Rattle.mb_msg.specs.declared.parts.Request.{Request}
+use Rattle.mb_parts.specs.declared.request.Request.{Request}
 use Rattle.mb_model.specs.declared.known.KnownSlot.{KnownSlot}
-use Rattle.mb_model.specs.History.{History, Self, view_of, exec_of, last_of, is_primary}
+use Rattle.mb_model.specs.History.{History, Identity, view_of, exec_of, last_of, is_primary}
 use Rattle.mb_model.specs.Slots.{slot_vote, in_window, matching, slot_at, pending, if_above}
 use Rattle.mb_model.specs.Rules.{Rule, Commit, Execute, Prepare, has_room, next_position, with_request, commit_enabled, is_committed, if_committed, execute_enabled, greatest_in_slots, window, unordered, prepare_enabled, next_rule}
 use Rattle.mb_model.proofs.Options.{option_cases, or_some, if_some, map_some}
 
-module _ {S : Type 0} (self : Self S) where
+module _ {S : Type 0} (self : Identity S) where
   -- A backup has room, and the slot and the request behind its last vote.
   pub record MayCommit (p : ℕ) (k : KnownSlot) (r : Request) (d : History) : Type 0 where
     pub place : p ≡ last_of d + 1

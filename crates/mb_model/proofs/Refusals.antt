@@ -8,13 +8,14 @@ use Rattle.mb_base.specs.declared.names.Ui.{Ui}
 use Rattle.mb_usig.specs.Tags.{is_certified}
 use Rattle.mb_msg.specs.declared.event.Outcome.{Outcome}
 use Rattle.mb_msg.specs.declared.event.Outcome.TheVariants as outcome
-use Rattle.mb_msg.specs.declared.message.Stamped.{Stamped as StampedMessage}
-use Rattle.mb_msg.specs.Bares.{bare_bytes, bare_of, ui_of}
-use Rattle.mb_model.specs.History.{History, Self, last_counter}
+use Rattle.mb_msg.specs.declared.stamped.Stamped.{Stamped as StampedMessage}
+use Rattle.mb_parts.specs.Bares.{bare_bytes}
+use Rattle.mb_msg.specs.Stamps.{bare_of, ui_of}
+use Rattle.mb_model.specs.History.{History, Identity, last_counter}
 use Rattle.mb_model.specs.Checks.{next_of, is_bad_ui, is_own_future, is_stale, is_ahead, identifier_refusal, kind_refusal, stamped_refusal}
 use Rattle.mb_model.proofs.Options.{or_none, then_none}
 
-module _ {S : Type 0} (self : Self S) where
+module _ {S : Type 0} (self : Identity S) where
   -- The certificate is right, an own message was reached, and the counter is the next one of its host.
   pub record PassesIdentifier (d : History) (m : StampedMessage) : Type 0 where
     pub certified : is_certified self.secret (ui_of m).host (ui_of m).counter (bare_bytes (bare_of m)) (ui_of m).cert ≡ true

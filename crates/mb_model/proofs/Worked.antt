@@ -4,19 +4,24 @@ use Rattle.std.specs.Prelude.{replicate}
 use Rattle.mb_base.specs.Shapes.{Bytes}
 use Rattle.mb_base.specs.declared.shape.Shape.{Shape}
 use Rattle.mb_usig.specs.Tags.{certificate, request_tag}
-use Rattle.mb_msg.specs.declared.parts.Request.{Request}
+use Rattle.mb_parts.specs.declared.request.Request.{Request}
 use Rattle.mb_msg.specs.declared.event.Outcome.TheVariants as outcome
 use Rattle.mb_msg.specs.declared.message.Body.{Body}
 use Rattle.mb_msg.specs.declared.message.Body.TheVariants as body
 use Rattle.mb_msg.specs.declared.message.Message.TheVariants as message
-use Rattle.mb_msg.specs.declared.message.Stamped.{Stamped as StampedMessage}
-use Rattle.mb_msg.specs.declared.message.Stamped.TheVariants as stamped
-use Rattle.mb_msg.specs.Bares.{bare_bytes, bare_of, request_digest}
-use Rattle.mb_msg.specs.Spelling.{with_ui, as_message}
+use Rattle.mb_msg.specs.declared.normal.Checkpoint.{Checkpoint}
+use Rattle.mb_msg.specs.declared.normal.Reply.{Reply}
+use Rattle.mb_msg.specs.declared.normal.Stop.{Stop}
+use Rattle.mb_msg.specs.declared.stamped.Stamped.{Stamped as StampedMessage}
+use Rattle.mb_msg.specs.declared.stamped.Stamped.TheVariants as stamped
+use Rattle.mb_parts.specs.Bares.{bare_bytes, request_digest}
+use Rattle.mb_msg.specs.Stamps.{bare_of, with_ui, as_message}
 use Rattle.mb_model.specs.Service.{Machine}
-use Rattle.mb_model.specs.History.{Entry, Accepted, Stamped, Executed, History, Self}
+use Rattle.mb_model.specs.History.{Entry, Accepted, Stamped, Executed, History, Identity}
 use Rattle.mb_model.specs.Checks.{stamped_refusal, request_refusal}
 use Rattle.mb_model.specs.Rules.{Commit, Execute, Prepare, commit_enabled, execute_enabled, prepare_enabled}
+use Rattle.mb_model.specs.Steps.{begin}
+use Rattle.mb_model.specs.Transition.{answer, give}
 use Rattle.mb_model.proofs.OnLiterals.{steps_on_literals}
 
 -- ---- a system of three hosts and two clients, with k = 4: positions 1 to 8 are in the window
@@ -31,7 +36,7 @@ keeps_last = record { after = λ state op. op; result = λ state op. state }
 abbrev shape : Shape
 shape = record { f = 1; k = 4; clients = 2; faults_in = (omega arith, omega arith); interval_in = (omega arith, omega arith); clients_in = (omega arith, omega arith) }
 
-abbrev host : ℕ → Self Bytes
+abbrev host : ℕ → Identity Bytes
 host h = record { shape = shape; host = h; secret = secret; machine = keeps_last; initial = [] }
 
 -- client 0 asks with this number
@@ -234,3 +239,14 @@ ordered_already = refl
 orders_greater_number : prepare_enabled (host 0) (Accepted (message.Request (asked 3)) ∷ Stamped (bare_prepare 0 1 0 1 (body.Whole (asked 2))) ∷ []) ≡ Some (Prepare 2 (asked 3))
 unfolding steps_on_literals
 orders_greater_number = refl
+
+-- ---- a kind that hosts don't act on yet is told, whatever the message says and whatever came before
+
+unbuilt_before_certificate : (m : Checkpoint) (d : History) → give (host 1) (message.Checkpoint m) (begin d) ≡ answer (outcome.Unbuilt 5) (begin d)
+unbuilt_before_certificate m d = refl
+
+last_kind_is_unbuilt : (m : Stop) (d : History) → give (host 1) (message.Stop m) (begin d) ≡ answer (outcome.Unbuilt 16) (begin d)
+last_kind_is_unbuilt m d = refl
+
+reply_is_idle : (m : Reply) (d : History) → give (host 1) (message.Reply m) (begin d) ≡ answer outcome.Idle (begin d)
+reply_is_idle m d = refl

@@ -5,23 +5,24 @@ use Rattle.std.specs.Option.{option_or}
 use Rattle.mb_base.specs.Shapes.{span}
 use Rattle.mb_base.specs.declared.names.Ui.{Ui}
 use Rattle.mb_usig.specs.Tags.{same_bytes, request_tag, is_certified}
-use Rattle.mb_msg.specs.declared.parts.Request.{Request}
+use Rattle.mb_parts.specs.declared.request.Request.{Request}
 use Rattle.mb_msg.specs.declared.event.Outcome.{Outcome}
 use Rattle.mb_msg.specs.declared.event.Outcome.TheVariants as outcome
 use Rattle.mb_msg.specs.declared.message.Body.{Body}
 use Rattle.mb_msg.specs.declared.message.Body.TheVariants.{Whole, Bare as Short}
-use Rattle.mb_msg.specs.declared.message.Stamped.{Stamped as StampedMessage}
-use Rattle.mb_msg.specs.declared.message.Stamped.TheVariants as stamped
-use Rattle.mb_msg.specs.Bares.{bare_bytes, bare_of, ui_of}
+use Rattle.mb_msg.specs.declared.stamped.Stamped.{Stamped as StampedMessage}
+use Rattle.mb_msg.specs.declared.stamped.Stamped.TheVariants as stamped
+use Rattle.mb_parts.specs.Bares.{bare_bytes}
+use Rattle.mb_msg.specs.Stamps.{bare_of, ui_of}
 use Rattle.mb_model.specs.Service.{reply_of}
-use Rattle.mb_model.specs.History.{History, Self, counter_of, last_counter, view_of, low_of, exec_of}
+use Rattle.mb_model.specs.History.{History, Identity, counter_of, last_counter, view_of, low_of, exec_of}
 use Rattle.mb_model.specs.Slots.{state_of, pending}
 
 -- the counter that is expected next of a host, as it is told
 abbrev pub next_of : History → ℕ → ℕ
 next_of d h = min (last_counter d h + 1) (2 ^ 64 - 1)
 
-module _ {S : Type 0} (self : Self S) where
+module _ {S : Type 0} (self : Identity S) where
   -- ---- stamped messages: identifier and counter
 
   -- the certificate is not that of these bare bytes under this counter
@@ -38,12 +39,15 @@ module _ {S : Type 0} (self : Self S) where
   abbrev pub is_ahead : History → Ui → Bool
   is_ahead d u = nat_lt (last_counter d u.host + 1) u.counter
 
+  -- by the counter
+  abbrev pub counter_refusal : History → Ui → Option Outcome
+  counter_refusal d u =
+      option_or (then_some (is_own_future d u) outcome.Idle)
+      (option_or (then_some (is_stale d u) (outcome.Stale (next_of d u.host)))
+      (then_some (is_ahead d u) (outcome.Ahead (next_of d u.host))))
+
   unfoldable pub identifier_refusal : History → StampedMessage → Option Outcome
-  identifier_refusal d m =
-      option_or (then_some (is_bad_ui m) outcome.BadUi)
-      (option_or (then_some (is_own_future d (ui_of m)) outcome.Idle)
-      (option_or (then_some (is_stale d (ui_of m)) (outcome.Stale (next_of d (ui_of m).host)))
-      (then_some (is_ahead d (ui_of m)) (outcome.Ahead (next_of d (ui_of m).host)))))
+  identifier_refusal d m = option_or (then_some (is_bad_ui m) outcome.BadUi) (counter_refusal d (ui_of m))
 
   -- ---- requests
 
@@ -69,9 +73,11 @@ module _ {S : Type 0} (self : Self S) where
       (option_or (then_some (nat_lt (low_of d + span self.shape) p) (outcome.BeyondWindow (low_of d)))
       (body_refusal d p body)))
 
+  -- of the kinds that are built only votes have more checks
   abbrev pub kind_refusal : History → StampedMessage → Option Outcome
   kind_refusal d (stamped.Prepare m) = vote_refusal d m.view m.pos m.body
   kind_refusal d (stamped.Commit m) = vote_refusal d m.view m.pos m.body
+  kind_refusal d _ = None
 
   unfoldable pub stamped_refusal : History → StampedMessage → Option Outcome
   stamped_refusal d m = option_or (identifier_refusal d m) (kind_refusal d m)
@@ -83,9 +89,12 @@ module _ {S : Type 0} (self : Self S) where
   not_above None r = false
   not_above (Some q) r = nat_le r.seq q.seq
 
-  unfoldable pub request_refusal : History → Request → Option Outcome
-  request_refusal d r =
-      option_or (then_some (is_badly_tagged r) outcome.BadTag)
-      (option_or (then_some (nat_lt r.seq (reply_of (state_of self d) r.client).seq) (outcome.Old (reply_of (state_of self d) r.client).seq))
+  -- by the number
+  abbrev pub number_refusal : History → Request → Option Outcome
+  number_refusal d r =
+      option_or (then_some (nat_lt r.seq (reply_of (state_of self d) r.client).seq) (outcome.Old (reply_of (state_of self d) r.client).seq))
       (option_or (then_some (r.seq == (reply_of (state_of self d) r.client).seq) outcome.Again)
-      (then_some (not_above (pending d r.client) r) outcome.Idle)))
+      (then_some (not_above (pending d r.client) r) outcome.Idle))
+
+  unfoldable pub request_refusal : History → Request → Option Outcome
+  request_refusal d r = option_or (then_some (is_badly_tagged r) outcome.BadTag) (number_refusal d r)

@@ -4,9 +4,9 @@ use Rattle.mb_base.specs.Shapes.{Bytes, primary}
 use Rattle.mb_base.specs.declared.shape.Shape.{Shape}
 use Rattle.mb_msg.specs.declared.event.Slot.{Slot}
 use Rattle.mb_msg.specs.declared.message.Message.{Message}
-use Rattle.mb_msg.specs.declared.message.Stamped.{Stamped as StampedMessage}
-use Rattle.mb_msg.specs.Bares.{Bare, Prepare, Commit, bare_of, ui_of}
-use Rattle.mb_msg.specs.Spelling.{as_stamped}
+use Rattle.mb_msg.specs.declared.stamped.Stamped.{Stamped as StampedMessage}
+use Rattle.mb_parts.specs.Bares.{Bare, Prepare, Commit}
+use Rattle.mb_msg.specs.Stamps.{bare_of, ui_of, as_stamped}
 use Rattle.mb_model.specs.Service.{Machine}
 
 pub data Entry : Type 0 where
@@ -18,7 +18,7 @@ abbrev pub History : Type 0
 History = List Entry
 
 -- which host this is, and what it was made with
-pub record Self (S : Type 0) : Type 0 where
+pub record Identity (S : Type 0) : Type 0 where
   pub shape : Shape
   pub host : ℕ
   pub secret : Bytes
@@ -74,6 +74,7 @@ unfoldable pub last_position : List Bare → ℕ
 last_position [] = 0
 last_position (Prepare view pos digest ∷ l) = pos
 last_position (Commit view pos counter cert digest ∷ l) = pos
+last_position (_ ∷ l) = last_position l
 
 -- the last position that this host voted for
 abbrev pub last_of : History → ℕ
@@ -93,7 +94,7 @@ exec_of [] = 0
 exec_of (Executed slot ∷ d) = slot.pos
 exec_of (_ ∷ d) = exec_of d
 
-module _ {S : Type 0} (self : Self S) where
+module _ {S : Type 0} (self : Identity S) where
   -- this host leads its view
   abbrev pub is_primary : History → Bool
   is_primary d = self.host == primary self.shape (view_of d)

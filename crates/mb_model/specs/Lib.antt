@@ -6,3 +6,11 @@ pub mod Steps
 pub mod Checks
 pub mod Rules
 pub mod Transition
+pub mod Quorums
+pub mod Verified
+pub mod Committed
+pub mod UsableLogs
+pub mod Plans
+pub mod Agreement
+pub mod ViewChangeRecord
+pub mod CarriedLogs

@@ -3,10 +3,10 @@ use Rattle.std.specs.Prelude.{ℕ, zero, suc, ◌+◌, ◌-◌, ◌*◌, ◌^◌
 use Rattle.std.specs.List.{range_with_len}
 use Rattle.std.specs.Option.{option_or}
 use Rattle.mb_base.specs.Shapes.{quorum, interval, client_count, span}
-use Rattle.mb_msg.specs.declared.parts.Request.{Request}
+use Rattle.mb_parts.specs.declared.request.Request.{Request}
 use Rattle.mb_msg.specs.declared.event.Slot.{Slot}
 use Rattle.mb_model.specs.Service.{is_fresh, reply_of}
-use Rattle.mb_model.specs.History.{Executed, History, Self, counter_of, view_of, low_of, exec_of, last_of, is_primary}
+use Rattle.mb_model.specs.History.{Executed, History, Identity, counter_of, view_of, low_of, exec_of, last_of, is_primary}
 use Rattle.mb_model.specs.declared.known.KnownSlot.{KnownSlot}
 use Rattle.mb_model.specs.Slots.{slot_vote, in_window, matching, slot_at, pending, if_above, state_of}
 use Rattle.mb_model.specs.Steps.{Progress, send, stamp, to_client, prepare, commit, reply}
@@ -17,7 +17,7 @@ pub data Rule : Type 0 where
   Execute : ℕ → Request → Rule
   Prepare : ℕ → Request → Rule
 
-module _ {S : Type 0} (self : Self S) where
+module _ {S : Type 0} (self : Identity S) where
   -- ---- room in the own log
 
   abbrev pub is_unspent : History → Bool
@@ -90,7 +90,7 @@ module _ {S : Type 0} (self : Self S) where
   abbrev pub with_slot : Slot → Progress → Progress
   with_slot slot x = record x { history = Executed slot ∷ x.history; executed = x.executed ++ slot ∷ [] }
 
-  -- a fresh request is with_reply
+  -- a fresh request is answered to its client
   abbrev pub with_reply : Slot → Progress → Progress
   with_reply slot x = if slot.fresh then send (to_client slot.request.client (reply self slot.request.client (reply_of (state_of self x.history) slot.request.client))) x else x
 
@@ -113,6 +113,6 @@ module _ {S : Type 0} (self : Self S) where
   run_rules zero x = x
   run_rules (suc n) x = if_enabled (next_rule x.history) x (λ y. run_rules n y)
 
--- more than any step takes
+-- a number of rounds that is meant to be large
 unfoldable pub enough : ℕ
 enough = 1000000

@@ -1,7 +1,7 @@
 -- The sequential service: what a list of requests does, one after the other.
 use Rattle.std.specs.Prelude.{ℕ, Bool, List, [], ◌∷◌, nat_lt, if◌then◌else◌, slice_get, replicate, slice_set, unwrap_or}
 use Rattle.mb_base.specs.Shapes.{Bytes}
-use Rattle.mb_msg.specs.declared.parts.Request.{Request}
+use Rattle.mb_parts.specs.declared.request.Request.{Request}
 use Rattle.mb_msg.specs.declared.event.Slot.{Slot}
 use Rattle.mb_model.specs.declared.known.LastReply.{LastReply}
 

@@ -2,20 +2,21 @@
 use Rattle.std.specs.Prelude.{ℕ, ◌+◌, Bool, ◌&&◌, [], ◌∷◌, nat_lt, nat_le, ◌==◌, Option, Some, None, if◌then◌else◌}
 use Rattle.mb_base.specs.Shapes.{span, host_count, client_count, tally}
 use Rattle.mb_base.specs.declared.names.Ui.{Ui}
-use Rattle.mb_msg.specs.declared.parts.Request.{Request}
+use Rattle.mb_parts.specs.declared.request.Request.{Request}
 use Rattle.mb_msg.specs.declared.message.Body.{Body}
 use Rattle.mb_msg.specs.declared.message.Body.TheVariants.{Whole, Bare as Short}
-use Rattle.mb_msg.specs.declared.message.Prepare.{Prepare}
+use Rattle.mb_msg.specs.declared.normal.Prepare.{Prepare}
 use Rattle.mb_msg.specs.declared.message.Message.TheVariants as message
-use Rattle.mb_msg.specs.declared.message.Stamped.{Stamped as StampedMessage}
-use Rattle.mb_msg.specs.declared.message.Stamped.TheVariants as stamped
+use Rattle.mb_msg.specs.declared.stamped.Stamped.{Stamped as StampedMessage}
+use Rattle.mb_msg.specs.declared.stamped.Stamped.TheVariants as stamped
 use Rattle.std.specs.Option.{option_or}
-use Rattle.mb_msg.specs.Bares.{request_bytes, body_digest}
+use Rattle.mb_parts.specs.Spelling.{request_bytes}
+use Rattle.mb_msg.specs.Bodies.{body_digest}
 use Rattle.mb_model.specs.Service.{Served, served, start}
 use Rattle.mb_model.specs.declared.known.Vote.{Vote}
 use Rattle.mb_model.specs.declared.known.KnownSlot.{KnownSlot}
 use Rattle.mb_model.specs.Votes.{is_vote}
-use Rattle.mb_model.specs.History.{Accepted, Executed, stamped_in, History, Self, view_of, low_of}
+use Rattle.mb_model.specs.History.{Accepted, Executed, stamped_in, History, Identity, view_of, low_of}
 
 -- the vote that agrees with a slot
 abbrev pub slot_vote : KnownSlot → Vote
@@ -38,8 +39,7 @@ slot_of_prepare m v p = if m.view == v && m.pos == p then Some (record {
 -- a PREPARE is the slot of its position
 abbrev pub slot_from : Option StampedMessage → ℕ → ℕ → Option KnownSlot
 slot_from (Some (stamped.Prepare m)) v p = slot_of_prepare m v p
-slot_from (Some (stamped.Commit m)) v p = None
-slot_from None v p = None
+slot_from _ v p = None
 
 abbrev pub vote_at : ℕ → ℕ → ℕ → ℕ → ℕ → Body Request → Ui → ℕ → Option Vote
 vote_at h v p view pos body ui counter = if view == v && (pos == p && ui.host == h) then Some (record { counter = counter; request = body_digest request_bytes body }) else None
@@ -48,9 +48,9 @@ vote_at h v p view pos body ui counter = if view == v && (pos == p && ui.host ==
 abbrev pub vote_from : Option StampedMessage → ℕ → ℕ → ℕ → Option Vote
 vote_from (Some (stamped.Prepare m)) h v p = vote_at h v p m.view m.pos m.body m.ui m.ui.counter
 vote_from (Some (stamped.Commit m)) h v p = vote_at h v p m.view m.pos m.body m.ui m.counter
-vote_from None h v p = None
+vote_from _ h v p = None
 
-module _ {S : Type 0} (self : Self S) where
+module _ {S : Type 0} (self : Identity S) where
   -- a position of the window above the stable one
   abbrev pub in_window : History → ℕ → Bool
   in_window d p = nat_lt (low_of d) p && nat_le p (low_of d + span self.shape)

@@ -2,20 +2,20 @@
 use Rattle.std.specs.Prelude.{ℕ, ◌+◌, List, [], ◌∷◌, ◌++◌}
 use Rattle.mb_base.specs.declared.names.Ui.{Ui}
 use Rattle.mb_usig.specs.Tags.{certificate, reply_tag}
-use Rattle.mb_msg.specs.declared.parts.Request.{Request}
+use Rattle.mb_parts.specs.declared.request.Request.{Request}
 use Rattle.mb_msg.specs.declared.event.Slot.{Slot}
 use Rattle.mb_msg.specs.declared.event.To.{To}
 use Rattle.mb_msg.specs.declared.event.To.TheVariants as to
 use Rattle.mb_msg.specs.declared.message.Body.TheVariants.{Whole}
 use Rattle.mb_msg.specs.declared.message.Message.{Message}
 use Rattle.mb_msg.specs.declared.message.Message.TheVariants as message
-use Rattle.mb_msg.specs.declared.message.Stamped.{Stamped as StampedMessage}
-use Rattle.mb_msg.specs.declared.message.Stamped.TheVariants as stamped
-use Rattle.mb_msg.specs.Bares.{Bare, bare_bytes, bare_of}
-use Rattle.mb_msg.specs.Spelling.{as_message, with_ui}
+use Rattle.mb_msg.specs.declared.stamped.Stamped.{Stamped as StampedMessage}
+use Rattle.mb_msg.specs.declared.stamped.Stamped.TheVariants as stamped
+use Rattle.mb_parts.specs.Bares.{Bare, bare_bytes}
+use Rattle.mb_msg.specs.Stamps.{bare_of, as_message, with_ui}
 use Rattle.mb_model.specs.declared.known.LastReply.{LastReply}
 use Rattle.mb_model.specs.declared.known.KnownSlot.{KnownSlot}
-use Rattle.mb_model.specs.History.{Entry, Stamped, History, Self, counter_of, view_of}
+use Rattle.mb_model.specs.History.{Entry, Stamped, History, Identity, counter_of, view_of}
 
 -- a message that is sent, and to whom
 pub record Letter : Type 0 where
@@ -47,7 +47,7 @@ to_client c m = record { to = to.Client c; says = m }
 abbrev pub no_ui : Ui
 no_ui = record { host = 0; counter = 0; cert = [] }
 
-module _ {S : Type 0} (self : Self S) where
+module _ {S : Type 0} (self : Identity S) where
   -- ---- stamping
 
   -- the identifier for the next message

@@ -1,20 +1,22 @@
 -- What a host does with an event: the outcome, and the step.
-use Rattle.std.specs.Prelude.{ℕ, Bool, ◌&&◌, nat_lt, ◌==◌, Option, Some, None, Result, Ok, Err, if◌then◌else◌}
+use Rattle.std.specs.Prelude.{ℕ, Bool, ◌&&◌, nat_lt, nat_le, ◌==◌, Option, Some, None, Result, Ok, Err, if◌then◌else◌}
 use Rattle.mb_base.specs.Shapes.{primary}
-use Rattle.mb_msg.specs.declared.parts.Request.{Request}
+use Rattle.mb_parts.specs.declared.request.Request.{Request}
 use Rattle.mb_msg.specs.declared.event.Event.{Event}
 use Rattle.mb_msg.specs.declared.event.Event.TheVariants as event
 use Rattle.mb_msg.specs.declared.event.Outcome.{Outcome}
 use Rattle.mb_msg.specs.declared.event.Outcome.TheVariants as outcome
-use Rattle.mb_msg.specs.declared.message.Prepare.{Prepare}
-use Rattle.mb_msg.specs.declared.message.Commit.{Commit}
+use Rattle.mb_msg.specs.declared.normal.Prepare.{Prepare}
+use Rattle.mb_msg.specs.declared.normal.Commit.{Commit}
 use Rattle.mb_msg.specs.declared.message.Message.{Message}
 use Rattle.mb_msg.specs.declared.message.Message.TheVariants as message
-use Rattle.mb_msg.specs.declared.message.Stamped.{Stamped as StampedMessage}
-use Rattle.mb_msg.specs.declared.message.Stamped.TheVariants as stamped
+use Rattle.mb_msg.specs.declared.stamped.Stamped.{Stamped as StampedMessage}
+use Rattle.mb_msg.specs.declared.stamped.Stamped.TheVariants as stamped
+use Rattle.mb_msg.specs.Spelling.{kind_of}
+use Rattle.mb_msg.specs.Stamps.{as_message}
 use Rattle.mb_msg.specs.Reading.{message_of}
 use Rattle.mb_model.specs.Service.{reply_of}
-use Rattle.mb_model.specs.History.{Accepted, History, Self, view_of, low_of}
+use Rattle.mb_model.specs.History.{Accepted, History, Identity, view_of, low_of}
 use Rattle.mb_model.specs.Slots.{state_of}
 use Rattle.mb_model.specs.Steps.{Progress, begin, write, send, to_client, reply}
 use Rattle.mb_model.specs.Checks.{stamped_refusal, request_refusal}
@@ -28,7 +30,11 @@ pub record Answer : Type 0 where
 abbrev pub answer : Outcome → Progress → Answer
 answer o x = record { outcome = o; left = x }
 
-module _ {S : Type 0} (self : Self S) where
+-- Hosts act on REQUEST, PREPARE, COMMIT and REPLY so far, which are kinds 1 to 4.
+abbrev pub is_built : ℕ → Bool
+is_built kind = nat_le kind 4
+
+module _ {S : Type 0} (self : Identity S) where
   -- ---- PREPARE and COMMIT
 
   -- the PREPARE that a COMMIT names, in the form of the COMMIT
@@ -49,8 +55,8 @@ module _ {S : Type 0} (self : Self S) where
 
   -- a COMMIT that casts a vote brings its PREPARE
   abbrev pub accept : StampedMessage → Progress → Progress
-  accept (stamped.Prepare m) x = write (Accepted (message.Prepare m)) x
   accept (stamped.Commit m) x = if casts_vote x.history m then offer_prepare (named_prepare m) (write (Accepted (message.Commit m)) x) else write (Accepted (message.Commit m)) x
+  accept m x = write (Accepted (as_message m)) x
 
   abbrev pub answer_stamped : Option Outcome → StampedMessage → Progress → Answer
   answer_stamped None m x = answer outcome.Took (accept m x)
@@ -75,11 +81,15 @@ module _ {S : Type 0} (self : Self S) where
 
   -- ---- any message
 
+  -- a message of a built kind
+  abbrev pub give_built : Message → Progress → Answer
+  give_built (message.Request r) x = give_request r x
+  give_built (message.Prepare m) x = give_stamped (stamped.Prepare m) x
+  give_built (message.Commit m) x = give_stamped (stamped.Commit m) x
+  give_built m x = answer outcome.Idle x
+
   abbrev pub give : Message → Progress → Answer
-  give (message.Request r) x = give_request r x
-  give (message.Prepare m) x = give_stamped (stamped.Prepare m) x
-  give (message.Commit m) x = give_stamped (stamped.Commit m) x
-  give (message.Reply m) x = answer outcome.Idle x
+  give m x = if is_built (kind_of m) then give_built m x else answer (outcome.Unbuilt (kind_of m)) x
 
   -- ---- the whole step
 

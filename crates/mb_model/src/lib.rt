@@ -2,5 +2,9 @@
 #![tactic(auto)]
 
 mod known;
+mod laws;
 
 pub use known::{KnownSlot, LastReply, Vote};
+pub use laws::{
+    logs_carry_over, plans_ignore_order, quorums_meet, records_have_view_changes, views_agree,
+};

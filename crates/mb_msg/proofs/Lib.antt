@@ -1,5 +1,9 @@
-pub mod Fields
-pub mod Injective
+pub mod Opened
+pub mod Bodies
+pub mod KindFields
+pub mod Dispatch
 pub mod Messages
+pub mod Sizes
+pub mod Injective
 pub mod OnLiterals
-mod Malformed
+pub mod Malformed

@@ -1,7 +1,8 @@
-pub mod Bares
-pub mod Decoded
+pub mod Bodies
 pub mod Fits
-pub mod Contents
-pub mod Reading
-pub mod Signed
 pub mod Spelling
+pub mod Reading
+pub mod Stamps
+pub mod Contents
+pub mod Signed
+pub mod Plans

@@ -1,22 +1,28 @@
-//! What is hashed and signed: digests of requests, the texts that tags cover, and the bare bytes that certificates cover.
+//! What is hashed and signed: the texts that tags cover, the bare bytes that certificates cover, and digests of plans.
 
-ghost use Rattle.std.specs.Prelude.{◌≡◌, IfOk};
+ghost use Rattle.std.specs.Prelude.{◌≡◌, ◌++◌, ◌≤◌, ◌<◌, ◌^◌, ℕ, length, None, IfOk, OnOk};
 ghost use Rattle.std.specs.Option.{option_map};
-ghost use Rattle.std.specs.Int.{w8};
-ghost use Rattle.mb_base.specs.Spelling.{number};
-ghost use Rattle.mb_msg.specs.Bares.{request_bytes, request_digest, body_digest, bare_bytes, bare_of, ui_of, Prepare as BarePrepare, Commit as BareCommit};
-ghost use Rattle.mb_msg.specs.Fits.{Fits, FitsBody, FitsText, HasText};
+ghost use Rattle.std.specs.List.{AllByRecursion};
+ghost use Rattle.mb_parts.specs.Bares.{bare_bytes, Prepare as BarePrepare, Commit as BareCommit, Checkpoint as BareCheckpoint, ViewChange as BareViewChange, NewView as BareNewView, Enter as BareEnter, Open as BareOpen, Join as BareJoin};
+ghost use Rattle.mb_parts.specs.Fits.{FitsText, FitsEvidence, FitsStable, FitsRequest};
+ghost use Rattle.mb_parts.specs.Spelling.{request_bytes};
+ghost use Rattle.mb_msg.specs.Bodies.{body_digest, FitsBody};
+ghost use Rattle.mb_msg.specs.Fits.{FitsFields, FitsStamped, FitsShown, FitsCheckpoint, FitsViewChange, FitsNewView, FitsOpen, FitsJoin};
+ghost use Rattle.mb_msg.specs.Spelling.{floors_body_bytes, change_body_bytes, new_view_body_bytes, open_body_bytes};
 ghost use Rattle.mb_msg.specs.Signed.{request_text, reply_text, covered};
-ghost use Rattle.mb_msg.specs.Spelling.{as_message};
+ghost use Rattle.mb_msg.specs.Stamps.{as_stamped, bare_of as says, bare_of_shown as shown_says, ui_of, ui_of_shown};
 
-use crate::limits::{COMMIT, PREPARE};
-use crate::message::{Body, Commit, Message, Prepare, Stamped};
-use crate::parts::Request;
+use crate::change::{Enter, Join, NewView, Open, ViewChange};
+use crate::kinds::{CHECKPOINT, COMMIT, ENTER, JOIN, NEW_VIEW, OPEN, PREPARE, VIEW_CHANGE};
+use crate::message::{Body, Message};
+use crate::normal::{Checkpoint, Commit, Prepare};
+use crate::openings::put_joined;
+use crate::stamped::{Shown, Stamped};
 use mb_base::{
     Client, Counter, Digest, NoMemory, Pos, Seq, Shape, Ui, View, put_bytes, put_u8, put_u16,
     put_u64,
 };
-use sha2::{Digest as _, Sha256};
+use mb_parts::{Part, Request};
 use std::alloc::Global;
 
 /// Client, number, and the length of the operation, in bytes.
@@ -30,42 +36,6 @@ const PREPARE_BARE: usize = 1 + 8 + 8 + 32;
 
 /// The same, with the counter and the certificate of the PREPARE.
 const COMMIT_BARE: usize = PREPARE_BARE + 8 + 32;
-
-#[tactic(auto, unfolding(mb_base::specs::Spelling::number))]
-fn byte(value: u8) -> [u8; 1]
-    ensures { result ≡ number w8 value }
-{
-    [value]
-}
-
-impl Request {
-    /// The SHA-256 digest (FIPS 180-4) of the request's bytes, the tag among them. The operation has at most 1,024 bytes.
-    pub fn digest(&self) -> Digest
-        requires { HasText self.now }
-        ensures { result ≡ request_digest self.now }
-    {
-        let mut hasher = Sha256::new();
-        hasher.update(byte(self.client));
-        hasher.update(self.seq.to_be_bytes());
-        hasher.update((self.op.len() as u16).to_be_bytes());
-        hasher.update(self.op.as_slice());
-        hasher.update(self.tag);
-        hasher.finalize()
-    }
-}
-
-impl Body<Request> {
-    /// The digest of the request, in either form. The operation of a whole one has at most 1,024 bytes.
-    pub fn digest(&self) -> Digest
-        requires { FitsBody HasText self.now }
-        ensures { result ≡ body_digest request_bytes self.now }
-    {
-        match self {
-            Body::Whole(request) => request.digest(),
-            Body::Bare(digest) => *digest,
-        }
-    }
-}
 
 /// What the tag of a request covers behind its letter: all fields but the tag. The operation has at most 1,024 bytes.
 pub fn signed_request(
@@ -106,8 +76,21 @@ pub fn signed_reply(
     Ok(text)
 }
 
+impl Body<Request> {
+    /// The digest of the request, in either form, without memory. The operation of a whole one has at most 1,024 bytes.
+    pub fn request_digest(&self) -> Digest
+        requires { FitsBody (λ r. FitsText r.op) self.now }
+        ensures { result ≡ body_digest request_bytes self.now }
+    {
+        match self {
+            Body::Whole(request) => request.digest(),
+            Body::Bare(digest) => *digest,
+        }
+    }
+}
+
 /// What the certificate of a PREPARE covers. `digest` is that of its request.
-#[tactic(auto, unfolding(crate::specs::Bares::bare_bytes))]
+#[tactic(auto, unfolding(mb_parts::specs::Bares::bare_bytes))]
 pub fn prepare_bare(
     alloc: Global,
     view: View,
@@ -126,7 +109,7 @@ pub fn prepare_bare(
 
 /// What the certificate of a COMMIT covers. `counter` and `cert` are those of the PREPARE that it votes for,
 /// and `digest` is that of its request.
-#[tactic(auto, unfolding(crate::specs::Bares::bare_bytes))]
+#[tactic(auto, unfolding(mb_parts::specs::Bares::bare_bytes))]
 pub fn commit_bare(
     alloc: Global,
     view: View,
@@ -147,20 +130,117 @@ pub fn commit_bare(
     Ok(bare)
 }
 
+/// What the certificate of a CHECKPOINT covers. `body` is the digest of its floors.
+#[tactic(auto, unfolding(mb_parts::specs::Bares::bare_bytes))]
+fn checkpoint_bare(
+    alloc: Global,
+    pos: Pos,
+    state: &Digest,
+    body: &Digest,
+) -> Result<Vec<u8>, NoMemory>
+    ensures { IfOk result (λ v. v.items ≡ bare_bytes (BareCheckpoint pos state.now body.now)) }
+{
+    let mut bare = Vec::new(alloc);
+    put_u8(&mut bare, CHECKPOINT)?;
+    put_u64(&mut bare, pos)?;
+    put_bytes(&mut bare, state)?;
+    put_bytes(&mut bare, body)?;
+    Ok(bare)
+}
+
+/// What the certificate of a VIEW_CHANGE covers. `body` is the digest of what it shows.
+#[tactic(auto, unfolding(mb_parts::specs::Bares::bare_bytes))]
+fn view_change_bare(alloc: Global, view: View, body: &Digest) -> Result<Vec<u8>, NoMemory>
+    ensures { IfOk result (λ v. v.items ≡ bare_bytes (BareViewChange view body.now)) }
+{
+    let mut bare = Vec::new(alloc);
+    put_u8(&mut bare, VIEW_CHANGE)?;
+    put_u64(&mut bare, view)?;
+    put_bytes(&mut bare, body)?;
+    Ok(bare)
+}
+
+/// What the certificate of a NEW_VIEW covers. `body` is the digest of its VIEW_CHANGEs.
+#[tactic(auto, unfolding(mb_parts::specs::Bares::bare_bytes))]
+fn new_view_bare(
+    alloc: Global,
+    view: View,
+    base: Pos,
+    end: Pos,
+    plan: &Digest,
+    body: &Digest,
+) -> Result<Vec<u8>, NoMemory>
+    ensures { IfOk result (λ v. v.items ≡ bare_bytes (BareNewView view base end plan.now body.now)) }
+{
+    let mut bare = Vec::new(alloc);
+    put_u8(&mut bare, NEW_VIEW)?;
+    put_u64(&mut bare, view)?;
+    put_u64(&mut bare, base)?;
+    put_u64(&mut bare, end)?;
+    put_bytes(&mut bare, plan)?;
+    put_bytes(&mut bare, body)?;
+    Ok(bare)
+}
+
+/// What the certificate of an ENTER covers.
+#[tactic(auto, unfolding(mb_parts::specs::Bares::bare_bytes))]
+fn enter_bare(alloc: Global, enter: &Enter) -> Result<Vec<u8>, NoMemory>
+    ensures { IfOk result (λ v. v.items ≡ bare_bytes (BareEnter enter.now.view enter.now.counter enter.now.plan)) }
+{
+    let mut bare = Vec::new(alloc);
+    put_u8(&mut bare, ENTER)?;
+    put_u64(&mut bare, enter.view)?;
+    put_u64(&mut bare, enter.counter)?;
+    put_bytes(&mut bare, &enter.plan)?;
+    Ok(bare)
+}
+
+/// What the certificate of an OPEN covers. `body` is the digest of its body.
+#[tactic(auto, unfolding(mb_parts::specs::Bares::bare_bytes))]
+fn open_bare(
+    alloc: Global,
+    shape: &Shape,
+    opening: &Open,
+    body: &Digest,
+) -> Result<Vec<u8>, NoMemory>
+    requires { FitsEvidence shape.now opening.now.evidence }
+    ensures { IfOk result (λ v. v.items ≡ bare_bytes (BareOpen opening.now.evidence body.now)) }
+{
+    let mut bare = Vec::new(alloc);
+    put_u8(&mut bare, OPEN)?;
+    opening.evidence.put(shape, &mut bare)?;
+    put_bytes(&mut bare, body)?;
+    Ok(bare)
+}
+
+/// What the certificate of a JOIN covers.
+#[tactic(auto, unfolding(mb_parts::specs::Bares::bare_bytes))]
+fn join_bare(alloc: Global, shape: &Shape, join: &Join) -> Result<Vec<u8>, NoMemory>
+    requires { FitsJoin shape.now join.now }
+    ensures { IfOk result (λ v. v.items ≡ bare_bytes (BareJoin join.now.view join.now.evidence join.now.stable)) }
+{
+    let mut bare = Vec::new(alloc);
+    put_u8(&mut bare, JOIN)?;
+    put_u64(&mut bare, join.view)?;
+    put_joined(shape, join.view, &join.evidence, &mut bare)?;
+    join.stable.put(shape, &mut bare)?;
+    Ok(bare)
+}
+
 impl Prepare {
     /// What the message's certificate covers.
     pub fn bare(&self, alloc: Global) -> Result<Vec<u8>, NoMemory>
-        requires { FitsBody HasText self.now.body }
+        requires { FitsBody (λ r. FitsText r.op) self.now.body }
         ensures { IfOk result (λ v. v.items ≡ bare_bytes (BarePrepare self.now.view self.now.pos (body_digest request_bytes self.now.body))) }
     {
-        prepare_bare(alloc, self.view, self.pos, &self.body.digest())
+        prepare_bare(alloc, self.view, self.pos, &self.body.request_digest())
     }
 }
 
 impl Commit {
     /// What the message's certificate covers.
     pub fn bare(&self, alloc: Global) -> Result<Vec<u8>, NoMemory>
-        requires { FitsBody HasText self.now.body }
+        requires { FitsBody (λ r. FitsText r.op) self.now.body }
         ensures { IfOk result (λ v. v.items ≡ bare_bytes (BareCommit self.now.view self.now.pos self.now.counter self.now.cert (body_digest request_bytes self.now.body))) }
     {
         commit_bare(
@@ -169,28 +249,77 @@ impl Commit {
             self.pos,
             self.counter,
             &self.cert,
-            &self.body.digest(),
+            &self.body.request_digest(),
         )
     }
 
     /// What the certificate of the PREPARE that the message votes for covers.
     pub fn named_bare(&self, alloc: Global) -> Result<Vec<u8>, NoMemory>
-        requires { FitsBody HasText self.now.body }
+        requires { FitsBody (λ r. FitsText r.op) self.now.body }
         ensures { IfOk result (λ v. v.items ≡ bare_bytes (BarePrepare self.now.view self.now.pos (body_digest request_bytes self.now.body))) }
     {
-        prepare_bare(alloc, self.view, self.pos, &self.body.digest())
+        let digest = self.body.request_digest();
+        prepare_bare(alloc, self.view, self.pos, &digest)
+    }
+}
+
+impl Checkpoint {
+    fn bare(&self, alloc: Global, shape: &Shape) -> Result<Vec<u8>, NoMemory>
+        requires { FitsCheckpoint shape.now self.now }
+        ensures { IfOk result (λ v. v.items ≡ bare_bytes (BareCheckpoint self.now.pos self.now.state (body_digest floors_body_bytes self.now.body))) }
+    {
+        let body = self.body.digest(alloc, shape)?;
+        checkpoint_bare(alloc, self.pos, &self.state, &body)
+    }
+}
+
+impl ViewChange {
+    fn bare(&self, alloc: Global, shape: &Shape) -> Result<Vec<u8>, NoMemory>
+        requires { FitsViewChange shape.now self.now }
+        ensures { IfOk result (λ v. v.items ≡ bare_bytes (BareViewChange self.now.view (body_digest change_body_bytes self.now.body))) }
+    {
+        let body = self.body.digest(alloc, shape)?;
+        view_change_bare(alloc, self.view, &body)
+    }
+}
+
+impl NewView {
+    fn bare(&self, alloc: Global, shape: &Shape) -> Result<Vec<u8>, NoMemory>
+        requires { FitsNewView shape.now self.now }
+        ensures { IfOk result (λ v. v.items ≡ bare_bytes (BareNewView self.now.view self.now.base self.now.end self.now.plan (body_digest new_view_body_bytes self.now.body))) }
+    {
+        let body = self.body.digest(alloc, shape)?;
+        new_view_bare(alloc, self.view, self.base, self.end, &self.plan, &body)
+    }
+}
+
+impl Open {
+    #[tactic(auto, using(crate::proofs::Opened::opened_parts))]
+    fn bare(&self, alloc: Global, shape: &Shape) -> Result<Vec<u8>, NoMemory>
+        requires { FitsOpen shape.now self.now }
+        ensures { IfOk result (λ v. v.items ≡ bare_bytes (BareOpen self.now.evidence (body_digest open_body_bytes self.now.body))) }
+    {
+        let body = self.body.digest(alloc, shape)?;
+        open_bare(alloc, shape, self, &body)
     }
 }
 
 impl Stamped {
     /// What the message's certificate covers. Each field has an allowed value.
-    pub fn bare(&self, alloc: Global, _shape: &Shape) -> Result<Vec<u8>, NoMemory>
-        requires { Fits _shape.now (as_message self.now) }
-        ensures { IfOk result (λ v. v.items ≡ bare_bytes (bare_of self.now)) }
+    #[tactic(auto, using(crate::proofs::Opened::body_has_text))]
+    pub fn bare(&self, alloc: Global, shape: &Shape) -> Result<Vec<u8>, NoMemory>
+        requires { FitsStamped shape.now self.now }
+        ensures { IfOk result (λ v. v.items ≡ bare_bytes (says self.now)) }
     {
         match self {
-            Stamped::Prepare(prepare) => prepare.bare(alloc),
-            Stamped::Commit(commit) => commit.bare(alloc),
+            Stamped::Prepare(m) => m.bare(alloc),
+            Stamped::Commit(m) => m.bare(alloc),
+            Stamped::Checkpoint(m) => m.bare(alloc, shape),
+            Stamped::ViewChange(m) => m.bare(alloc, shape),
+            Stamped::NewView(m) => m.bare(alloc, shape),
+            Stamped::Enter(m) => enter_bare(alloc, m),
+            Stamped::Open(m) => m.bare(alloc, shape),
+            Stamped::Join(m) => join_bare(alloc, shape, m),
         }
     }
 
@@ -199,25 +328,76 @@ impl Stamped {
         ensures { result ≡ ui_of self.now }
     {
         match self {
-            Stamped::Prepare(prepare) => prepare.ui,
-            Stamped::Commit(commit) => commit.ui,
+            Stamped::Prepare(m) => m.ui,
+            Stamped::Commit(m) => m.ui,
+            Stamped::Checkpoint(m) => m.ui,
+            Stamped::ViewChange(m) => m.ui,
+            Stamped::NewView(m) => m.ui,
+            Stamped::Enter(m) => m.ui,
+            Stamped::Open(m) => m.ui,
+            Stamped::Join(m) => m.ui,
         }
     }
 }
 
-/// What the certificate of a message covers: None exactly for the kinds that have none, REQUEST and REPLY.
-/// Each field has an allowed value.
-pub fn bare_of(
-    alloc: Global,
-    _shape: &Shape,
-    message: &Message,
-) -> Result<Option<Vec<u8>>, NoMemory>
-    requires { Fits _shape.now message.now }
+impl Shown {
+    /// What the message's certificate covers. Each field has an allowed value.
+    #[tactic(auto, using(crate::proofs::Opened::body_has_text))]
+    pub fn bare(&self, alloc: Global, shape: &Shape) -> Result<Vec<u8>, NoMemory>
+        requires { FitsShown shape.now self.now }
+        ensures { IfOk result (λ v. v.items ≡ bare_bytes (shown_says self.now)) }
+    {
+        match self {
+            Shown::Prepare(m) => m.bare(alloc),
+            Shown::Commit(m) => m.bare(alloc),
+            Shown::Checkpoint(m) => checkpoint_bare(alloc, m.pos, &m.state, &m.body),
+            Shown::ViewChange(m) => view_change_bare(alloc, m.view, &m.body),
+            Shown::NewView(m) => new_view_bare(alloc, m.view, m.base, m.end, &m.plan, &m.body),
+            Shown::Enter(m) => enter_bare(alloc, m),
+            Shown::Open(m) => m.bare(alloc, shape),
+            Shown::Join(m) => join_bare(alloc, shape, m),
+        }
+    }
+
+    /// The identifier that binds the message to its sender's counter.
+    pub fn ui(&self) -> Ui
+        ensures { result ≡ ui_of_shown self.now }
+    {
+        match self {
+            Shown::Prepare(m) => m.ui,
+            Shown::Commit(m) => m.ui,
+            Shown::Checkpoint(m) => m.ui,
+            Shown::ViewChange(m) => m.ui,
+            Shown::NewView(m) => m.ui,
+            Shown::Enter(m) => m.ui,
+            Shown::Open(m) => m.ui,
+            Shown::Join(m) => m.ui,
+        }
+    }
+}
+
+/// What the certificate of a message covers: None exactly for the kinds that are not stamped. Each field has an allowed value.
+#[tactic(auto, using(crate::proofs::Opened::body_has_text))]
+pub fn bare_of(alloc: Global, shape: &Shape, message: &Message) -> Result<Option<Vec<u8>>, NoMemory>
+    requires { FitsFields shape.now message.now }
     ensures { IfOk result (λ o. option_map (λ v. v.items) o ≡ covered message.now) }
 {
     Ok(match message {
-        Message::Prepare(prepare) => Some(prepare.bare(alloc)?),
-        Message::Commit(commit) => Some(commit.bare(alloc)?),
-        Message::Request(_) | Message::Reply(_) => None,
+        Message::Prepare(m) => Some(m.bare(alloc)?),
+        Message::Commit(m) => Some(m.bare(alloc)?),
+        Message::Checkpoint(m) => Some(m.bare(alloc, shape)?),
+        Message::ViewChange(m) => Some(m.bare(alloc, shape)?),
+        Message::NewView(m) => Some(m.bare(alloc, shape)?),
+        Message::Enter(m) => Some(enter_bare(alloc, m)?),
+        Message::Open(m) => Some(m.bare(alloc, shape)?),
+        Message::Join(m) => Some(join_bare(alloc, shape, m)?),
+        Message::Request(_)
+        | Message::Reply(_)
+        | Message::ReqViewChange(_)
+        | Message::Resend(_)
+        | Message::Log(_)
+        | Message::Fetch(_)
+        | Message::State(_)
+        | Message::Stop(_) => None,
     })
 }

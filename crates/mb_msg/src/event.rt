@@ -1,7 +1,7 @@
 //! What a host is given, and what it answers.
 
-use crate::parts::Request;
 use mb_base::{Client, Host, Items, Pos, Seq, View};
+use mb_parts::Request;
 
 /// What happens to a host.
 #[derive(Debug, PartialEq, Drop)]
@@ -15,6 +15,8 @@ pub enum Event {
 pub enum Outcome {
     /// The bytes are no message. `at` is the offset of the first field that is short or has a value that isn't allowed.
     Malformed { at: usize },
+    /// A message of a kind that hosts don't act on yet, which is told.
+    Unbuilt { kind: u8 },
     /// A stamped message whose certificate does not verify.
     BadUi,
     /// The counter is below the next one that is expected of the sender.

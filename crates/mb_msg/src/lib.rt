@@ -1,25 +1,40 @@
 //! The messages of the protocol, and what a host is given and answers.
 #![tactic(auto)]
 
-mod allowed;
+mod away;
+mod body;
+mod change;
+mod changing;
+mod checkpoints;
 mod digests;
 mod event;
-mod fault;
+mod kinds;
 mod limits;
+mod marks;
 mod message;
-mod parts;
-mod reading;
-mod writing;
+mod normal;
+mod openings;
+mod plan;
+mod stamped;
+mod stamps;
+mod transfer;
+mod votes;
+mod whole;
 
-pub use allowed::fits;
+pub use change::{
+    BareNewView, BareViewChange, ChangeBody, Enter, Join, NewView, NewViewBody, Open, OpenBody,
+    Plan, ReqViewChange, ViewChange,
+};
 pub use digests::{bare_of, commit_bare, prepare_bare, signed_reply, signed_request};
 pub use event::{Event, Outcome, Sent, Slot, Step, To};
-pub use fault::Undecoded;
 pub use limits::{MAX_POS, MAX_VIEW, MESSAGE_LIMIT, TEXT_LIMIT};
-pub use message::{Body, Commit, Message, Prepare, Reply, Stamped};
-pub use parts::{Phase, Request};
-pub use reading::decode;
-pub use writing::encode;
-
-#[cfg(test)]
-mod tests;
+pub use marks::mark_of;
+pub use mb_parts::{
+    Evidence, EvidenceMember, Floor, FloorCert, FloorMember, Mark, Phase, Request, StableCert,
+    StableMember, Undecoded,
+};
+pub use message::{Body, Message};
+pub use normal::{BareCheckpoint, Checkpoint, Commit, Floors, Prepare, Reply, Stop};
+pub use stamped::{Shown, Stamped};
+pub use transfer::{Fetch, Log, Resend, StateMsg};
+pub use whole::{decode, encode, fields_fit, fits};

@@ -4,7 +4,7 @@ use Rattle.std.specs.Prelude.{codes}
 use Rattle.std.specs.List.{flat_map}
 use Rattle.std.specs.Fmt.{digits}
 use Rattle.hex.specs.Hex.{encode_with}
-use Rattle.mb_msg.specs.declared.parts.Phase.TheVariants.{Changing, Entered, Open}
+use Rattle.mb_parts.specs.declared.floor.Phase.TheVariants.{Changing, Entered, Open}
 use Rattle.mb_sched.specs.declared.report.HostLine.{HostLine}
 use Rattle.mb_sched.specs.declared.report.Report.{Report}
 use Rattle.mb_sched.specs.declared.report.Word.TheVariants.{BadUi, Stale, NeedBody}

@@ -4,8 +4,8 @@ use Rattle.std.specs.List.{flat_map}
 use Rattle.std.specs.Fmt.{decimal}
 use Rattle.mb_base.specs.Shapes.{Bytes}
 use Rattle.mb_msg.specs.declared.event.Slot.{Slot}
-use Rattle.mb_msg.specs.declared.parts.Phase.{Phase}
-use Rattle.mb_msg.specs.declared.parts.Phase.TheVariants.{Changing, Entered, Open}
+use Rattle.mb_parts.specs.declared.floor.Phase.{Phase}
+use Rattle.mb_parts.specs.declared.floor.Phase.TheVariants.{Changing, Entered, Open}
 use Rattle.mb_sched.specs.declared.report.ClientLine.{ClientLine}
 use Rattle.mb_sched.specs.declared.report.HostLine.{HostLine}
 use Rattle.mb_sched.specs.declared.report.HostState.{HostState}
@@ -13,7 +13,7 @@ use Rattle.mb_sched.specs.declared.report.LastResult.{LastResult}
 use Rattle.mb_sched.specs.declared.report.RefusedLine.{RefusedLine}
 use Rattle.mb_sched.specs.declared.report.Report.{Report}
 use Rattle.mb_sched.specs.declared.report.Word.{Word}
-use Rattle.mb_sched.specs.declared.report.Word.TheVariants.{Malformed, BadUi, BadTag, Stale, Ahead, NeedBody, LaterView, BeyondWindow, Old}
+use Rattle.mb_sched.specs.declared.report.Word.TheVariants.{Malformed, Unbuilt, BadUi, BadTag, Stale, Ahead, NeedBody, LaterView, BeyondWindow, Old}
 use Rattle.mb_sched.specs.Printing.{line_of, hex_word}
 
 -- client 3 is named c3
@@ -32,6 +32,7 @@ fresh_name false = codes "again"
 -- an outcome in lower case
 abbrev pub word_name : Word → Bytes
 word_name Malformed = codes "malformed"
+word_name Unbuilt = codes "unbuilt"
 word_name BadUi = codes "badui"
 word_name BadTag = codes "badtag"
 word_name Stale = codes "stale"

@@ -124,6 +124,7 @@ fn word_name(word: Word) -> &'static str
 {
     match word {
         Word::Malformed => "malformed",
+        Word::Unbuilt => "unbuilt",
         Word::BadUi => "badui",
         Word::BadTag => "badtag",
         Word::Stale => "stale",
@@ -238,6 +239,7 @@ end
 events 9 messages 18446744073709551615
 line 1
 slot 2 c0 1 again -
+refused 3 unbuilt 16
 refused 5 stale 2
 refused 7 needbody 1 5
 host h0 faulty
@@ -323,6 +325,7 @@ end
 
     fn with_faults(alloc: Global) -> Result<Report, NoMemory> {
         let slot = slot(alloc, 2, false, &[])?;
+        let unbuilt = refused(alloc, 3, Word::Unbuilt, &[16])?;
         let stale = refused(alloc, 5, Word::Stale, &[2])?;
         let need_body = refused(alloc, 7, Word::NeedBody, &[1, 5])?;
         let faulty = HostLine {
@@ -334,7 +337,7 @@ end
             events: 9,
             messages: u64::MAX,
             line: Items::from_vec(vec![in alloc; slot]?),
-            refused: Items::from_vec(vec![in alloc; stale, need_body]?),
+            refused: Items::from_vec(vec![in alloc; unbuilt, stale, need_body]?),
             hosts: Items::from_vec(vec![in alloc; faulty]?),
             clients: Items::from_vec(vec![in alloc; client]?),
         })

@@ -24,6 +24,7 @@ pub struct Report {
 #[derive(Clone, Copy, Debug, PartialEq, Eq)]
 pub enum Word {
     Malformed,
+    Unbuilt,
     BadUi,
     BadTag,
     Stale,

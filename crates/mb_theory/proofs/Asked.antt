@@ -5,21 +5,22 @@ use Rattle.std.proofs.lemmas.List.Sums.{count_by-le-length}
 use Rattle.mb_base.specs.Shapes.{Bytes}
 use Rattle.mb_usig.specs.Tags.{request_text, request_tag}
 use Rattle.mb_usig.proofs.Laws.{length-signed_request}
-use Rattle.mb_msg.specs.declared.parts.Request.{Request}
+use Rattle.mb_parts.specs.declared.request.Request.{Request}
 use Rattle.mb_msg.specs.declared.message.Message.TheVariants as message
-use Rattle.mb_msg.specs.Bares.{request_bytes}
+use Rattle.mb_parts.specs.Spelling.{request_bytes}
 use Rattle.mb_msg.specs.Contents.{strings_of}
-use Rattle.mb_msg.specs.Fits.{FitsRequest}
+use Rattle.mb_parts.specs.Fits.{FitsRequest}
 use Rattle.mb_msg.specs.Reading.{message_of}
 use Rattle.mb_msg.specs.Spelling.{spelling}
-use Rattle.mb_msg.proofs.Messages.{message_again}
-use Rattle.mb_msg.proofs.Injective.{request_injective}
 use Rattle.mb_sched.specs.declared.schedule.WorldEvent.{WorldEvent}
 use Rattle.mb_sched.specs.declared.schedule.WorldEvent.TheVariants.{Ask, Give}
 use Rattle.mb_theory.specs.World.{World, numbered, asked_by, request, given, happens, world}
 use Rattle.mb_theory.specs.Hashed.{strings_read, hashed, HashesApart}
 use Rattle.mb_sched.specs.Limits.{EventFits, ScheduleFits}
 use Rattle.mb_theory.proofs.Lists.{In, contained, in_left, in_right, in_flat_map, get_there}
+use Rattle.mb_msg.proofs.Messages.{message_again}
+use Rattle.mb_msg.proofs.Sizes.{small_request}
+use Rattle.mb_msg.proofs.Injective.{request_injective}
 use Rattle.mb_theory.proofs.ReadBack.{shape_fits}
 use Rattle.mb_theory.proofs.Invariant.{Run}
 use Rattle.mb_theory.proofs.Executed.{Apart}
@@ -97,7 +98,7 @@ module _ {S : Type 0} (run : Run S) where
   unfolding hashed strings_of
   string_hashed w r fits i =
       in_flat_map (λ (bytes : Bytes). strings_read (message_of run.schedule.shape bytes)) w.pool (spelling (message.Request r)) (request_bytes r) i
-      (rw (message_again run.schedule.shape (shape_fits run.schedule.shape) (message.Request r) fits) (inl refl))
+      (rw (message_again run.schedule.shape (shape_fits run.schedule.shape) (message.Request r) (small_request run.schedule.shape r fits)) (inl refl))
 
   -- where no two hashed strings share a digest, no two asked requests do
   pub apart_from : (k : ℕ) (w : World) → AskedFine k w → HashesApart (hashed run.schedule.shape w) → Apart w.asked

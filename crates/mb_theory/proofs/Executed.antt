@@ -6,9 +6,9 @@ use Rattle.std.proofs.lemmas.Bool.{cases_Bool, eqb-true, eqb-false}
 use Rattle.std.proofs.lemmas.List.{append-nil}
 use Rattle.std.proofs.lemmas.Option.{slice_get_within}
 use Rattle.mb_base.specs.Shapes.{Bytes, primary, host_count, client_count}
-use Rattle.mb_msg.specs.declared.parts.Request.{Request}
+use Rattle.mb_parts.specs.declared.request.Request.{Request}
 use Rattle.mb_msg.specs.declared.event.Slot.{Slot}
-use Rattle.mb_msg.specs.Bares.{request_digest}
+use Rattle.mb_parts.specs.Bares.{request_digest}
 use Rattle.mb_model.specs.Service.{Served, is_fresh, start}
 use Rattle.mb_model.specs.History.{Executed, History, exec_of}
 use Rattle.mb_model.specs.Slots.{state_of}

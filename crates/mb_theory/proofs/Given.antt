@@ -3,22 +3,22 @@ use Rattle.std.proofs.Common.{◌≡◌, ℕ, ◌+◌, ◌<◌, ◌∷◌, lengt
 use Rattle.std.proofs.lemmas.Bool.{cases_Bool}
 use Rattle.mb_base.specs.declared.names.Ui.{Ui}
 use Rattle.mb_base.specs.Shapes.{Bytes, primary, host_count}
-use Rattle.mb_msg.specs.declared.parts.Request.{Request}
+use Rattle.mb_parts.specs.declared.request.Request.{Request}
 use Rattle.mb_msg.specs.declared.event.Event.TheVariants as event
 use Rattle.mb_msg.specs.declared.event.Outcome.{Outcome}
 use Rattle.mb_msg.specs.declared.event.Outcome.TheVariants as outcome
-use Rattle.mb_msg.specs.declared.message.Prepare.{Prepare}
-use Rattle.mb_msg.specs.declared.message.Commit.{Commit}
-use Rattle.mb_msg.specs.declared.message.Reply.{Reply}
+use Rattle.mb_msg.specs.declared.normal.Prepare.{Prepare}
+use Rattle.mb_msg.specs.declared.normal.Commit.{Commit}
+use Rattle.mb_msg.specs.declared.normal.Reply.{Reply}
 use Rattle.mb_msg.specs.declared.message.Message.{Message}
 use Rattle.mb_msg.specs.declared.message.Message.TheVariants as message
-use Rattle.mb_msg.specs.declared.message.Stamped.{Stamped as StampedMessage}
-use Rattle.mb_msg.specs.declared.message.Stamped.TheVariants as stamped
-use Rattle.mb_msg.specs.Bares as bare
-use Rattle.mb_msg.specs.Bares.{Bare, request_digest, ui_of}
+use Rattle.mb_msg.specs.declared.stamped.Stamped.{Stamped as StampedMessage}
+use Rattle.mb_msg.specs.declared.stamped.Stamped.TheVariants as stamped
+use Rattle.mb_parts.specs.Bares as bare
+use Rattle.mb_parts.specs.Bares.{Bare, request_digest}
+use Rattle.mb_msg.specs.Stamps.{ui_of}
 use Rattle.mb_msg.specs.Reading.{message_of}
 use Rattle.mb_msg.specs.Spelling.{spelling}
-use Rattle.mb_msg.proofs.Messages.{message_again}
 use Rattle.mb_model.specs.History.{Accepted, History, said, taken_of, last_counter}
 use Rattle.mb_model.specs.Steps.{Progress, begin, write}
 use Rattle.mb_model.specs.Checks.{stamped_refusal, request_refusal}
@@ -31,6 +31,8 @@ use Rattle.mb_theory.proofs.Counters.{at_counter, at_bound}
 use Rattle.mb_theory.proofs.Legal.{Stamps, PrepareMade, CommitMade, IsMade, InTurn}
 use Rattle.mb_theory.proofs.Growth.{prepare_grows, commit_grows}
 use Rattle.mb_theory.proofs.Searches.{own_taken}
+use Rattle.mb_msg.proofs.Messages.{message_again}
+use Rattle.mb_msg.proofs.Sizes.{small_request, small_prepare, small_commit}
 use Rattle.mb_theory.proofs.ReadBack.{shape_fits, reply_read}
 use Rattle.mb_theory.proofs.Invariant.{at_same, Run, entry_grows}
 use Rattle.mb_theory.proofs.Part.{Before, me, now, LegalNow, SpellsMadeNow, Part, legal_now, writes, sends}
@@ -131,6 +133,7 @@ module _ {S : Type 0} (run : Run S) (w : Before run) where
   gives x (message.Prepare m) i made = gives_prepare x m i made
   gives x (message.Commit m) i made = gives_commit x m i made
   gives x (message.Reply m) i made = i
+  gives x _ i made = absurd made
 
   -- ---- the whole step
 
@@ -147,10 +150,11 @@ module _ {S : Type 0} (run : Run S) (w : Before run) where
   idles x m (Ok y) i e = let r = reply_read run.schedule.shape m y e in subst (λ (z : Message). Part run w (on_bytes (me run w) (Ok z) x).left) r.1 i
 
   reads : (x : Progress) (m : Message) → Part run w x → IsMade run.schedule.shape (now run w x.history) w.requests m → Part run w (on_bytes (me run w) (message_of run.schedule.shape (spelling m)) x).left
-  reads x (message.Request r) i made = rw (message_again run.schedule.shape (shape_fits run.schedule.shape) (message.Request r) (w.fitting r made)) (answers x (message.Request r) i made)
-  reads x (message.Prepare m) i made = rw (message_again run.schedule.shape (shape_fits run.schedule.shape) (message.Prepare m) made.fits) (answers x (message.Prepare m) i made)
-  reads x (message.Commit m) i made = rw (message_again run.schedule.shape (shape_fits run.schedule.shape) (message.Commit m) made.fits) (answers x (message.Commit m) i made)
+  reads x (message.Request r) i made = rw (message_again run.schedule.shape (shape_fits run.schedule.shape) (message.Request r) (small_request run.schedule.shape r (w.fitting r made))) (answers x (message.Request r) i made)
+  reads x (message.Prepare m) i made = rw (message_again run.schedule.shape (shape_fits run.schedule.shape) (message.Prepare m) (small_prepare run.schedule.shape m made.fits)) (answers x (message.Prepare m) i made)
+  reads x (message.Commit m) i made = rw (message_again run.schedule.shape (shape_fits run.schedule.shape) (message.Commit m) (small_commit run.schedule.shape m made.fits)) (answers x (message.Commit m) i made)
   reads x (message.Reply m) i made = idles x m _ i refl
+  reads x _ i made = absurd made
 
   -- bytes of the pool that are given to this host
   pub transits : (d : History) (bytes : Bytes) → Part run w (begin d) → SpellsMadeNow run w d bytes → Part run w (transition (me run w) d (event.Given bytes)).left

@@ -3,13 +3,13 @@ use Rattle.std.proofs.Common.{ℕ, List, [], ◌∷◌}
 use Rattle.std.specs.List.{AllByRecursion}
 use Rattle.mb_base.specs.declared.shape.Shape.{Shape}
 use Rattle.mb_base.specs.Shapes.{Bytes, primary}
-use Rattle.mb_msg.specs.declared.parts.Request.{Request}
-use Rattle.mb_msg.specs.declared.message.Prepare.{Prepare}
-use Rattle.mb_msg.specs.declared.message.Commit.{Commit}
+use Rattle.mb_parts.specs.declared.request.Request.{Request}
+use Rattle.mb_msg.specs.declared.normal.Prepare.{Prepare}
+use Rattle.mb_msg.specs.declared.normal.Commit.{Commit}
 use Rattle.mb_msg.specs.declared.message.Message.{Message}
 use Rattle.mb_msg.specs.declared.message.Message.TheVariants as message
-use Rattle.mb_msg.specs.declared.message.Stamped.TheVariants as stamped
-use Rattle.mb_model.specs.History.{Entry, Accepted, Stamped, Executed, History, Self}
+use Rattle.mb_msg.specs.declared.stamped.Stamped.TheVariants as stamped
+use Rattle.mb_model.specs.History.{Entry, Accepted, Stamped, Executed, History, Identity}
 use Rattle.mb_theory.proofs.Lists.{In}
 use Rattle.mb_theory.proofs.Counters.{IsOnce, at_once}
 use Rattle.mb_theory.proofs.Legal.{Stamps, Orders, PrepareMade, CommitMade, IsMade, SpellsMade, Justified, Legal}
@@ -42,19 +42,21 @@ module _ (shape : Shape) (stamps : Stamps) (requests : List Request) (stamps' : 
   made_grows (message.Prepare m) x = prepare_grows m x
   made_grows (message.Commit m) x = commit_grows m x
   made_grows (message.Reply m) x = tt
+  made_grows _ x = absurd x
 
   pub pool_grows : (pool : List Bytes) → AllByRecursion (SpellsMade shape stamps requests) pool → AllByRecursion (SpellsMade shape stamps' requests') pool
   pool_grows [] h = tt
   pool_grows (b ∷ pool) h = (record { says = h.0.says; spelled = h.0.spelled; made = made_grows h.0.says h.0.made }, pool_grows pool h.1)
 
-module _ {S : Type 0} (self : Self S) (stamps : Stamps) (requests : List Request) (stamps' : Stamps) (requests' : List Request) (g : Grows stamps requests stamps' requests') where
+module _ {S : Type 0} (self : Identity S) (stamps : Stamps) (requests : List Request) (stamps' : Stamps) (requests' : List Request) (g : Grows stamps requests stamps' requests') where
   justified_grows : (e : Entry) (d : History) → Justified self stamps requests e d → Justified self stamps' requests' e d
   justified_grows (Accepted (message.Request r)) d x = g.asked_more r x
   justified_grows (Accepted (message.Prepare m)) d x = (prepare_grows self.shape stamps requests stamps' requests' g m x.0, x.1)
   justified_grows (Accepted (message.Commit m)) d x = (commit_grows self.shape stamps requests stamps' requests' g m x.0, x.1)
-  justified_grows (Accepted (message.Reply m)) d x = absurd x
+  justified_grows (Accepted _) d x = absurd x
   justified_grows (Stamped (stamped.Prepare m)) d x = (prepare_grows self.shape stamps requests stamps' requests' g m x.0, x.1)
   justified_grows (Stamped (stamped.Commit m)) d x = (commit_grows self.shape stamps requests stamps' requests' g m x.0, x.1)
+  justified_grows (Stamped _) d x = absurd x
   justified_grows (Executed slot) d x = record { counter = x.counter; orders = orders_grows self.shape stamps requests stamps' requests' g _ _ _ x.orders; place = x.place; fresh = x.fresh; voted = x.voted }
 
   pub legal_grows : (d : History) → Legal self stamps requests d → Legal self stamps' requests' d

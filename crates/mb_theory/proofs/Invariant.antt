@@ -7,10 +7,10 @@ use Rattle.std.proofs.lemmas.Bool.{cases_Bool, eqb-true, eq-eqb}
 use Rattle.std.proofs.lemmas.List.{take-append-le, append-nil}
 use Rattle.std.proofs.lemmas.Option.{slice_get_within}
 use Rattle.mb_base.specs.Shapes.{Bytes, host_count, client_count}
-use Rattle.mb_msg.specs.declared.parts.Request.{Request}
+use Rattle.mb_parts.specs.declared.request.Request.{Request}
 use Rattle.mb_msg.specs.declared.event.Slot.{Slot}
 use Rattle.mb_model.specs.Service.{Machine, Served, is_fresh, served_all, start}
-use Rattle.mb_model.specs.History.{Entry, Accepted, Stamped, Executed, History, Self, said, exec_of}
+use Rattle.mb_model.specs.History.{Entry, Accepted, Stamped, Executed, History, Identity, said, exec_of}
 use Rattle.mb_model.specs.History as history
 use Rattle.mb_model.specs.Slots.{state_of}
 use Rattle.mb_sched.specs.declared.schedule.Schedule.{Schedule}
@@ -50,7 +50,7 @@ pub record Run (S : Type 0) : Type 0 where
   pub schedule : Schedule
 
 module _ {S : Type 0} (run : Run S) where
-  abbrev pub self : ℕ → Self S
+  abbrev pub self : ℕ → Identity S
   self h = self_of run.machine run.initial run.schedule h
 
   -- the sequential service after these slots

@@ -2,10 +2,10 @@
 use Rattle.std.proofs.Common.{◌≡◌, ℕ, ◌+◌, ◌-◌, ◌≤◌, ◌<◌, ◌^◌, true, List, ap, subst, ◌∙◌, arith, Some}
 use Rattle.std.proofs.lemmas.Bool.{and_parts, eqb-true, eqb-false, ltb-true}
 use Rattle.mb_base.specs.Shapes.{Bytes, primary, quorum}
-use Rattle.mb_msg.specs.declared.parts.Request.{Request}
-use Rattle.mb_msg.specs.Bares.{request_digest}
+use Rattle.mb_parts.specs.declared.request.Request.{Request}
+use Rattle.mb_parts.specs.Bares.{request_digest}
 use Rattle.mb_model.specs.declared.known.KnownSlot.{KnownSlot}
-use Rattle.mb_model.specs.History.{History, Self, counter_of, exec_of}
+use Rattle.mb_model.specs.History.{History, Identity, counter_of, exec_of}
 use Rattle.mb_model.specs.Slots.{in_window, matching, slot_in, slot_at}
 use Rattle.mb_model.specs.Rules.{is_unspent, has_room}
 use Rattle.mb_model.proofs.Options.{if_some}
@@ -14,7 +14,7 @@ use Rattle.mb_theory.proofs.Lists.{In}
 use Rattle.mb_theory.proofs.Legal.{Stamps, Orders, Legal}
 use Rattle.mb_theory.proofs.Searches.{last_is, SlotFine, slot_fine, pending_asked}
 
-module _ {S : Type 0} (self : Self S) (stamps : Stamps) (requests : List Request) where
+module _ {S : Type 0} (self : Identity S) (stamps : Stamps) (requests : List Request) where
   -- A COMMIT is a backup's next message, for the slot that the primary ordered at its place.
   pub record CommitRests (p : ℕ) (k : KnownSlot) (r : Request) (d : History) : Type 0 where
     pub next : p ≡ counter_of d + 1

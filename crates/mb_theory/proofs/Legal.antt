@@ -3,20 +3,20 @@ use Rattle.std.proofs.Common.{◌≡◌, ℕ, ◌+◌, ◌≤◌, List, [], ◌�
 use Rattle.mb_base.specs.declared.shape.Shape.{Shape}
 use Rattle.mb_base.specs.declared.names.Ui.{Ui}
 use Rattle.mb_base.specs.Shapes.{Bytes, primary, quorum}
-use Rattle.mb_msg.specs.declared.parts.Request.{Request}
+use Rattle.mb_parts.specs.declared.request.Request.{Request}
 use Rattle.mb_msg.specs.declared.event.Slot.{Slot}
 use Rattle.mb_msg.specs.declared.message.Body.TheVariants.{Whole}
-use Rattle.mb_msg.specs.declared.message.Prepare.{Prepare}
-use Rattle.mb_msg.specs.declared.message.Commit.{Commit}
+use Rattle.mb_msg.specs.declared.normal.Prepare.{Prepare}
+use Rattle.mb_msg.specs.declared.normal.Commit.{Commit}
 use Rattle.mb_msg.specs.declared.message.Message.{Message}
 use Rattle.mb_msg.specs.declared.message.Message.TheVariants as message
-use Rattle.mb_msg.specs.declared.message.Stamped.TheVariants as stamped
-use Rattle.mb_msg.specs.Bares as bare
-use Rattle.mb_msg.specs.Bares.{Bare, request_digest}
+use Rattle.mb_msg.specs.declared.stamped.Stamped.TheVariants as stamped
+use Rattle.mb_parts.specs.Bares as bare
+use Rattle.mb_parts.specs.Bares.{Bare, request_digest}
 use Rattle.mb_msg.specs.Fits.{FitsPrepare, FitsCommit}
 use Rattle.mb_msg.specs.Spelling.{spelling}
 use Rattle.mb_model.specs.Service.{is_fresh}
-use Rattle.mb_model.specs.History.{Entry, Accepted, Stamped, Executed, History, Self, counter_of, last_counter, exec_of}
+use Rattle.mb_model.specs.History.{Entry, Accepted, Stamped, Executed, History, Identity, counter_of, last_counter, exec_of}
 use Rattle.mb_model.specs.Slots.{matching, state_of}
 use Rattle.mb_theory.proofs.Lists.{In}
 use Rattle.mb_theory.proofs.Counters.{at_counter}
@@ -52,12 +52,13 @@ module _ (shape : Shape) (stamps : Stamps) (requests : List Request) where
     pub issued : at_counter (stamps m.ui.host) m.ui.counter ≡ Some (bare.Commit 0 m.pos m.counter m.cert (request_digest request))
     pub fits : FitsCommit shape m
 
-  -- a client or a host made this message; of a REPLY nothing is said
+  -- a client or a host made this message; of a REPLY nothing is said, and other kinds are not made yet
   abbrev pub IsMade : Message → Type 0
   IsMade (message.Request r) = In requests r
   IsMade (message.Prepare m) = PrepareMade m
   IsMade (message.Commit m) = CommitMade m
   IsMade (message.Reply m) = Unit {0}
+  IsMade _ = ⊥
 
   -- These bytes spell a message that was made.
   pub record SpellsMade (bytes : Bytes) : Type 0 where
@@ -78,7 +79,7 @@ pub record IsOwn (h : ℕ) (u : Ui) (pos : ℕ) (d : History) : Type 0 where
   pub next : u.counter ≡ counter_of d + 1
   pub place : pos ≡ counter_of d + 1
 
-module _ {S : Type 0} (self : Self S) (stamps : Stamps) (requests : List Request) where
+module _ {S : Type 0} (self : Identity S) (stamps : Stamps) (requests : List Request) where
   -- A slot is the next one to execute, the primary ordered its request there, and f+1 votes for that were counted.
   pub record IsSupported (slot : Slot) (d : History) : Type 0 where
     pub counter : ℕ
@@ -87,14 +88,15 @@ module _ {S : Type 0} (self : Self S) (stamps : Stamps) (requests : List Request
     pub fresh : slot.fresh ≡ is_fresh (state_of self d) slot.request
     pub voted : quorum self.shape ≤ matching self d 0 slot.pos (record { counter = counter; request = request_digest slot.request })
 
-  -- what an entry rests on, behind what stood before it
+  -- what an entry rests on, behind what stood before it; other kinds are not in a history yet
   abbrev pub Justified : Entry → History → Type 0
   Justified (Accepted (message.Request r)) d = In requests r
   Justified (Accepted (message.Prepare m)) d = PrepareMade self.shape stamps requests m × InTurn self.host m.ui d
   Justified (Accepted (message.Commit m)) d = CommitMade self.shape stamps requests m × InTurn self.host m.ui d
-  Justified (Accepted (message.Reply m)) d = ⊥
+  Justified (Accepted _) d = ⊥
   Justified (Stamped (stamped.Prepare m)) d = PrepareMade self.shape stamps requests m × IsOwn self.host m.ui m.pos d
   Justified (Stamped (stamped.Commit m)) d = CommitMade self.shape stamps requests m × IsOwn self.host m.ui m.pos d
+  Justified (Stamped _) d = ⊥
   Justified (Executed slot) d = IsSupported slot d
 
   -- each entry is justified behind what stood before it

@@ -2,22 +2,25 @@
 use Rattle.std.proofs.Common.{◌≡◌, ℕ, ◌+◌, List, [], ◌∷◌, length, sym, ap, ◌∙◌, inl, inr, eqb, Some}
 use Rattle.std.proofs.lemmas.Bool.{cases_Bool, eqb-true}
 use Rattle.mb_base.specs.Shapes.{Bytes, primary}
-use Rattle.mb_msg.specs.declared.parts.Request.{Request}
-use Rattle.mb_msg.specs.declared.message.Stamped.{Stamped as StampedMessage}
-use Rattle.mb_msg.specs.declared.message.Stamped.TheVariants as stamped
-use Rattle.mb_msg.specs.Bares as bare
-use Rattle.mb_msg.specs.Bares.{Bare, bare_of, request_digest}
-use Rattle.mb_model.specs.History.{Entry, Accepted, Stamped, Executed, History, Self, said, counter_of}
+use Rattle.mb_parts.specs.declared.request.Request.{Request}
+use Rattle.mb_msg.specs.declared.stamped.Stamped.{Stamped as StampedMessage}
+use Rattle.mb_msg.specs.declared.stamped.Stamped.TheVariants as stamped
+use Rattle.mb_parts.specs.Bares as bare
+use Rattle.mb_parts.specs.Bares.{Bare, request_digest}
+use Rattle.mb_msg.specs.Stamps.{bare_of}
+use Rattle.mb_model.specs.History.{Entry, Accepted, Stamped, Executed, History, Identity, said, counter_of}
 use Rattle.mb_model.specs.History as history
 use Rattle.mb_theory.proofs.Counters.{at_counter}
 use Rattle.mb_theory.proofs.Legal.{Stamps, Orders, Legal}
 use Rattle.mb_theory.proofs.Searches.{said_length}
 
+-- of a vote
 abbrev pub position_of : Bare → ℕ
 position_of (bare.Prepare view pos digest) = pos
 position_of (bare.Commit view pos counter cert digest) = pos
+position_of _ = 0
 
-module _ {S : Type 0} (self : Self S) (stamps : Stamps) (requests : List Request) where
+module _ {S : Type 0} (self : Identity S) (stamps : Stamps) (requests : List Request) where
   placed_next : (m : StampedMessage) (d : History) (n : ℕ) (b : Bare) → position_of (bare_of m) ≡ counter_of d + 1
       → (at_counter (said d) n ≡ Some b → position_of b ≡ n) → at_counter (bare_of m ∷ said d) n ≡ Some b → position_of b ≡ n
   placed_next m d n b place more e = elim (cases_Bool (eqb n (length (said d) + 1))) [
@@ -35,13 +38,14 @@ module _ {S : Type 0} (self : Self S) (stamps : Stamps) (requests : List Request
   placed (Accepted m ∷ d) n b l e = placed d n b l.1 e
   placed (Stamped (stamped.Prepare m) ∷ d) n b l e = placed_next (stamped.Prepare m) d n b l.0.1.place (placed d n b l.1) e
   placed (Stamped (stamped.Commit m) ∷ d) n b l e = placed_next (stamped.Commit m) d n b l.0.1.place (placed d n b l.1) e
+  placed (Stamped _ ∷ d) n b l e = absurd l.0
   placed (Executed slot ∷ d) n b l e = placed d n b l.1 e
 
 same_digest : (v w p q : ℕ) (x y : Bytes) → Some (bare.Prepare v p x) ≡ Some (bare.Prepare w q y) → x ≡ y
 same_digest v w p q x y e = cc
 
 -- The primary ordered one request at a position, whatever counters two slots of it name.
-pub one_request : {S : Type 0} (self : Self S) (stamps : Stamps) (requests : List Request) (d : History) → Legal self stamps requests d → said d ≡ stamps (primary self.shape 0)
+pub one_request : {S : Type 0} (self : Identity S) (stamps : Stamps) (requests : List Request) (d : History) → Legal self stamps requests d → said d ≡ stamps (primary self.shape 0)
     → (p n k : ℕ) (q r : Request) → Orders self.shape stamps requests p n q → Orders self.shape stamps requests p k r → request_digest q ≡ request_digest r
 one_request self stamps requests d l is p n k q r a b =
     let first : p ≡ n = placed self stamps requests d n (bare.Prepare 0 p (request_digest q)) l (ap (λ (u : List Bare). at_counter u n) is ∙ a.issued) in

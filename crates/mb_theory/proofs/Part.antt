@@ -4,14 +4,14 @@ use Rattle.std.specs.Prelude.{map, fold}
 use Rattle.std.specs.List.{AllByRecursion}
 use Rattle.std.proofs.lemmas.List.{append-nil, map-append}
 use Rattle.mb_base.specs.Shapes.{Bytes, host_count}
-use Rattle.mb_msg.specs.declared.parts.Request.{Request}
+use Rattle.mb_parts.specs.declared.request.Request.{Request}
 use Rattle.mb_msg.specs.declared.event.Slot.{Slot}
-use Rattle.mb_msg.specs.declared.message.Stamped.{Stamped as StampedMessage}
-use Rattle.mb_msg.specs.declared.message.Stamped.TheVariants as stamped
-use Rattle.mb_msg.specs.Bares.{bare_of}
-use Rattle.mb_msg.specs.Fits.{FitsRequest}
-use Rattle.mb_msg.specs.Spelling.{spelling, as_message}
-use Rattle.mb_model.specs.History.{Entry, Accepted, Stamped, History, Self, said, counter_of}
+use Rattle.mb_msg.specs.declared.stamped.Stamped.{Stamped as StampedMessage}
+use Rattle.mb_msg.specs.declared.stamped.Stamped.TheVariants as stamped
+use Rattle.mb_msg.specs.Stamps.{bare_of, as_message}
+use Rattle.mb_parts.specs.Fits.{FitsRequest}
+use Rattle.mb_msg.specs.Spelling.{spelling}
+use Rattle.mb_model.specs.History.{Entry, Accepted, Stamped, History, Identity, said, counter_of}
 use Rattle.mb_model.specs.History as history
 use Rattle.mb_model.specs.Steps.{Letter, Progress, write, send, to_all}
 use Rattle.mb_theory.specs.World.{update, extended}
@@ -37,7 +37,7 @@ abbrev pub bytes_of : Letter → Bytes
 bytes_of letter = spelling letter.says
 
 module _ {S : Type 0} (run : Run S) (w : Before run) where
-  abbrev pub me : Self S
+  abbrev pub me : Identity S
   me = self run w.host
 
   -- what all hosts have stamped, where this one has this history
@@ -81,6 +81,7 @@ module _ {S : Type 0} (run : Run S) (w : Before run) where
   made_of : (m : StampedMessage) (d : History) → JustifiedNow (Stamped m) d → IsMade run.schedule.shape (now (Stamped m ∷ d)) w.requests (as_message m)
   made_of (stamped.Prepare m) d j = j.0
   made_of (stamped.Commit m) d j = j.0
+  made_of _ d j = absurd j
 
   pub stamps : (x : Progress) (m : StampedMessage) → Part x → JustifiedNow (Stamped m) x.history → Part (send (to_all (as_message m)) (write (Stamped m) x))
   stamps x m i justified =

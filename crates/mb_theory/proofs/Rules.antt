@@ -6,16 +6,18 @@ use Rattle.std.proofs.lemmas.List.{append-nil}
 use Rattle.std.proofs.lemmas.List.Sums.{fold-append}
 use Rattle.mb_base.specs.Shapes.{Bytes, primary, host_count}
 use Rattle.mb_usig.proofs.Laws.{length-certificate}
-use Rattle.mb_msg.specs.declared.parts.Request.{Request}
+use Rattle.mb_parts.specs.declared.request.Request.{Request}
 use Rattle.mb_msg.specs.declared.message.Body.{Body}
 use Rattle.mb_msg.specs.declared.message.Body.TheVariants.{Whole}
-use Rattle.mb_msg.specs.declared.message.Prepare.{Prepare}
-use Rattle.mb_msg.specs.declared.message.Commit.{Commit}
-use Rattle.mb_msg.specs.declared.message.Stamped.TheVariants as stamped
+use Rattle.mb_msg.specs.declared.normal.Prepare.{Prepare}
+use Rattle.mb_msg.specs.declared.normal.Commit.{Commit}
+use Rattle.mb_msg.specs.declared.stamped.Stamped.TheVariants as stamped
 use Rattle.mb_msg.specs.declared.event.Slot.{Slot}
-use Rattle.mb_msg.specs.Bares as bare
-use Rattle.mb_msg.specs.Bares.{request_digest, request_bytes, body_digest}
-use Rattle.mb_msg.specs.Fits.{FitsRequest, FitsBody}
+use Rattle.mb_parts.specs.Bares as bare
+use Rattle.mb_parts.specs.Bares.{request_digest}
+use Rattle.mb_parts.specs.Spelling.{request_bytes}
+use Rattle.mb_msg.specs.Bodies.{body_digest, FitsBody}
+use Rattle.mb_parts.specs.Fits.{FitsRequest}
 use Rattle.mb_msg.specs.Spelling.{spelling}
 use Rattle.mb_model.specs.declared.known.KnownSlot.{KnownSlot}
 use Rattle.mb_model.specs.declared.known.LastReply.{LastReply}

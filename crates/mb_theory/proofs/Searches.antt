@@ -3,14 +3,17 @@ use Rattle.std.proofs.Common.{◌≡◌, ℕ, Bool, List, [], ◌∷◌, length,
 use Rattle.std.specs.Prelude.{◌&&◌, ◌==◌, if◌then◌else◌}
 use Rattle.std.proofs.lemmas.Bool.{cases_Bool, and_parts, eqb-true, eq-eqb, ne_eqb}
 use Rattle.std.proofs.lemmas.List.{length-map}
-use Rattle.mb_msg.specs.declared.parts.Request.{Request}
-use Rattle.mb_msg.specs.declared.message.Prepare.{Prepare}
+use Rattle.mb_parts.specs.declared.request.Request.{Request}
+use Rattle.mb_msg.specs.declared.normal.Prepare.{Prepare}
 use Rattle.mb_msg.specs.declared.message.Message.TheVariants as message
-use Rattle.mb_msg.specs.declared.message.Stamped.TheVariants as stamped
-use Rattle.mb_msg.specs.Bares.{request_digest, request_bytes, body_digest, bare_of}
-use Rattle.mb_msg.specs.Fits.{IsCounter, IsPosition, IsDigest}
+use Rattle.mb_msg.specs.declared.stamped.Stamped.TheVariants as stamped
+use Rattle.mb_parts.specs.Bares.{request_digest}
+use Rattle.mb_parts.specs.Spelling.{request_bytes}
+use Rattle.mb_msg.specs.Bodies.{body_digest}
+use Rattle.mb_msg.specs.Stamps.{bare_of}
+use Rattle.mb_parts.specs.Fits.{IsCounter, IsPosition, IsDigest}
 use Rattle.mb_model.specs.declared.known.KnownSlot.{KnownSlot}
-use Rattle.mb_model.specs.History.{Entry, Accepted, Stamped, Executed, History, Self, stamped_in, said, taken_of, counter_of, last_position, last_of}
+use Rattle.mb_model.specs.History.{Entry, Accepted, Stamped, Executed, History, Identity, stamped_in, said, taken_of, counter_of, last_position, last_of}
 use Rattle.mb_model.specs.History as history
 use Rattle.mb_model.specs.Slots.{whole_body, slot_of_prepare, slot_from, in_window, slot_in, if_above, pending}
 use Rattle.mb_model.proofs.Options.{or_some, if_some}
@@ -21,7 +24,7 @@ use Rattle.mb_theory.proofs.Legal.{Stamps, Orders, PrepareMade, Justified, Legal
 pub said_length : (d : History) → length (said d) ≡ counter_of d
 said_length d = length-map (history.stamped d) bare_of
 
-module _ {S : Type 0} (self : Self S) (stamps : Stamps) (requests : List Request) where
+module _ {S : Type 0} (self : Identity S) (stamps : Stamps) (requests : List Request) where
   -- of this host itself nothing is taken but what it stamped
   pub own_taken : (d : History) → Legal self stamps requests d → taken_of d self.host ≡ said d
   unfolding taken_of history.stamped
@@ -29,9 +32,10 @@ module _ {S : Type 0} (self : Self S) (stamps : Stamps) (requests : List Request
   own_taken (Accepted (message.Request r) ∷ d) l = own_taken d l.1
   own_taken (Accepted (message.Prepare m) ∷ d) l = rw (ne_eqb m.ui.host self.host l.0.1.other) (own_taken d l.1)
   own_taken (Accepted (message.Commit m) ∷ d) l = rw (ne_eqb m.ui.host self.host l.0.1.other) (own_taken d l.1)
-  own_taken (Accepted (message.Reply m) ∷ d) l = absurd l.0
+  own_taken (Accepted _ ∷ d) l = absurd l.0
   own_taken (Stamped (stamped.Prepare m) ∷ d) l = rw (eq-eqb m.ui.host self.host l.0.1.own) (rw (own_taken d l.1) refl)
   own_taken (Stamped (stamped.Commit m) ∷ d) l = rw (eq-eqb m.ui.host self.host l.0.1.own) (rw (own_taken d l.1) refl)
+  own_taken (Stamped _ ∷ d) l = absurd l.0
   own_taken (Executed slot ∷ d) l = own_taken d l.1
 
   -- in view 0 the last position is the counter
@@ -41,6 +45,7 @@ module _ {S : Type 0} (self : Self S) (stamps : Stamps) (requests : List Request
   last_is (Accepted m ∷ d) l = last_is d l.1
   last_is (Stamped (stamped.Prepare m) ∷ d) l = omega (arith, l.0.1.place)
   last_is (Stamped (stamped.Commit m) ∷ d) l = omega (arith, l.0.1.place)
+  last_is (Stamped _ ∷ d) l = absurd l.0
   last_is (Executed slot ∷ d) l = last_is d l.1
 
   -- ---- slots
@@ -80,9 +85,10 @@ module _ {S : Type 0} (self : Self S) (stamps : Stamps) (requests : List Request
   entry_slot (Accepted (message.Request r)) d v p k x e = absurd cc
   entry_slot (Accepted (message.Prepare m)) d v p k x e = prepare_slot m v p k x.0 e
   entry_slot (Accepted (message.Commit m)) d v p k x e = absurd cc
-  entry_slot (Accepted (message.Reply m)) d v p k x e = absurd cc
+  entry_slot (Accepted _) d v p k x e = absurd x
   entry_slot (Stamped (stamped.Prepare m)) d v p k x e = prepare_slot m v p k x.0 e
   entry_slot (Stamped (stamped.Commit m)) d v p k x e = absurd cc
+  entry_slot (Stamped _) d v p k x e = absurd x
   entry_slot (Executed slot) d v p k x e = absurd cc
 
   pub slot_fine : (d : History) (v p : ℕ) (k : KnownSlot) → Legal self stamps requests d → slot_in self d v p ≡ Some k → SlotFine p k

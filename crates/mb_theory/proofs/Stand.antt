@@ -5,18 +5,21 @@ use Rattle.std.proofs.lemmas.Bool.{cases_Bool, and_parts, eqb-true}
 use Rattle.std.proofs.lemmas.List.{append-nil, nil_from_length}
 use Rattle.mb_base.specs.Shapes.{Bytes}
 use Rattle.mb_base.specs.declared.names.Ui.{Ui}
-use Rattle.mb_msg.specs.declared.parts.Request.{Request}
+use Rattle.mb_parts.specs.declared.request.Request.{Request}
 use Rattle.mb_msg.specs.declared.message.Body.{Body}
 use Rattle.mb_msg.specs.declared.message.Body.TheVariants.{Whole}
-use Rattle.mb_msg.specs.declared.message.Prepare.{Prepare}
-use Rattle.mb_msg.specs.declared.message.Commit.{Commit}
+use Rattle.mb_msg.specs.declared.normal.Prepare.{Prepare}
+use Rattle.mb_msg.specs.declared.normal.Commit.{Commit}
 use Rattle.mb_msg.specs.declared.message.Message.TheVariants as message
-use Rattle.mb_msg.specs.declared.message.Stamped.{Stamped as StampedMessage}
-use Rattle.mb_msg.specs.declared.message.Stamped.TheVariants as stamped
-use Rattle.mb_msg.specs.Bares as bare
-use Rattle.mb_msg.specs.Bares.{Bare, request_bytes, body_digest, bare_of, ui_of}
+use Rattle.mb_msg.specs.declared.stamped.Stamped.{Stamped as StampedMessage}
+use Rattle.mb_msg.specs.declared.stamped.Stamped.TheVariants as stamped
+use Rattle.mb_parts.specs.Bares as bare
+use Rattle.mb_parts.specs.Bares.{Bare}
+use Rattle.mb_parts.specs.Spelling.{request_bytes}
+use Rattle.mb_msg.specs.Bodies.{body_digest}
+use Rattle.mb_msg.specs.Stamps.{bare_of, ui_of}
 use Rattle.mb_model.specs.declared.known.Vote.{Vote}
-use Rattle.mb_model.specs.History.{Entry, Accepted, Stamped, Executed, History, Self, onto, by_host, stamped_in, taken_of, counter_of, last_counter}
+use Rattle.mb_model.specs.History.{Entry, Accepted, Stamped, Executed, History, Identity, onto, by_host, stamped_in, taken_of, counter_of, last_counter}
 use Rattle.mb_model.specs.Slots.{in_window, vote_at, vote_from, vote_of}
 use Rattle.mb_model.proofs.Options.{or_some, if_some}
 use Rattle.mb_theory.proofs.Counters.{at_counter, IsOnce, at_bound}
@@ -47,7 +50,7 @@ says_prepare v w p b c x y = rw (x, y) refl
 says_commit : (v w p n : ℕ) (cert : Bytes) (b c : Body Request) → v ≡ w → b ≡ c → bare.Commit w p n cert (body_digest request_bytes c) ≡ bare.Commit v p n cert (body_digest request_bytes b)
 says_commit v w p n cert b c x y = rw (x, y) refl
 
-module _ {S : Type 0} (self : Self S) (stamps : Stamps) (requests : List Request) where
+module _ {S : Type 0} (self : Identity S) (stamps : Stamps) (requests : List Request) where
   abbrev IsIssued : StampedMessage → Type 0
   IsIssued m = at_counter (stamps (ui_of m).host) (ui_of m).counter ≡ Some (bare_of m)
 
@@ -77,9 +80,10 @@ module _ {S : Type 0} (self : Self S) (stamps : Stamps) (requests : List Request
   taken_begins (Accepted (message.Request r) ∷ d) g l = taken_begins d g l.1
   taken_begins (Accepted (message.Prepare m) ∷ d) g l = taken_next (stamped.Prepare m) g d (taken_begins d g l.1) (prepare_issued m l.0.0) l.0.1.next
   taken_begins (Accepted (message.Commit m) ∷ d) g l = taken_next (stamped.Commit m) g d (taken_begins d g l.1) (commit_issued m l.0.0) l.0.1.next
-  taken_begins (Accepted (message.Reply m) ∷ d) g l = absurd l.0
+  taken_begins (Accepted _ ∷ d) g l = absurd l.0
   taken_begins (Stamped (stamped.Prepare m) ∷ d) g l = taken_next (stamped.Prepare m) g d (taken_begins d g l.1) (prepare_issued m l.0.0) (own_next m.ui d l.1 l.0.1.own l.0.1.next)
   taken_begins (Stamped (stamped.Commit m) ∷ d) g l = taken_next (stamped.Commit m) g d (taken_begins d g l.1) (commit_issued m l.0.0) (own_next m.ui d l.1 l.0.1.own l.0.1.next)
+  taken_begins (Stamped _ ∷ d) g l = absurd l.0
   taken_begins (Executed slot ∷ d) g l = taken_begins d g l.1
 
   -- ---- votes
@@ -112,9 +116,10 @@ module _ {S : Type 0} (self : Self S) (stamps : Stamps) (requests : List Request
   entry_vote (Accepted (message.Request r)) d g v p x j e = absurd cc
   entry_vote (Accepted (message.Prepare m)) d g v p x j e = prepare_vote m g v p x j.0 e
   entry_vote (Accepted (message.Commit m)) d g v p x j e = commit_vote m g v p x j.0 e
-  entry_vote (Accepted (message.Reply m)) d g v p x j e = absurd j
+  entry_vote (Accepted _) d g v p x j e = absurd j
   entry_vote (Stamped (stamped.Prepare m)) d g v p x j e = prepare_vote m g v p x j.0 e
   entry_vote (Stamped (stamped.Commit m)) d g v p x j e = commit_vote m g v p x j.0 e
+  entry_vote (Stamped _) d g v p x j e = absurd j
   entry_vote (Executed slot) d g v p x j e = absurd cc
 
   -- each vote that a search finds stands in its host's own list

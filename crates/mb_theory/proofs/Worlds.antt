@@ -4,9 +4,9 @@ use Rattle.std.specs.Prelude.{slice_get}
 use Rattle.std.specs.List.{AllByRecursion}
 use Rattle.std.proofs.lemmas.List.{append-nil}
 use Rattle.mb_base.specs.Shapes.{Bytes, host_count}
-use Rattle.mb_msg.specs.declared.parts.Request.{Request}
+use Rattle.mb_parts.specs.declared.request.Request.{Request}
 use Rattle.mb_msg.specs.declared.message.Message.TheVariants as message
-use Rattle.mb_msg.specs.Fits.{FitsRequest}
+use Rattle.mb_parts.specs.Fits.{FitsRequest}
 use Rattle.mb_model.specs.Service.{served_all}
 use Rattle.mb_model.specs.History.{History, exec_of}
 use Rattle.mb_model.specs.Slots.{state_of}

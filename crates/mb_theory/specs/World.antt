@@ -2,13 +2,13 @@
 use Rattle.std.specs.Prelude.{ℕ, zero, suc, ◌+◌, Bool, true, is_some, List, [], ◌∷◌, ◌++◌, length, map, count_by, ◌==◌, Option, Some, None, if◌then◌else◌, slice_get, fold}
 use Rattle.mb_base.specs.Shapes.{Bytes}
 use Rattle.mb_usig.specs.Tags.{request_tag}
-use Rattle.mb_msg.specs.declared.parts.Request.{Request}
+use Rattle.mb_parts.specs.declared.request.Request.{Request}
 use Rattle.mb_msg.specs.declared.event.Event.TheVariants as event
 use Rattle.mb_msg.specs.declared.event.Slot.{Slot}
 use Rattle.mb_msg.specs.declared.event.Outcome.{Outcome}
 use Rattle.mb_msg.specs.declared.message.Message.TheVariants as message
 use Rattle.mb_msg.specs.Spelling.{spelling}
-use Rattle.mb_model.specs.History.{History, Self}
+use Rattle.mb_model.specs.History.{History, Identity}
 use Rattle.mb_model.specs.Transition.{Answer, transition}
 use Rattle.mb_sched.specs.declared.schedule.Schedule.{Schedule}
 use Rattle.mb_sched.specs.declared.schedule.WorldEvent.{WorldEvent}
@@ -48,7 +48,7 @@ asked_by asked c = count_by (λ r. r.client == c) asked
 
 -- over any service: what it does, and the state that each host is made with
 module _ {S : Type 0} (machine : Machine S) (initial : S) (s : Schedule) where
-  abbrev pub self_of : ℕ → Self S
+  abbrev pub self_of : ℕ → Identity S
   self_of h = record { shape = s.shape; host = h; secret = s.secret; machine = machine; initial = initial }
 
   -- ---- a client asks

@@ -1,26 +1,27 @@
 -- What a host represents after it accepted a message.
-use Rattle.std.proofs.Common.{◌≡◌, ◌≢◌, ℕ, ◌+◌, ◌<◌, ◌≤◌, Bool, true, false, cond, ◌&&◌, ◌==◌, List, [], ◌∷◌, length, set, Option, Some, None, refl, sym, ap, ◌∙◌, subst, eqb, eq-eqb, arith, if◌then◌else◌, slice_get, map, nat_lt, inl, inr}
-use Rattle.std.proofs.lemmas.Bool.{ne_eqb, cases_eq, ltb-false, leb-false, lt-ltb}
+use Rattle.std.proofs.Common.{◌≡◌, ◌≢◌, ℕ, ◌+◌, ◌<◌, ◌≤◌, Bool, true, false, ◌&&◌, List, ◌∷◌, length, set, Option, Some, None, refl, sym, ap, ◌∙◌, subst, eqb, eq-eqb, arith, slice_get, map, nat_lt, inl, inr}
+use Rattle.std.proofs.lemmas.Bool.{cases_eq, ltb-false, leb-false}
 use Rattle.std.proofs.lemmas.Option.{same_Some}
 use Rattle.std.specs.Bool.{then_some}
 use Rattle.std.specs.Option.{option_or}
-use Rattle.mb_base.specs.Shapes.{span, host_count, client_count}
+use Rattle.mb_base.specs.Shapes.{client_count}
 use Rattle.mb_base.specs.declared.shape.Shape.{Shape}
 use Rattle.mb_base.specs.declared.names.Ui.{Ui}
-use Rattle.mb_msg.specs.declared.parts.Request.{Request}
-use Rattle.mb_msg.specs.declared.event.Outcome.{Outcome}
+use Rattle.mb_parts.specs.declared.request.Request.{Request}
 use Rattle.mb_msg.specs.declared.event.Outcome.TheVariants as outcome
+use Rattle.mb_msg.specs.declared.normal.Prepare.{Prepare}
+use Rattle.mb_msg.specs.declared.normal.Commit.{Commit}
 use Rattle.mb_msg.specs.declared.message.Message.{Message}
 use Rattle.mb_msg.specs.declared.message.Message.TheVariants as message
-use Rattle.mb_msg.specs.declared.message.Stamped.{Stamped as StampedMessage}
-use Rattle.mb_msg.specs.declared.message.Stamped.TheVariants as stamped
-use Rattle.mb_msg.specs.Bares.{ui_of, bare_of}
-use Rattle.mb_msg.specs.Fits.{FitsRequest}
-use Rattle.mb_msg.specs.Spelling.{as_stamped}
-use Rattle.mb_model.specs.History.{Entry, Accepted, History, Self, stamped, stamped_in, taken_of, counter_of, last_counter, last_position, exec_of}
-use Rattle.mb_model.specs.Slots.{pending, state_of}
+use Rattle.mb_msg.specs.declared.stamped.Stamped.{Stamped as StampedMessage}
+use Rattle.mb_msg.specs.Stamps.{ui_of, bare_of, as_stamped}
+use Rattle.mb_parts.specs.Fits.{FitsRequest}
+use Rattle.mb_model.specs.History.{Accepted, History, Identity, counter_of, last_counter, last_position}
+use Rattle.mb_model.specs.Slots.{pending}
 use Rattle.mb_model.specs.declared.known.KnownSlot.{KnownSlot}
 use Rattle.mb_model.specs.Checks.{identifier_refusal, stamped_refusal}
+use Rattle.mb_model.specs.Steps.{Progress}
+use Rattle.mb_model.specs.Transition.{answer, give_built}
 use Rattle.minbft.specs.declared.replica.Replica.{Replica}
 use Rattle.minbft.specs.declared.tables.Tables.{Tables}
 use Rattle.minbft.specs.Store.{Pairs}
@@ -49,11 +50,11 @@ both-false true b e t = e
 both-false false b e t = absurd cc
 
 -- it is the next one of another host
-pub record IsNext {S : Type 0} (self : Self S) (d : History) (u : Ui) : Type 0 where
+pub record IsNext {S : Type 0} (self : Identity S) (d : History) (u : Ui) : Type 0 where
   pub next : u.counter ≡ last_counter d u.host + 1
   pub other : u.host ≢ self.host
 
-pub accepted_next : {S : Type 0} (self : Self S) (d : History) (m : StampedMessage) → last_counter d self.host ≡ counter_of d → stamped_refusal self d m ≡ None → IsNext self d (ui_of m)
+pub accepted_next : {S : Type 0} (self : Identity S) (d : History) (m : StampedMessage) → last_counter d self.host ≡ counter_of d → stamped_refusal self d m ≡ None → IsNext self d (ui_of m)
 unfolding stamped_refusal identifier_refusal
 accepted_next self d m own passes =
     let by_ui = or-none_left (identifier_refusal self d m) _ passes in
@@ -73,7 +74,7 @@ accepted_next self d m own passes =
 -- ---- one more accepted message
 
 -- a PREPARE or a COMMIT of another host
-pub accepted_stamped : (self : Self Pairs) (r r' : Replica) (d : History) (m : Message) (sm : StampedMessage) → as_stamped m ≡ Some sm → me r' ≡ me r → r'.usig ≡ r.usig → r'.last ≡ r.last → r'.exec ≡ r.exec → r'.pending ≡ r.pending → r'.replies ≡ r.replies → r'.store ≡ r.store
+pub accepted_stamped : (self : Identity Pairs) (r r' : Replica) (d : History) (m : Message) (sm : StampedMessage) → as_stamped m ≡ Some sm → me r' ≡ me r → r'.usig ≡ r.usig → r'.last ≡ r.last → r'.exec ≡ r.exec → r'.pending ≡ r.pending → r'.replies ≡ r.replies → r'.store ≡ r.store
     → stamped_refusal self d sm ≡ None → Represents self r d → RepresentsTables self r'.tables (Accepted m ∷ d) → Represents self r' (Accepted m ∷ d)
 accepted_stamped self r r' d m sm is who usig last exec waiting replies store passes st tables =
     let next = accepted_next self d sm st.own passes in
@@ -95,7 +96,7 @@ pub requests_fit-set : (s : Shape) (requests : List (Option Request)) (a : ℕ) 
 requests_fit-set s requests a r holds fit = λ i q at.
     each-set (λ (o : Option Request). (x : Request) → o ≡ Some x → FitsRequest s x) requests a (Some r) (λ x e. subst (λ (y : Request). FitsRequest s y) (same_Some r x e) holds) (λ j o e x is. fit j x (e ∙ ap (λ (y : Option Request). Some y) is)) i (Some q) at q refl
 
-tables_request : (self : Self Pairs) (q : Request) (d : History) (t : Tables) → RepresentsTables self t d → RepresentsTables self t (Accepted (message.Request q) ∷ d)
+tables_request : (self : Identity Pairs) (q : Request) (d : History) (t : Tables) → RepresentsTables self t d → RepresentsTables self t (Accepted (message.Request q) ∷ d)
 tables_request self q d t st = record {
   shape = st.shape;
   counters = λ h lt. st.counters h lt ∙ sym (last_counter-request q d h);
@@ -103,7 +104,7 @@ tables_request self q d t st = record {
   votes = λ i h lt of. st.votes i h lt of ∙ sym (vote_of-request self q d h 0 (0 + i + 1));
 }
 
-pub accepted_request : (self : Self Pairs) (r r' : Replica) (d : History) (q : Request) (at : ℕ) → at ≡ q.client → length r.pending.items ≡ client_count r.shape → q.client < client_count r.shape
+pub accepted_request : (self : Identity Pairs) (r r' : Replica) (d : History) (q : Request) (at : ℕ) → at ≡ q.client → length r.pending.items ≡ client_count r.shape → q.client < client_count r.shape
     → me r' ≡ me r → r'.usig ≡ r.usig → r'.tables ≡ r.tables → r'.last ≡ r.last → r'.exec ≡ r.exec → r'.pending.items ≡ set r.pending.items at (Some q) → r'.replies ≡ r.replies → r'.store ≡ r.store
     → Represents self r d → Represents self r' (Accepted (message.Request q) ∷ d)
 accepted_request self r r' d q at place len in_range who usig tables last exec waiting replies store st =
@@ -125,3 +126,12 @@ accepted_request self r r' d q at place len in_range who usig tables last exec w
       | inl same ↦ ap (slice_get (set r.pending.items at (Some q))) same ∙ slice_get-set_same r.pending.items at (Some q) (omega arith) ∙ ap (λ (o : Option Request). Some o) (sym (pending-here q d c (sym place ∙ sym same)))
       | inr other ↦ slice_get-set_other r.pending.items at c (Some q) other ∙ st.waiting c lt ∙ ap (λ (o : Option Request). Some o) (sym (pending-elsewhere q d c (λ e. other (sym e ∙ sym place))))
     ]
+
+-- ---- a message of a built kind
+
+-- all but a REQUEST, a PREPARE and a COMMIT are passed over
+pub only_idle : {S : Type 0} (self : Identity S) (m : Message) (x : Progress) → ((r : Request) → m ≡ message.Request r → ⊥) → ((p : Prepare) → m ≡ message.Prepare p → ⊥) → ((c : Commit) → m ≡ message.Commit c → ⊥) → give_built self m x ≡ answer outcome.Idle x
+only_idle self (message.Request r) x not_request not_prepare not_commit = absurd (not_request r refl)
+only_idle self (message.Prepare p) x not_request not_prepare not_commit = absurd (not_prepare p refl)
+only_idle self (message.Commit c) x not_request not_prepare not_commit = absurd (not_commit c refl)
+only_idle self _ x not_request not_prepare not_commit = refl

@@ -1,15 +1,14 @@
 -- What one more entry with a stamped message changes in the searches of a history, and what an accepted message leaves.
-use Rattle.std.proofs.Common.{◌≡◌, ◌≢◌, ℕ, ◌+◌, ◌<◌, ◌≤◌, Bool, true, false, cond, List, [], ◌∷◌, length, Option, Some, None, refl, sym, ap, ◌∙◌, subst, add-one, eqb, eq-eqb, arith, if◌then◌else◌, slice_index, slice_get, get_or}
+use Rattle.std.proofs.Common.{◌≡◌, ◌≢◌, ℕ, ◌+◌, ◌<◌, Bool, true, false, ◌∷◌, Option, Some, None, refl, sym, ap, ◌∙◌, add-one, eq-eqb, arith, if◌then◌else◌}
 use Rattle.std.proofs.lemmas.Bool.{ne_eqb, lt-ltb, le-leb}
 use Rattle.std.specs.Option.{option_or}
-use Rattle.mb_base.specs.Shapes.{span, host_count}
+use Rattle.mb_base.specs.Shapes.{span}
 use Rattle.mb_msg.specs.declared.message.Message.{Message}
 use Rattle.mb_msg.specs.declared.message.Message.TheVariants as message
-use Rattle.mb_msg.specs.declared.message.Stamped.{Stamped as StampedMessage}
-use Rattle.mb_msg.specs.declared.parts.Request.{Request}
-use Rattle.mb_msg.specs.Bares.{ui_of}
-use Rattle.mb_msg.specs.Spelling.{as_stamped}
-use Rattle.mb_model.specs.History.{Entry, Accepted, History, Self, stamped, stamped_in, taken_of, last_counter, exec_of}
+use Rattle.mb_msg.specs.declared.stamped.Stamped.{Stamped as StampedMessage}
+use Rattle.mb_parts.specs.declared.request.Request.{Request}
+use Rattle.mb_msg.specs.Stamps.{ui_of, as_stamped}
+use Rattle.mb_model.specs.History.{Entry, Accepted, History, Identity, stamped, stamped_in, taken_of, last_counter, exec_of}
 use Rattle.mb_model.specs.Slots.{slot_in, vote_of, slot_from, vote_from, in_window, pending, state_of}
 
 -- ---- options
@@ -37,7 +36,7 @@ module _ (e : Entry) (d : History) (m : StampedMessage) (is : stamped_in e ≡ S
 
   -- ---- slots and votes, at a place of the window
 
-  module _ {S : Type 0} (self : Self S) where
+  module _ {S : Type 0} (self : Identity S) where
     pub slot_in-more : (i : ℕ) → i < span self.shape → slot_in self (e ∷ d) 0 (0 + i + 1) ≡ option_or (slot_in self d 0 (0 + i + 1)) (slot_from (Some m) 0 (0 + i + 1))
     unfolding slot_in
     slot_in-more i lt = rw (is, lt-ltb 0 (0 + i + 1) (omega arith), le-leb (0 + i + 1) (0 + span self.shape) (omega arith)) refl
@@ -57,17 +56,15 @@ pub exec_of-accepted : (m : Message) (d : History) → exec_of (Accepted m ∷ d
 unfolding exec_of
 exec_of-accepted m d = refl
 
-pub state_of-accepted : {S : Type 0} (self : Self S) (m : Message) (d : History) → state_of self (Accepted m ∷ d) ≡ state_of self d
+pub state_of-accepted : {S : Type 0} (self : Identity S) (m : Message) (d : History) → state_of self (Accepted m ∷ d) ≡ state_of self d
 unfolding state_of
 state_of-accepted self m d = refl
 
--- a PREPARE or a COMMIT waits for nothing
+-- a stamped message waits for nothing
 pub pending-stamped : (m : Message) (sm : StampedMessage) (d : History) (c : ℕ) → as_stamped m ≡ Some sm → pending (Accepted m ∷ d) c ≡ pending d c
 unfolding pending
-pending-stamped (message.Prepare m) sm d c is = refl
-pending-stamped (message.Commit m) sm d c is = refl
 pending-stamped (message.Request r) sm d c is = absurd cc
-pending-stamped (message.Reply m) sm d c is = absurd cc
+pending-stamped m sm d c is = refl
 
 -- a request waits at its client
 pub pending-here : (r : Request) (d : History) (c : ℕ) → r.client ≡ c → pending (Accepted (message.Request r) ∷ d) c ≡ Some r
@@ -83,7 +80,7 @@ pub last_counter-request : (r : Request) (d : History) (h : ℕ) → last_counte
 unfolding taken_of
 last_counter-request r d h = refl
 
-module _ {S : Type 0} (self : Self S) (r : Request) (d : History) where
+module _ {S : Type 0} (self : Identity S) (r : Request) (d : History) where
   pub slot_in-request : (v p : ℕ) → slot_in self (Accepted (message.Request r) ∷ d) v p ≡ slot_in self d v p
   unfolding slot_in
   slot_in-request v p = ap (option_or (slot_in self d v p)) (if-same (in_window self d p) None) ∙ or-none (slot_in self d v p)

@@ -1,13 +1,12 @@
 -- What an answer to a text says where the status is 0, and where all goes well.
-use Rattle.std.proofs.Common.{◌≡◌, ℕ, ◌-◌, ◌≤◌, ◌<◌, length, Ok, Err, refl, sym, ap, subst, ◌∙◌, arith, rules, ◌⊎◌, inl, inr}
+use Rattle.std.proofs.Common.{◌≡◌, ℕ, ◌-◌, ◌<◌, length, sym, subst, ◌∙◌, arith, ◌⊎◌, inl, inr}
 use Rattle.std.proofs.lemmas.Option.{slice_get_within}
 use Rattle.mb_base.specs.Shapes.{Bytes}
 use Rattle.mb_sched.specs.declared.schedule.Schedule.{Schedule}
-use Rattle.mb_sched.specs.Lines.{Bad, Unbuilt}
-use Rattle.mb_sched.specs.Schedules.{schedule_of, contents, IsScheduleText}
+use Rattle.mb_sched.specs.Schedules.{IsScheduleText}
 use Rattle.minbft.proofs.OneSchedule.{same_schedule}
 use Rattle.minbft.specs.WorldTables.{ArePossible, IsFirstImpossible}
-use Rattle.minbft.specs.Program.{AnswersRun, missing_message, replayed, Answers, too_long, bad_line, unbuilt_line, ran, Device, Says, said, failed, cut_short, Replays, answered, unread, starved, ReportsOn, IsComplete, final_report}
+use Rattle.minbft.specs.Program.{AnswersRun, missing_message, replayed, Answers, too_long, bad_line, unbuilt_line, ran, Device, Says, said, failed, cut_short, Replays, answered, unread, starved, ReportsOn, IsComplete}
 use Rattle.std.specs.Io.KnownBytes.{Appends}
 use Rattle.mb_edge.specs.Faults.{Rose}
 

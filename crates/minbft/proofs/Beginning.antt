@@ -1,12 +1,12 @@
 -- What a host represents that nothing has happened to.
-use Rattle.std.proofs.Common.{◌≡◌, ℕ, zero, suc, ◌<◌, ◌≤◌, List, [], ◌∷◌, Option, Some, None, refl, sym, ap, ◌∙◌, subst, arith, slice_get, replicate}
+use Rattle.std.proofs.Common.{◌≡◌, ℕ, zero, suc, List, [], Option, Some, None, refl, sym, ap, ◌∙◌, arith, slice_get, replicate}
 use Rattle.std.proofs.lemmas.Option.{same_Some, none-some}
 use Rattle.mb_base.specs.Shapes.{client_count}
 use Rattle.mb_base.specs.declared.shape.Shape.{Shape}
-use Rattle.mb_msg.specs.declared.parts.Request.{Request}
+use Rattle.mb_parts.specs.declared.request.Request.{Request}
 use Rattle.mb_model.specs.declared.known.LastReply.{LastReply}
 use Rattle.mb_model.specs.Service.{no_reply}
-use Rattle.mb_model.specs.History.{Self, stamped, taken_of, last_position, exec_of}
+use Rattle.mb_model.specs.History.{Identity, stamped, taken_of, last_position, exec_of}
 use Rattle.mb_model.specs.Slots.{state_of, pending}
 use Rattle.minbft.specs.declared.replica.Replica.{Replica}
 use Rattle.minbft.specs.Sound.{RequestsFit, RepliesFit}
@@ -30,7 +30,7 @@ replies_fit-start replies n is = λ c a at.
     let place = ap (λ (x : LastReply). x.pos) same in
     rw (← same) (omega arith, omega arith)
 
-pub nothing_happened : (self : Self Pairs) (r : Replica) → self.machine ≡ store_machine → self.initial ≡ [] → me r ≡ self → r.usig.counter ≡ 0 → r.last ≡ 0 → r.exec ≡ 0 → r.pending.items ≡ replicate (client_count self.shape) None → r.replies.items ≡ replicate (client_count self.shape) no_reply → r.store.pairs.items ≡ []
+pub nothing_happened : (self : Identity Pairs) (r : Replica) → self.machine ≡ store_machine → self.initial ≡ [] → me r ≡ self → r.usig.counter ≡ 0 → r.last ≡ 0 → r.exec ≡ 0 → r.pending.items ≡ replicate (client_count self.shape) None → r.replies.items ≡ replicate (client_count self.shape) no_reply → r.store.pairs.items ≡ []
     → RepresentsTables self r.tables [] → Represents self r []
 unfolding stamped taken_of last_position exec_of pending state_of
 nothing_happened self r machine initial who counter last exec waiting replies pairs tables = record {

@@ -1,13 +1,12 @@
 -- The refusals by a counter, case by case.
-use Rattle.std.proofs.Common.{◌≡◌, ℕ, ◌+◌, ◌-◌, ◌^◌, ◌<◌, ◌≤◌, min, true, false, Some, None, refl, sym, arith}
+use Rattle.std.proofs.Common.{◌≡◌, ℕ, ◌+◌, ◌-◌, ◌^◌, ◌<◌, ◌≤◌, min, false, Some, None, refl, arith}
 use Rattle.std.proofs.lemmas.Bool.{le-leb, lt-leb, lt-ltb, le-ltb}
 use Rattle.mb_base.specs.declared.names.Ui.{Ui}
 use Rattle.mb_msg.specs.declared.event.Outcome.TheVariants as outcome
-use Rattle.mb_model.specs.History.{History, Self, last_counter}
-use Rattle.mb_model.specs.Checks.{is_own_future}
-use Rattle.minbft.specs.Refusals.{counter_refusal}
+use Rattle.mb_model.specs.History.{History, Identity, last_counter}
+use Rattle.mb_model.specs.Checks.{is_own_future, counter_refusal}
 
-module _ {S : Type 0} (self : Self S) (d : History) (u : Ui) (last next : ℕ) (own : false ≡ is_own_future self d u) (is : last ≡ last_counter d u.host) (told : next ≡ min (last + 1) (2 ^ 64 - 1)) where
+module _ {S : Type 0} (self : Identity S) (d : History) (u : Ui) (last next : ℕ) (own : false ≡ is_own_future self d u) (is : last ≡ last_counter d u.host) (told : next ≡ min (last + 1) (2 ^ 64 - 1)) where
   pub counter-stale : u.counter ≤ last → Some (outcome.Stale next) ≡ counter_refusal self d u
   counter-stale le = rw (← own, ← is, le-leb u.counter last le, told) refl
 

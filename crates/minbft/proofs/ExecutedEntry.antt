@@ -1,5 +1,5 @@
 -- What one more executed request changes in the searches of a history, and what it leaves.
-use Rattle.std.proofs.Common.{◌≡◌, ℕ, ◌+◌, ◌<◌, Bool, true, false, List, [], ◌∷◌, ◌++◌, Option, Some, None, Result, map, length, get_or, set, refl, sym, ap, subst, ◌∙◌, cond, arith}
+use Rattle.std.proofs.Common.{◌≡◌, ℕ, ◌<◌, Bool, true, false, [], ◌∷◌, ◌++◌, Option, Some, None, Result, map, length, get_or, set, refl, sym, ap, subst, ◌∙◌, cond, arith}
 use Rattle.std.specs.Option.{option_or}
 use Rattle.std.specs.Result.{OnOk}
 use Rattle.std.proofs.lemmas.Bool.{cond-true, cond-false}
@@ -11,11 +11,11 @@ use Rattle.std.specs.declared.alloc.Global.{Global}
 use Rattle.mb_base.specs.Shapes.{client_count}
 use Rattle.mb_usig.specs.Trusted.{Trusted}
 use Rattle.minbft.specs.declared.store.Store.{Store}
-use Rattle.mb_msg.specs.declared.parts.Request.{Request}
+use Rattle.mb_parts.specs.declared.request.Request.{Request}
 use Rattle.mb_msg.specs.declared.event.Slot.{Slot}
 use Rattle.mb_model.specs.declared.known.LastReply.{LastReply}
-use Rattle.mb_model.specs.Service.{Served, Machine, is_fresh, reply_of, served}
-use Rattle.mb_model.specs.History.{History, Self, Executed, stamped, taken_of, counter_of, last_counter, last_of, exec_of}
+use Rattle.mb_model.specs.Service.{Served, is_fresh, reply_of, served}
+use Rattle.mb_model.specs.History.{History, Identity, Executed, stamped, taken_of, counter_of, last_counter, last_of, exec_of}
 use Rattle.mb_model.specs.Slots.{pending, state_of, slot_in, vote_of, in_window, if_above}
 use Rattle.mb_model.specs.Steps.{Progress, Letter, send, to_client, reply}
 use Rattle.mb_model.specs.Rules.{slot_for, with_slot, execute}
@@ -59,7 +59,7 @@ module _ (slot : Slot) (d : History) where
   unfolding pending
   pending-executed c = refl
 
-  module _ {S : Type 0} (self : Self S) where
+  module _ {S : Type 0} (self : Identity S) where
     pub state_of-executed : state_of self (Executed slot ∷ d) ≡ served self.machine (state_of self d) slot.pos slot.request
     unfolding state_of
     state_of-executed = refl
@@ -75,7 +75,7 @@ module _ (slot : Slot) (d : History) where
 -- ---- a replica
 
 -- the tables stay
-pub RepresentsTables-executed : (self : Self Pairs) (t : Tables) (slot : Slot) (d : History) → RepresentsTables self t d → RepresentsTables self t (Executed slot ∷ d)
+pub RepresentsTables-executed : (self : Identity Pairs) (t : Tables) (slot : Slot) (d : History) → RepresentsTables self t d → RepresentsTables self t (Executed slot ∷ d)
 RepresentsTables-executed self t slot d st = record {
   shape = st.shape;
   counters = λ h lt. st.counters h lt ∙ sym (last_counter-executed slot d h);
@@ -123,10 +123,10 @@ stands_executed old mid new before after x p r fresh i o w st rest serves fresh_
 -- ---- the reply
 
 -- a letter with the stored reply to the client's last executed request
-abbrev pub reply_letter : Self Pairs → History → ℕ → Letter
+abbrev pub reply_letter : Identity Pairs → History → ℕ → Letter
 reply_letter self d c = to_client c (reply self c (reply_of (state_of self d) c))
 
-module _ (self : Self Pairs) (p : ℕ) (r : Request) (x : Progress) where
+module _ (self : Identity Pairs) (p : ℕ) (r : Request) (x : Progress) where
   -- what one execution leaves, without the reply
   abbrev pub appended : Progress
   appended = with_slot self (slot_for self x.history p r) x
@@ -146,7 +146,7 @@ pub stands-answered : {T E : Type 0} (result : Result T E) (old mid : Replica) (
     → OnOk result (StandsAt (me old) mid after (execute (me old) p r x))
 stands-answered result old mid between after x p r fresh kept is_new fresh_is st sent executed =
     let y = appended (me old) p r x in
-    let represented : Represents (me mid) mid y.history = subst (λ (s : Self Pairs). Represents s mid y.history) (sym kept) st.history in
+    let represented : Represents (me mid) mid y.history = subst (λ (s : Identity Pairs). Represents s mid y.history) (sym kept) st.history in
     let letter : as_sent (reply_letter (me mid) y.history r.client) ≡ as_sent (reply_letter (me old) y.history r.client) = ap (λ s. as_sent (reply_letter s y.history r.client)) kept in
     on_ok_weaker result
     (λ (e : after.sent ≡ between.sent ++ as_sent (reply_letter (me mid) y.history r.client) ∷ []).

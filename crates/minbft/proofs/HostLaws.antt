@@ -6,7 +6,7 @@ use Rattle.mb_msg.specs.declared.event.Event.{Event}
 use Rattle.mb_msg.specs.declared.event.Step.{Step}
 use Rattle.mb_base.specs.Shapes.{Bytes}
 use Rattle.mb_base.specs.declared.shape.Shape.{Shape}
-use Rattle.mb_model.specs.History.{History, Self}
+use Rattle.mb_model.specs.History.{History, Identity}
 use Rattle.mb_model.specs.Transition.{transition}
 use Rattle.mb_sched.specs.declared.schedule.Schedule.{Schedule}
 use Rattle.minbft.specs.declared.replica.Replica.{Replica}
@@ -57,7 +57,7 @@ pub one_steps : (s : Schedule) (hosts : List Replica) (d : ℕ → History) (i :
     → IsStep step (transition (self_of s i) (d i) event) × RepresentsHosts s (set hosts i new) (update d i (transition (self_of s i) (d i) event).left.history)
 one_steps s hosts d i old new event step all at stands =
     let before = all i old at in
-    let P : Self Pairs → Type 0 = λ m. Represents m old (d i) → IsStep step (transition m (d i) event) × Represents m new (transition m (d i) event).left.history in
+    let P : Identity Pairs → Type 0 = λ m. Represents m old (d i) → IsStep step (transition m (d i) event) × Represents m new (transition m (d i) event).left.history in
     let said : P (self_of s i) = subst P before.who (stands (d i)) in
     ((said before).0, one_written s hosts d i new (transition (self_of s i) (d i) event).left.history all (said before).1)
 
@@ -85,7 +85,7 @@ made_as s shape secret h n r e f g made = rw (e, f, g) made
 
 line_is : (s : Schedule) (h : ℕ) (r : Replica) (d : History) → Represents (self_of s h) r d → line_of_host r ≡ record { host = h; state = Some (state_line d) }
 line_is s h r d rep =
-    let host : r.host ≡ h = ap (λ (m : Self Pairs). m.host) rep.who in
+    let host : r.host ≡ h = ap (λ (m : Identity Pairs). m.host) rep.who in
     rw (host, rep.exec, rep.counter) refl
 
 lines_from : (s : Schedule) (n : ℕ) (hosts : List Replica) (d : ℕ → History) → ((k h : ℕ) (r : Replica) → k ≡ n + h → slice_get hosts h ≡ Some r → Represents (self_of s k) r (d k))

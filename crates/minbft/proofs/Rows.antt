@@ -4,7 +4,7 @@ use Rattle.std.proofs.Common.{◌≡◌, ℕ, false, true, List, [], ◌∷◌, 
 use Rattle.std.specs.Prelude.{replicate, codes, unwrap_or, ⊤}
 use Rattle.mb_base.specs.Shapes.{Bytes}
 use Rattle.mb_base.specs.declared.shape.Shape.{Shape}
-use Rattle.mb_msg.specs.declared.parts.Phase.TheVariants as phase
+use Rattle.mb_parts.specs.declared.floor.Phase.TheVariants as phase
 use Rattle.mb_msg.specs.declared.event.Slot.{Slot}
 use Rattle.mb_sched.specs.declared.schedule.Schedule.{Schedule}
 use Rattle.mb_sched.specs.declared.schedule.WorldEvent.{WorldEvent}

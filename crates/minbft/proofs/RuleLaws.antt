@@ -1,25 +1,26 @@
 -- Which rule applies, by what a replica finds in its tables.
-use Rattle.std.proofs.Common.{◌≡◌, ◌⊎◌, ℕ, zero, suc, ◌+◌, ◌-◌, ◌^◌, ◌<◌, ◌≤◌, Bool, true, false, not, cond, ltb, leb, nat_lt, nat_le, ◌&&◌, List, [], ◌∷◌, Option, Some, None, option_map, option_and_then, slice_get, max, refl, sym, ap, subst, ◌∙◌, inl, inr, arith}
+use Rattle.std.proofs.Common.{◌≡◌, ◌⊎◌, ℕ, suc, ◌+◌, ◌-◌, ◌^◌, ◌<◌, ◌≤◌, Bool, true, false, not, cond, ltb, leb, nat_lt, ◌&&◌, [], ◌∷◌, Option, Some, None, option_map, option_and_then, slice_get, max, refl, sym, ap, ◌∙◌, inl, inr, arith}
 use Rattle.std.specs.Option.{option_or}
 use Rattle.std.specs.List.{range_with_len}
 use Rattle.std.specs.Ordering.{ord_max, nat_cmp}
 use Rattle.std.proofs.lemmas.Grind.{common_steps}
 use Rattle.std.proofs.lemmas.Bool.{lt-ltb, le-ltb, le-leb, lt-leb}
 use Rattle.std.proofs.lemmas.Option.{same_Some}
-use Rattle.mb_base.specs.Shapes.{Bytes, client_count, span}
-use Rattle.mb_msg.specs.declared.parts.Request.{Request}
+use Rattle.mb_base.specs.Shapes.{client_count, span}
+use Rattle.mb_parts.specs.declared.request.Request.{Request}
 use Rattle.mb_msg.specs.declared.message.Body.{Body}
 use Rattle.mb_msg.specs.declared.message.Body.TheVariants.{Whole, Bare as Short}
-use Rattle.mb_msg.specs.declared.message.Prepare.{Prepare}
-use Rattle.mb_msg.specs.declared.message.Stamped.{Stamped as StampedMessage}
-use Rattle.mb_msg.specs.declared.message.Stamped.TheVariants as stamped
-use Rattle.mb_msg.specs.Bares.{request_bytes, request_digest, body_digest}
+use Rattle.mb_msg.specs.declared.normal.Prepare.{Prepare}
+use Rattle.mb_msg.specs.declared.stamped.Stamped.{Stamped as StampedMessage}
+use Rattle.mb_msg.specs.declared.stamped.Stamped.TheVariants as stamped
+use Rattle.mb_parts.specs.Spelling.{request_bytes}
+use Rattle.mb_parts.specs.Bares.{request_digest}
+use Rattle.mb_msg.specs.Bodies.{body_digest}
 use Rattle.mb_model.specs.declared.known.KnownSlot.{KnownSlot}
-use Rattle.mb_model.specs.History.{History, Self, stamped_in, is_primary, last_of, exec_of}
+use Rattle.mb_model.specs.History.{History, Identity, stamped_in, is_primary, last_of, exec_of}
 use Rattle.mb_model.specs.Slots.{if_above, pending, slot_from, slot_of_prepare, whole_body, in_window, slot_in, slot_at}
-use Rattle.mb_model.specs.Rules.{Rule, Commit, Execute, Prepare as Order, has_room, next_position, with_request, commit_enabled, is_committed, if_committed, execute_enabled, unordered, number_of, greatest_in_slots, window, prepare_enabled}
+use Rattle.mb_model.specs.Rules.{Commit, Execute, Prepare as Order, has_room, next_position, with_request, commit_enabled, is_committed, if_committed, execute_enabled, unordered, number_of, greatest_in_slots, window, prepare_enabled}
 use Rattle.minbft.specs.declared.replica.Replica.{Replica}
-use Rattle.minbft.specs.Store.{Pairs}
 use Rattle.minbft.specs.Represents.{me, Represents}
 use Rattle.minbft.specs.declared.rules.Due.TheVariants as due
 use Rattle.minbft.specs.Due.{Names}
@@ -70,10 +71,9 @@ prepare-digest m v p k r e whole =
 
 from-digest : (m : Option StampedMessage) (v p : ℕ) (k : KnownSlot) (r : Request) → slot_from m v p ≡ Some k → k.request ≡ Some r → k.digest ≡ request_digest r
 from-digest (Some (stamped.Prepare m)) v p k r e whole = prepare-digest m v p k r e whole
-from-digest (Some (stamped.Commit m)) v p k r e whole = absurd cc
-from-digest None v p k r e whole = absurd cc
+from-digest _ v p k r e whole = absurd cc
 
-module _ {S : Type 0} (self : Self S) where
+module _ {S : Type 0} (self : Identity S) where
   slot_in-digest : (d : History) (v p : ℕ) (k : KnownSlot) (r : Request) → slot_in self d v p ≡ Some k → k.request ≡ Some r → k.digest ≡ request_digest r
   unfolding slot_in
   slot_in-digest [] v p k r e whole = absurd cc

@@ -1,9 +1,9 @@
 -- The rules in their order, again and again.
-use Rattle.std.proofs.Common.{◌≡◌, ℕ, zero, suc, ◌+◌, ◌-◌, Option, Some, None, Result, refl, sym, ap, subst, ◌∙◌}
+use Rattle.std.proofs.Common.{◌≡◌, ℕ, zero, suc, Option, Some, None, Result, refl, sym, ap, subst, ◌∙◌}
 use Rattle.std.specs.Option.{option_or}
 use Rattle.std.specs.Result.{IfOk}
 use Rattle.std.proofs.lemmas.Result.{IfOk-weaker}
-use Rattle.mb_model.specs.History.{History, Self}
+use Rattle.mb_model.specs.History.{History, Identity}
 use Rattle.mb_model.specs.Steps.{Progress}
 use Rattle.mb_model.specs.Rules.{Rule, next_rule, commit_enabled, execute_enabled, prepare_enabled, carry_out, if_enabled, run_rules, enough}
 use Rattle.minbft.specs.declared.replica.Replica.{Replica}
@@ -15,7 +15,7 @@ use Rattle.minbft.specs.Due.{Names, HasDigest, rule_of}
 
 -- ---- the first rule that applies
 
-module _ (self : Self Pairs) (d : History) where
+module _ (self : Identity Pairs) (d : History) where
   pub commit-first : (o : Option Due) (due : Due) → Names o (commit_enabled self d) → o ≡ Some due → Names (Some due) (next_rule self d)
   unfolding next_rule
   commit-first o due h is =
@@ -44,7 +44,7 @@ module _ (self : Self Pairs) (d : History) where
 
 -- ---- one more rule, or none
 
-module _ (self : Self Pairs) where
+module _ (self : Identity Pairs) where
   run_rules-more : (n : ℕ) (x : Progress) (rule : Rule) → next_rule self x.history ≡ Some rule → run_rules self (suc n) x ≡ run_rules self n (carry_out self rule x)
   unfolding run_rules
   run_rules-more n x rule e = ap (λ r. if_enabled self r x (λ y. run_rules self n y)) e
@@ -69,12 +69,12 @@ module _ (self : Self Pairs) where
   ends r done left all is run = subst (λ (x : Progress). StandsAt self r done x) (ap (λ n. run_rules self n run.at) (sym is) ∙ run.rest) run.stands
 
 -- a rule was carried out
-pub goes_on : (self : Self Pairs) (r new : Replica) (before after : Done) (o : Option Due) (due : Due) (left more : ℕ) (all : Progress) → me r ≡ self → left ≡ suc more
+pub goes_on : (self : Identity Pairs) (r new : Replica) (before after : Done) (o : Option Due) (due : Due) (left more : ℕ) (all : Progress) → me r ≡ self → left ≡ suc more
     → ((d : History) → Represents (me r) r d → Names o (next_rule (me r) d)) → o ≡ Some due
     → ((x : Progress) → StandsAt (me r) r before x → HasDigest due → StandsAt (me r) new after (carry_out (me r) (rule_of due) x))
     → Running self r before left all → Running self new after more all
 goes_on self r new before after o due left more all who is named some carried =
-    subst (λ (s : Self Pairs). Running s r before left all → Running s new after more all) who
+    subst (λ (s : Identity Pairs). Running s r before left all → Running s new after more all) who
     (λ (run : Running (me r) r before left all).
     let first : Names (Some due) (next_rule (me r) run.at.history) = subst (λ (x : Option Due). Names x (next_rule (me r) run.at.history)) some (named run.at.history run.stands.history) in
     record {
@@ -84,10 +84,10 @@ goes_on self r new before after o due left more all who is named some carried =
     })
 
 -- no rule applies
-pub stops : (self : Self Pairs) (r : Replica) (done : Done) (o : Option Due) (left : ℕ) (all : Progress) → me r ≡ self
+pub stops : (self : Identity Pairs) (r : Replica) (done : Done) (o : Option Due) (left : ℕ) (all : Progress) → me r ≡ self
     → ((d : History) → Represents (me r) r d → Names o (next_rule (me r) d)) → o ≡ None → Running self r done left all → StandsAt self r done all
 stops self r done o left all who named none =
-    subst (λ (s : Self Pairs). Running s r done left all → StandsAt s r done all) who
+    subst (λ (s : Identity Pairs). Running s r done left all → StandsAt s r done all) who
     (λ (run : Running (me r) r done left all).
     let nothing : next_rule (me r) run.at.history ≡ None = subst (λ (x : Option Due). Names x (next_rule (me r) run.at.history)) none (named run.at.history run.stands.history) in
     subst (λ (x : Progress). StandsAt (me r) r done x) (sym (run_rules-none (me r) left run.at nothing) ∙ run.rest) run.stands)

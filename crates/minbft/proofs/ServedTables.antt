@@ -1,14 +1,14 @@
 -- What the tables of the clients hold after an execution.
-use Rattle.std.proofs.Common.{◌≡◌, ℕ, ◌+◌, ◌<◌, ◌≤◌, ◌^◌, Bool, true, false, cond, eqb, ltb, List, [], ◌∷◌, Option, Some, None, length, get_or, set, refl, sym, ap, subst, ◌∙◌, inl, inr, ◌⊎◌, arith, length-set, get_or-set_same, get_or-set_other}
+use Rattle.std.proofs.Common.{◌≡◌, ℕ, ◌<◌, ◌≤◌, ◌^◌, Bool, true, false, cond, eqb, ltb, List, Option, Some, None, length, get_or, set, refl, sym, ap, ◌∙◌, inl, inr, arith}
 use Rattle.std.specs.List.{slice_get}
-use Rattle.std.proofs.lemmas.Bool.{cases_eq, cases_lt, lt-ltb, le-ltb, eq-eqb, ne_eqb}
-use Rattle.std.proofs.lemmas.Option.{slice_get-get_or, slice_get_past, slice_get_within, same_Some}
+use Rattle.std.proofs.lemmas.Bool.{cases_eq, lt-ltb, le-ltb, eq-eqb, ne_eqb}
+use Rattle.std.proofs.lemmas.Option.{slice_get-get_or, same_Some}
 use Rattle.mb_base.specs.Shapes.{Bytes, client_count}
 use Rattle.mb_base.specs.declared.shape.Shape.{Shape}
-use Rattle.mb_msg.specs.declared.parts.Request.{Request}
-use Rattle.mb_msg.specs.Fits.{FitsText, FitsRequest}
+use Rattle.mb_parts.specs.declared.request.Request.{Request}
+use Rattle.mb_parts.specs.Fits.{FitsText, FitsRequest}
 use Rattle.mb_model.specs.declared.known.LastReply.{LastReply}
-use Rattle.mb_model.specs.Service.{Served, Machine, is_fresh, reply_of, served, no_reply}
+use Rattle.mb_model.specs.Service.{Served, Machine, is_fresh, reply_of, served}
 use Rattle.mb_model.specs.Slots.{if_above}
 use Rattle.minbft.specs.Sound.{RepliesFit, RequestsFit}
 use Rattle.minbft.proofs.TableLaws.{slice_get-set_same, slice_get-set_other, each-set}
@@ -100,3 +100,12 @@ settled-set requests r i o w waits c named lt there is own other =
           let test : eqb r.client c ≡ false = ne_eqb r.client c (λ e. ne (sym e ∙ sym named)) in
           slice_get-set_other requests i c w ne ∙ (other ∙ rw test refl)
     ]
+
+-- ---- a reply that is sent
+
+-- what is read at a client's place of the table is its last reply
+pub stored_reply : (replies : List LastReply) (client at : ℕ) (last : LastReply) → at ≡ client → client < length replies → last ≡ get_or replies at last → slice_get replies client ≡ Some last
+stored_reply replies client at last named lt is = slice_get-get_or replies client last lt ∙ ap (λ (y : LastReply). Some y) (ap (λ i. get_or replies i last) (sym named) ∙ sym is)
+
+pub told_reply : {S : Type 0} (x : Served S) (replies : List LastReply) (client : ℕ) (last : LastReply) → replies ≡ x.table → slice_get replies client ≡ Some last → last ≡ reply_of x client
+told_reply x replies client last is there = rw (← is, there) refl

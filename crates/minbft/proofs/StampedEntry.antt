@@ -1,23 +1,23 @@
 -- What one more stamped message changes in the searches of a history, and what it leaves.
-use Rattle.std.proofs.Common.{◌≡◌, ℕ, ◌+◌, List, [], ◌∷◌, ◌++◌, Option, Some, None, map, length, refl, sym, ap, subst, ◌∙◌, add-one}
+use Rattle.std.proofs.Common.{◌≡◌, ℕ, ◌+◌, [], ◌∷◌, ◌++◌, Some, refl, sym, ap, subst, ◌∙◌, add-one}
 use Rattle.std.proofs.lemmas.Bool.{eq-eqb}
 use Rattle.std.proofs.lemmas.List.{map_push}
 use Rattle.mb_base.specs.Shapes.{Bytes}
 use Rattle.mb_base.specs.declared.names.Ui.{Ui}
 use Rattle.mb_usig.specs.Tags.{certificate}
-use Rattle.mb_usig.specs.Trusted.{Trusted, ui_at}
-use Rattle.mb_msg.specs.declared.parts.Request.{Request}
+use Rattle.mb_usig.specs.Trusted.{Trusted}
+use Rattle.mb_parts.specs.declared.request.Request.{Request}
 use Rattle.mb_msg.specs.declared.message.Body.TheVariants.{Whole}
-use Rattle.mb_msg.specs.declared.message.Prepare.{Prepare}
-use Rattle.mb_msg.specs.declared.message.Commit.{Commit}
-use Rattle.mb_msg.specs.declared.message.Message.{Message}
+use Rattle.mb_msg.specs.declared.normal.Prepare.{Prepare}
+use Rattle.mb_msg.specs.declared.normal.Commit.{Commit}
 use Rattle.mb_msg.specs.declared.message.Message.TheVariants as message
-use Rattle.mb_msg.specs.declared.message.Stamped.{Stamped as StampedMessage}
-use Rattle.mb_msg.specs.declared.message.Stamped.TheVariants as stamped_as
-use Rattle.mb_msg.specs.Bares.{Bare, bare_bytes, bare_of, ui_of, body_digest, request_bytes, request_digest, Prepare as BarePrepare, Commit as BareCommit}
-use Rattle.mb_msg.specs.Spelling.{as_message, with_ui}
-use Rattle.mb_model.specs.declared.known.KnownSlot.{KnownSlot}
-use Rattle.mb_model.specs.History.{History, Entry, Self, Stamped, stamped, stamped_in, taken_of, counter_of, last_counter, last_of, last_position, exec_of}
+use Rattle.mb_msg.specs.declared.stamped.Stamped.{Stamped as StampedMessage}
+use Rattle.mb_msg.specs.declared.stamped.Stamped.TheVariants as stamped_as
+use Rattle.mb_parts.specs.Bares.{Bare, bare_bytes, request_digest, Prepare as BarePrepare, Commit as BareCommit}
+use Rattle.mb_parts.specs.Spelling.{request_bytes}
+use Rattle.mb_msg.specs.Stamps.{ui_of, as_message}
+use Rattle.mb_msg.specs.Bodies.{body_digest}
+use Rattle.mb_model.specs.History.{History, Entry, Identity, Stamped, stamped, stamped_in, taken_of, counter_of, last_counter, last_of, last_position, exec_of}
 use Rattle.mb_model.specs.Slots.{pending, state_of, whole_body}
 use Rattle.mb_model.specs.Steps.{Progress, signed, next_ui, stamp, to_all, commit, prepare}
 use Rattle.minbft.specs.declared.tables.Tables.{Tables}
@@ -52,7 +52,7 @@ module _ (m : StampedMessage) (d : History) where
   pending-stamped c = refl
 
   -- the state is the same
-  pub state_of-stamped : {S : Type 0} (self : Self S) → state_of self (Stamped m ∷ d) ≡ state_of self d
+  pub state_of-stamped : {S : Type 0} (self : Identity S) → state_of self (Stamped m ∷ d) ≡ state_of self d
   unfolding state_of
   state_of-stamped self = refl
 
@@ -140,7 +140,7 @@ the_commit o ui = record { view = 0; pos = o.pos; counter = o.counter; cert = o.
 
 -- what taking a COMMIT ensures
 abbrev pub TakesCommit : Tables → Tables → Ordered → Ui → Type 0
-TakesCommit old new o ui = (s : Self Pairs) (d : History) (e : Entry) (m : Commit) → RepresentsTables s old d → stamped_in e ≡ Some (stamped_as.Commit m)
+TakesCommit old new o ui = (s : Identity Pairs) (d : History) (e : Entry) (m : Commit) → RepresentsTables s old d → stamped_in e ≡ Some (stamped_as.Commit m)
     → m.view ≡ 0 → m.pos ≡ o.pos → m.counter ≡ o.counter → m.ui ≡ ui → body_digest request_bytes m.body ≡ o.digest
     → ui.counter ≡ last_counter d ui.host + 1 → RepresentsTables s new (e ∷ d)
 
@@ -167,7 +167,7 @@ the_prepare p r ui = record { view = 0; pos = p; body = Whole r; ui = ui }
 
 -- what taking a PREPARE ensures
 abbrev pub TakesPrepare : Tables → Tables → ℕ → Bytes → Request → Ui → Type 0
-TakesPrepare old new p digest kept ui = (s : Self Pairs) (d : History) (e : Entry) (m : Prepare) → RepresentsTables s old d → stamped_in e ≡ Some (stamped_as.Prepare m)
+TakesPrepare old new p digest kept ui = (s : Identity Pairs) (d : History) (e : Entry) (m : Prepare) → RepresentsTables s old d → stamped_in e ≡ Some (stamped_as.Prepare m)
     → m.view ≡ 0 → m.pos ≡ p → m.ui ≡ ui → body_digest request_bytes m.body ≡ digest → whole_body m.body ≡ Some kept
     → ui.counter ≡ last_counter d ui.host + 1 → RepresentsTables s new (e ∷ d)
 

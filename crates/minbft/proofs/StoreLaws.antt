@@ -6,7 +6,7 @@ use Rattle.std.proofs.lemmas.Bool.{leb-true, le-leb, lt-leb}
 use Rattle.std.proofs.lemmas.List.{length-take}
 use Rattle.std.proofs.lemmas.List.Quantifiers.{position-Some}
 use Rattle.std.proofs.lemmas.Iterator.Adapters.{position_from-zero}
-use Rattle.mb_base.specs.Reading.{Cursor, number_in, number_at, bytes_at, onward, text16_at}
+use Rattle.mb_base.specs.Reading.{Cursor, number_in, number_at, bytes_at, onward, text_in, text16_at}
 use Rattle.mb_base.proofs.Laws.{bind_ok, guard_ok, allow_ok}
 use Rattle.mb_base.specs.Shapes.{Bytes}
 use Rattle.mb_base.specs.Fields.{GivesIn, place_of}
@@ -110,7 +110,7 @@ module _ (key : Bytes) where
 
 -- a text that was read is short enough
 pub text_is_short : (most : ℕ) (s : Cursor) (x : List ℕ) (t : Cursor) → text16_at most s ≡ Ok (x, t) → length x ≤ most
-unfolding text16_at number_in
+unfolding text_in number_in
 text_is_short most s x t e =
     let a = bind_ok (number_in w16 0 most s) (λ len. bytes_at len.0 len.1) (x, t) e in
     let b = bind_ok (number_at w16 s) (λ v. cond (leb 0 v.0 && leb v.0 most) (Ok v) (Err s.at)) a.0 a.1 in

@@ -1,24 +1,25 @@
 -- What a write to a table of accepted messages leaves, and which history it represents.
-use Rattle.std.proofs.Common.{◌≡◌, ◌≢◌, ◌⊎◌, ℕ, zero, suc, ◌+◌, ◌<◌, ◌≤◌, Bool, true, false, cond, List, [], ◌∷◌, length, set, Option, Some, None, is_none, inl, inr, refl, sym, ap, ◌∙◌, subst, eqb, ◌==◌, ◌&&◌, arith, if◌then◌else◌, slice_index, slice_get, get_or, option_map, option_and_then, replicate, nat_lt, nat_le, add-one, one-add, zero-add}
-use Rattle.std.proofs.lemmas.Bool.{ne_eqb, cases_eq, cases_lt, lt-ltb, le-ltb, lt-leb}
+use Rattle.std.proofs.Common.{◌≡◌, ◌≢◌, ℕ, zero, suc, ◌+◌, ◌<◌, ◌≤◌, Bool, true, false, List, [], ◌∷◌, length, set, Option, Some, None, is_none, inl, inr, refl, sym, ap, ◌∙◌, subst, ◌==◌, ◌&&◌, arith, if◌then◌else◌, slice_index, slice_get, get_or, option_map, option_and_then, replicate, nat_lt, nat_le, add-one, one-add, zero-add}
+use Rattle.std.proofs.lemmas.Bool.{cases_eq, cases_lt, lt-ltb, le-ltb, lt-leb}
 use Rattle.std.proofs.lemmas.List.{set_past, get_or-set_same, get_or-set_other, get_or-replicate}
 use Rattle.std.proofs.lemmas.Bool.Decides.{eqb_tells}
-use Rattle.std.proofs.lemmas.Option.{slice_get-get_or, slice_get_within, slice_get_read, same_Some}
+use Rattle.std.proofs.lemmas.Option.{slice_get-get_or, same_Some}
 use Rattle.std.specs.Option.{option_or}
 use Rattle.mb_base.specs.declared.shape.Shape.{Shape}
 use Rattle.mb_base.specs.Shapes.{Bytes, host_count, span, tally}
 use Rattle.mb_base.specs.declared.names.Ui.{Ui}
 use Rattle.mb_msg.specs.declared.message.Body.{Body}
-use Rattle.mb_msg.specs.declared.message.Prepare.{Prepare}
-use Rattle.mb_msg.specs.declared.message.Stamped.{Stamped as StampedMessage}
-use Rattle.mb_msg.specs.Bares.{request_bytes, body_digest, ui_of}
-use Rattle.mb_model.specs.History.{Entry, History, Self, stamped_in, taken_of, last_counter}
+use Rattle.mb_msg.specs.declared.normal.Prepare.{Prepare}
+use Rattle.mb_msg.specs.declared.stamped.Stamped.{Stamped as StampedMessage}
+use Rattle.mb_parts.specs.Spelling.{request_bytes}
+use Rattle.mb_msg.specs.Bodies.{body_digest}
+use Rattle.mb_msg.specs.Stamps.{ui_of}
+use Rattle.mb_model.specs.History.{Entry, History, Identity, stamped_in, taken_of, last_counter}
 use Rattle.mb_model.specs.Slots.{slot_in, vote_of, slot_from, vote_from, slot_of_prepare, vote_at, whole_body, matching}
 use Rattle.mb_model.specs.Votes.{is_vote}
 use Rattle.mb_model.specs.declared.known.KnownSlot.{KnownSlot}
 use Rattle.mb_model.specs.declared.known.Vote.{Vote}
-use Rattle.mb_msg.specs.declared.parts.Request.{Request}
-use Rattle.mb_msg.specs.Fits.{IsCounter, FitsRequest}
+use Rattle.mb_parts.specs.declared.request.Request.{Request}
 use Rattle.minbft.specs.Sound.{SlotFits, SlotsFit}
 use Rattle.minbft.specs.declared.tables.Tables.{Tables}
 use Rattle.minbft.specs.Store.{Pairs}
@@ -132,7 +133,7 @@ module _ {A : Type 0} where
   map_or_if true o x = refl
   map_or_if false o x = map_or-none o
 
-module _ (s : Self Pairs) (e : Entry) (d : History) (m : StampedMessage) (is : stamped_in e ≡ Some m) where
+module _ (s : Identity Pairs) (e : Entry) (d : History) (m : StampedMessage) (is : stamped_in e ≡ Some m) where
   counters_taken : (fronts : List ℕ) (n : ℕ) → length fronts ≡ n → (ui_of m).host < n → (ui_of m).counter ≡ last_counter d (ui_of m).host + 1 → ((h : ℕ) → h < n → slice_index fronts h ≡ last_counter d h)
       → (h : ℕ) → h < n → slice_index (set fronts (ui_of m).host (ui_of m).counter) h ≡ last_counter (e ∷ d) h
   counters_taken fronts n len host next before h lt = elim (cases_eq h (ui_of m).host) [
@@ -177,7 +178,7 @@ not_within p span out = elim (cases_lt 0 p) [
 -- ---- nothing accepted
 
 -- what is represented before anything happened
-pub nothing_taken : (s : Self Pairs) (t : Tables) → s.shape ≡ t.shape → t.fronts.items ≡ replicate (host_count t.shape) 0 → t.slots.items ≡ replicate (span t.shape) None → t.votes.items ≡ replicate (span t.shape) (replicate 7 None) → RepresentsTables s t []
+pub nothing_taken : (s : Identity Pairs) (t : Tables) → s.shape ≡ t.shape → t.fronts.items ≡ replicate (host_count t.shape) 0 → t.slots.items ≡ replicate (span t.shape) None → t.votes.items ≡ replicate (span t.shape) (replicate 7 None) → RepresentsTables s t []
 unfolding taken_of slot_in vote_of
 nothing_taken s t shape fronts slots votes = record {
   shape = sym shape;
@@ -210,16 +211,16 @@ tally-bound p zero = omega arith
 tally-bound p (suc n) = elim (p n) as (λ b. (if b then 1 else 0) + tally p n ≤ suc n) [ true ↦ let h = tally-bound p n in omega arith | false ↦ let h = tally-bound p n in omega arith ]
 
 -- no vote was kept outside the window
-vote_of-outside : {S : Type 0} (s : Self S) (d : History) (h v p : ℕ) → ((0 < p) × (p ≤ 0 + span s.shape) → ⊥) → vote_of s d h v p ≡ None
+vote_of-outside : {S : Type 0} (s : Identity S) (d : History) (h v p : ℕ) → ((0 < p) × (p ≤ 0 + span s.shape) → ⊥) → vote_of s d h v p ≡ None
 unfolding vote_of
 vote_of-outside s [] h v p out = refl
 vote_of-outside s (e ∷ d) h v p out = rw (vote_of-outside s d h v p out, not_within p (span s.shape) out) refl
 
-pub matching-outside : (s : Self Pairs) (t : Tables) (d : History) (p : ℕ) (x : Vote) → ((0 < p) × (p ≤ 0 + span t.shape) → ⊥) → RepresentsTables s t d → 0 ≡ matching s d 0 p x
+pub matching-outside : (s : Identity Pairs) (t : Tables) (d : History) (p : ℕ) (x : Vote) → ((0 < p) × (p ≤ 0 + span t.shape) → ⊥) → RepresentsTables s t d → 0 ≡ matching s d 0 p x
 matching-outside s t d p x out0 st = let out : (0 < p) × (p ≤ 0 + span s.shape) → ⊥ = subst (λ (y : Shape). (0 < p) × (p ≤ 0 + span y) → ⊥) st.shape out0 in sym (tally-none (λ h. is_vote (vote_of s d h 0 p) x) (host_count s.shape) (λ h. ap (λ (o : Option Vote). is_vote o x) (vote_of-outside s d h 0 p out)))
 
 -- the count of a ballot is that of the votes
-pub matching-inside : (s : Self Pairs) (t : Tables) (d : History) (ballot : List (Option Vote)) (a p : ℕ) (x : Vote) → slice_get t.votes.items a ≡ Some ballot → a < span t.shape → host_count t.shape ≤ length ballot → 0 + 1 + a ≡ p → RepresentsTables s t d
+pub matching-inside : (s : Identity Pairs) (t : Tables) (d : History) (ballot : List (Option Vote)) (a p : ℕ) (x : Vote) → slice_get t.votes.items a ≡ Some ballot → a < span t.shape → host_count t.shape ≤ length ballot → 0 + 1 + a ≡ p → RepresentsTables s t d
     → tally (λ h. is_vote (get_or ballot h None) x) (host_count t.shape) ≡ matching s d 0 p x
 matching-inside s t d ballot a p x here lt wide place st =
     let fit : t.shape ≡ s.shape = st.shape in

@@ -9,7 +9,7 @@ use Rattle.std.proofs.lemmas.Option.{get_or_from_slice_get}
 use Rattle.mb_base.specs.Shapes.{Bytes, client_count, host_count}
 use Rattle.mb_usig.specs.Tags.{request_text, signed_request}
 use Rattle.mb_usig.specs.Trusted.{Signer}
-use Rattle.mb_msg.specs.declared.parts.Request.{Request}
+use Rattle.mb_parts.specs.declared.request.Request.{Request}
 use Rattle.mb_msg.specs.declared.event.Event.TheVariants.{Given}
 use Rattle.mb_msg.specs.declared.event.Slot.{Slot}
 use Rattle.mb_msg.specs.declared.event.Sent.{Sent}

@@ -2,9 +2,9 @@
 use Rattle.std.specs.Prelude.{◌≡◌, ℕ, ◌*◌, ◌<◌, ◌≤◌, Option, Some, None}
 use Rattle.mb_base.specs.Shapes.{span, interval}
 use Rattle.mb_base.specs.declared.shape.Shape.{Shape}
-use Rattle.mb_msg.specs.declared.parts.Request.{Request}
-use Rattle.mb_msg.specs.Bares.{request_digest}
-use Rattle.mb_msg.specs.Fits.{IsCounter, FitsRequest}
+use Rattle.mb_parts.specs.declared.request.Request.{Request}
+use Rattle.mb_parts.specs.Bares.{request_digest}
+use Rattle.mb_parts.specs.Fits.{IsCounter, FitsRequest}
 use Rattle.mb_model.specs.declared.known.KnownSlot.{KnownSlot}
 use Rattle.mb_model.specs.Service.{Served}
 use Rattle.mb_model.specs.Rules.{Rule, Commit, Execute, Prepare}

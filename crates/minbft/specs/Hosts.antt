@@ -2,7 +2,7 @@
 use Rattle.std.specs.Prelude.{◌≡◌, ℕ, ◌<◌, ◌≤◌, false, List, Some, None, slice_get, slice_index}
 use Rattle.mb_base.specs.Shapes.{client_count}
 use Rattle.mb_usig.specs.Trusted.{Signer}
-use Rattle.mb_msg.specs.declared.parts.Phase.TheVariants as phase
+use Rattle.mb_parts.specs.declared.floor.Phase.TheVariants as phase
 use Rattle.mb_model.specs.History.{History}
 use Rattle.mb_sched.specs.declared.schedule.Schedule.{Schedule}
 use Rattle.mb_sched.specs.declared.report.HostLine.{HostLine}

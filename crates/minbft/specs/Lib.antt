@@ -5,7 +5,6 @@ pub mod Sound
 pub mod Represents
 pub mod Reports
 pub mod StoreTables
-pub mod Refusals
 pub mod Halting
 pub mod Due
 pub mod WorldTables

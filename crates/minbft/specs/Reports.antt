@@ -1,8 +1,8 @@
 -- The report of a world.
-use Rattle.std.specs.Prelude.{ℕ, ◌+◌, Bool, true, false, List, [], ◌∷◌, ◌++◌, length, map, Option, Some, None, option_map, option_to_list, unwrap_or, slice_get}
+use Rattle.std.specs.Prelude.{ℕ, ◌+◌, List, [], ◌∷◌, ◌++◌, length, map, Option, Some, None, option_to_list}
 use Rattle.std.specs.List.{range_with_len}
 use Rattle.mb_base.specs.Shapes.{host_count, client_count}
-use Rattle.mb_msg.specs.declared.parts.Phase.TheVariants as phase
+use Rattle.mb_parts.specs.declared.floor.Phase.TheVariants as phase
 use Rattle.mb_msg.specs.declared.event.Outcome.{Outcome}
 use Rattle.mb_msg.specs.declared.event.Outcome.TheVariants as outcome
 use Rattle.mb_model.specs.History.{History, counter_of, view_of, exec_of, low_of}
@@ -12,7 +12,6 @@ use Rattle.mb_sched.specs.declared.report.RefusedLine.{RefusedLine}
 use Rattle.mb_sched.specs.declared.report.HostLine.{HostLine}
 use Rattle.mb_sched.specs.declared.report.HostState.{HostState}
 use Rattle.mb_sched.specs.declared.report.ClientLine.{ClientLine}
-use Rattle.mb_sched.specs.declared.report.Word.{Word}
 use Rattle.mb_sched.specs.declared.report.Word.TheVariants as word
 use Rattle.minbft.specs.World.{Seen, Made, OfHost, World, asked_by}
 
@@ -21,6 +20,7 @@ use Rattle.minbft.specs.World.{Seen, Made, OfHost, World, asked_by}
 -- the line of an outcome that is a refusal: its name, and its numbers in the order of its fields
 abbrev pub refusal_of : ℕ → Outcome → Option RefusedLine
 refusal_of e (outcome.Malformed at) = Some (record { event = e; name = word.Malformed; numbers = at ∷ [] })
+refusal_of e (outcome.Unbuilt kind) = Some (record { event = e; name = word.Unbuilt; numbers = kind ∷ [] })
 refusal_of e outcome.BadUi = Some (record { event = e; name = word.BadUi; numbers = [] })
 refusal_of e (outcome.Stale next) = Some (record { event = e; name = word.Stale; numbers = next ∷ [] })
 refusal_of e (outcome.Ahead next) = Some (record { event = e; name = word.Ahead; numbers = next ∷ [] })

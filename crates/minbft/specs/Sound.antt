@@ -1,8 +1,8 @@
 -- What is kept fits the grammar of messages, so that it can be sent.
 use Rattle.std.specs.Prelude.{◌≡◌, ◌<◌, ◌≤◌, ◌^◌, ℕ, List, length, Option, Some, slice_get}
 use Rattle.mb_base.specs.declared.shape.Shape.{Shape}
-use Rattle.mb_msg.specs.declared.parts.Request.{Request}
-use Rattle.mb_msg.specs.Fits.{IsCounter, FitsRequest, FitsText}
+use Rattle.mb_parts.specs.declared.request.Request.{Request}
+use Rattle.mb_parts.specs.Fits.{IsCounter, FitsRequest, FitsText}
 use Rattle.mb_model.specs.declared.known.KnownSlot.{KnownSlot}
 use Rattle.mb_model.specs.declared.known.LastReply.{LastReply}
 use Rattle.mb_model.specs.declared.known.Vote.{Vote}

@@ -1,5 +1,5 @@
 -- The service: keys with values. An operation is bytes, and so is its result.
-use Rattle.std.specs.Prelude.{ℕ, ◌++◌, Bool, ◌&&◌, List, [], ◌∷◌, length, nat_le, ◌==◌, Option, Some, None, Result, Ok, Err, if◌then◌else◌, find, is_none, option_map}
+use Rattle.std.specs.Prelude.{ℕ, Bool, ◌&&◌, List, [], ◌∷◌, length, nat_le, ◌==◌, Option, Some, None, Ok, Err, if◌then◌else◌, find, is_none, option_map}
 use Rattle.std.specs.Int.{w8}
 use Rattle.mb_base.specs.Shapes.{Bytes}
 use Rattle.mb_base.specs.Spelling.{text16}

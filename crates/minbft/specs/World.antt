@@ -1,8 +1,8 @@
 -- The world of a schedule whose hosts keep the key-value service.
 use Rattle.std.specs.Prelude.{ℕ, Bool, [], Option}
 use Rattle.mb_base.specs.Shapes.{Bytes}
-use Rattle.mb_msg.specs.declared.parts.Request.{Request}
-use Rattle.mb_model.specs.History.{Self}
+use Rattle.mb_parts.specs.declared.request.Request.{Request}
+use Rattle.mb_model.specs.History.{Identity}
 use Rattle.mb_model.specs.Transition.{Answer}
 use Rattle.mb_sched.specs.declared.schedule.Schedule.{Schedule}
 use Rattle.mb_sched.specs.declared.schedule.WorldEvent.{WorldEvent}
@@ -11,7 +11,7 @@ use Rattle.minbft.specs.Store.{Pairs, store_machine}
 pub use Rattle.mb_theory.specs.World.{Seen, Made, OfHost, World, nothing_happened, update, numbered, extended, asked_by}
 
 -- each host is made with the empty service
-abbrev pub self_of : Schedule → ℕ → Self Pairs
+abbrev pub self_of : Schedule → ℕ → Identity Pairs
 self_of s h = any_self store_machine [] s h
 
 abbrev pub request : Schedule → World → ℕ → Bytes → Request

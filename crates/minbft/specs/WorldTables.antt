@@ -1,8 +1,6 @@
 -- What the code's world is: a world of the definitions, in which each host has a history of its own.
 use Rattle.std.specs.Prelude.{◌≡◌, ℕ, ◌-◌, ◌<◌, ◌≤◌, Bool, true, false, List, length, Option, Some, None, is_some, if◌then◌else◌, Result, Ok, Err, slice_get, slice_index}
-use Rattle.mb_base.specs.Shapes.{Bytes, client_count, host_count}
-use Rattle.mb_base.specs.declared.shape.Shape.{Shape}
-use Rattle.mb_msg.specs.Fits.{FitsText}
+use Rattle.mb_base.specs.Shapes.{Bytes, client_count}
 use Rattle.mb_sched.specs.declared.schedule.Schedule.{Schedule}
 use Rattle.mb_sched.specs.declared.schedule.WorldEvent.{WorldEvent}
 use Rattle.mb_sched.specs.declared.schedule.WorldEvent.TheVariants.{Ask, Give}

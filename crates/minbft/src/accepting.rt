@@ -2,13 +2,15 @@
 
 ghost use Rattle.std.specs.Prelude.{◌≡◌, ◌<◌, ◌∷◌, IfOk, OnOk, Some, None, Ok};
 ghost use Rattle.mb_msg.specs.declared.message.Message.TheVariants as message;
-ghost use Rattle.mb_msg.specs.declared.message.Stamped.TheVariants as stamped;
-ghost use Rattle.mb_msg.specs.Fits.{Fits, FitsRequest, FitsBody, FitsPrepare, FitsCommit};
+ghost use Rattle.mb_msg.specs.declared.stamped.Stamped.TheVariants as stamped;
+ghost use Rattle.mb_parts.specs.Fits.{FitsRequest};
+ghost use Rattle.mb_msg.specs.Fits.{Fits, FitsFields, FitsPrepare, FitsCommit};
+ghost use Rattle.mb_msg.specs.Bodies.{FitsBody};
 ghost use Rattle.mb_model.specs.History.{History, Accepted};
 ghost use Rattle.mb_model.specs.Slots.{whole_body};
 ghost use Rattle.mb_model.specs.Steps.{Progress};
 ghost use Rattle.mb_model.specs.Checks.{stamped_refusal};
-ghost use Rattle.mb_model.specs.Transition.{named_prepare, offer_prepare, accept, give_stamped, give_request, give};
+ghost use Rattle.mb_model.specs.Transition.{is_built, named_prepare, offer_prepare, accept, give_stamped, give_request, give_built, give};
 ghost use Rattle.minbft.specs.Represents.{Represents, StandsAt, me};
 ghost use Rattle.minbft.specs.declared.sending.Done.{Done};
 
@@ -32,11 +34,30 @@ impl Replica {
         ensures stands { (x : Progress) → StandsAt (me self.old) self.old done.old x
             → IfOk result (λ o. (o ≡ (give (me self.old) message x).outcome) × StandsAt (me self.old) self.new done.new (give (me self.old) message x).left) }
     {
+        let kind = message.kind();
+        if !is_built(kind) {
+            return Ok(Outcome::Unbuilt { kind });
+        }
+        self.give_built(alloc, message, done)
+    }
+
+    /// Gives a message of a built kind to this host.
+    fn give_built(
+        &mut self,
+        alloc: Global,
+        message: Message,
+        done: &mut Done,
+    ) -> Result<Outcome, NoMemory>
+        requires { FitsFields self.old.shape message }
+        ensures kept { me self.new ≡ me self.old }
+        ensures stands { (x : Progress) → StandsAt (me self.old) self.old done.old x
+            → IfOk result (λ o. (o ≡ (give_built (me self.old) message x).outcome) × StandsAt (me self.old) self.new done.new (give_built (me self.old) message x).left) }
+    {
         match message {
             Message::Request(request) => self.on_request(alloc, request, done),
             Message::Prepare(prepare) => self.on_prepare(alloc, prepare),
             Message::Commit(commit) => self.on_commit(alloc, commit),
-            Message::Reply(_) => Ok(Outcome::Idle),
+            _ => Ok(Outcome::Idle),
         }
     }
 
@@ -111,7 +132,7 @@ impl Replica {
         ensures stands { (d : History) → Represents (me self.old) self.old d → stamped_refusal (me self.old) d (stamped.Prepare prepare) ≡ None
             → Represents (me self.old) self.new (Accepted (message.Prepare prepare) ∷ d) }
     {
-        let digest = prepare.body.digest();
+        let digest = prepare.body.request_digest();
         let Prepare {
             view,
             pos,
@@ -134,7 +155,7 @@ impl Replica {
             commit.pos,
             &commit.ui,
             commit.counter,
-            commit.body.digest(),
+            commit.body.request_digest(),
         );
     }
 
@@ -193,4 +214,11 @@ fn whole_request(body: Body<Request>) -> Option<Request>
         Body::Whole(request) => Some(request),
         Body::Bare(_) => None,
     }
+}
+
+/// Whether hosts act on messages of this kind so far: REQUEST, PREPARE, COMMIT and REPLY.
+fn is_built(kind: u8) -> bool
+    ensures { result ≡ is_built kind }
+{
+    kind <= 4
 }

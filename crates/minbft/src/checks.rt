@@ -3,14 +3,16 @@
 ghost use Rattle.std.specs.Prelude.{◌≡◌, ◌<◌, IfOk, IfSome, Some, slice_get, not};
 ghost use Rattle.mb_base.specs.Shapes.{host_count};
 ghost use Rattle.mb_usig.specs.Tags.{same_bytes, request_tag};
-ghost use Rattle.mb_msg.specs.Bares.{bare_bytes, bare_of, ui_of};
-ghost use Rattle.mb_msg.specs.Fits.{FitsRequest, FitsBody, FitsPrepare, FitsCommit};
-ghost use Rattle.mb_msg.specs.declared.message.Stamped.{Stamped as StampedMessage};
-ghost use Rattle.mb_msg.specs.declared.message.Stamped.TheVariants as stamped;
+ghost use Rattle.mb_parts.specs.Bares.{bare_bytes};
+ghost use Rattle.mb_msg.specs.Stamps.{bare_of, ui_of};
+ghost use Rattle.mb_parts.specs.Fits.{FitsRequest};
+ghost use Rattle.mb_msg.specs.Bodies.{FitsBody};
+ghost use Rattle.mb_msg.specs.Fits.{FitsPrepare, FitsCommit};
+ghost use Rattle.mb_msg.specs.declared.stamped.Stamped.{Stamped as StampedMessage};
+ghost use Rattle.mb_msg.specs.declared.stamped.Stamped.TheVariants as stamped;
 ghost use Rattle.mb_model.specs.History.{History};
-ghost use Rattle.mb_model.specs.Checks.{identifier_refusal, body_refusal, vote_refusal, stamped_refusal, request_refusal, is_badly_tagged, is_own_future};
+ghost use Rattle.mb_model.specs.Checks.{counter_refusal, identifier_refusal, body_refusal, vote_refusal, stamped_refusal, number_refusal, request_refusal, is_badly_tagged, is_own_future};
 ghost use Rattle.minbft.specs.Represents.{Represents, me};
-ghost use Rattle.minbft.specs.Refusals.{counter_refusal, number_refusal};
 
 use crate::replica::Replica;
 use crate::tables::{LOW, VIEW};

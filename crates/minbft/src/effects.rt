@@ -85,6 +85,9 @@ fn refusal(alloc: Global, event: u64, outcome: Outcome) -> Result<Option<Refused
 {
     match outcome {
         Outcome::Malformed { at } => refused_line(alloc, event, Word::Malformed, &[at as u64]),
+        Outcome::Unbuilt { kind } => {
+            refused_line(alloc, event, Word::Unbuilt, &[u64::from(kind)])
+        }
         Outcome::BadUi => refused_line(alloc, event, Word::BadUi, &[]),
         Outcome::Stale { next } => refused_line(alloc, event, Word::Stale, &[next]),
         Outcome::Ahead { next } => refused_line(alloc, event, Word::Ahead, &[next]),

@@ -26,8 +26,8 @@ pub struct Ordered {
 
 impl Replica {
     ghost use Rattle.std.specs.Prelude.{◌≡◌, ◌+◌, ◌-◌, ◌^◌, ◌<◌, ◌≤◌, Some, OnOk, IfOk, IsTrue, slice_get};
-    ghost use Rattle.mb_msg.specs.Fits.{IsCounter, FitsRequest};
-    ghost use Rattle.mb_msg.specs.Bares.{request_digest};
+    ghost use Rattle.mb_parts.specs.Fits.{IsCounter, FitsRequest};
+    ghost use Rattle.mb_parts.specs.Bares.{request_digest};
     ghost use Rattle.mb_usig.specs.Tags.{certificate};
     ghost use Rattle.mb_model.specs.Service.{is_fresh, served};
     ghost use Rattle.mb_model.specs.Slots.{state_of};

@@ -2,7 +2,7 @@
 
 ghost use Rattle.std.specs.Prelude.{◌≡◌, ◌<◌};
 ghost use Rattle.std.specs.Option.{option_and_then};
-ghost use Rattle.mb_model.specs.History.{Self};
+ghost use Rattle.mb_model.specs.History.{Identity};
 ghost use Rattle.mb_model.specs.Rules.{number_of};
 ghost use Rattle.minbft.specs.Store.{Pairs};
 
@@ -34,7 +34,7 @@ impl Replica {
     ghost use Rattle.std.specs.List.{range_with_len};
     ghost use Rattle.std.specs.Option.{option_map};
     ghost use Rattle.mb_base.specs.Shapes.{client_count, primary, span};
-    ghost use Rattle.mb_msg.specs.Fits.{FitsRequest};
+    ghost use Rattle.mb_parts.specs.Fits.{FitsRequest};
     ghost use Rattle.mb_model.specs.History.{History, is_primary};
     ghost use Rattle.mb_model.specs.Slots.{in_window, if_above, pending};
     ghost use Rattle.mb_model.specs.Steps.{Progress};
@@ -243,7 +243,7 @@ impl Replica {
 
 /// The number of the request of a slot, where it is this client's, and else 0.
 fn ordered_number(slot: &Option<KnownSlot>, client: Client) -> Seq
-    ensures { (s : Self Pairs) → result ≡ number_of s client (option_and_then (λ k. k.request) slot.now) }
+    ensures { (s : Identity Pairs) → result ≡ number_of s client (option_and_then (λ k. k.request) slot.now) }
 {
     match slot {
         Some(

@@ -43,7 +43,8 @@ impl Done {
 impl Replica {
     ghost use Rattle.std.specs.Prelude.{◌≡◌, ◌<◌, ◌≤◌, ◌++◌, ◌∷◌, [], OnOk, IfOk, Some, slice_get};
     ghost use Rattle.mb_base.specs.Shapes.{client_count};
-    ghost use Rattle.mb_msg.specs.Fits.{Fits, FitsText};
+    ghost use Rattle.mb_parts.specs.Fits.{FitsText};
+    ghost use Rattle.mb_msg.specs.Fits.{Fits};
     ghost use Rattle.mb_model.specs.Service.{reply_of};
     ghost use Rattle.mb_model.specs.History.{History};
     ghost use Rattle.mb_model.specs.Slots.{state_of};

@@ -43,10 +43,11 @@ impl Tables {
     ghost use Rattle.std.specs.Prelude.{◌≡◌, ◌<◌, ◌≤◌, ◌+◌, ◌==◌, ◌&&◌, ℕ, [], ◌∷◌, Some, IfOk, IfSome, slice_get, slice_set, IsTrue, ◌↔◌, if◌then◌else◌};
     ghost use Rattle.std.specs.Option.{option_map, option_or};
     ghost use Rattle.mb_base.specs.Shapes.{host_count, span};
-    ghost use Rattle.mb_msg.specs.Bares.{request_bytes, body_digest};
-    ghost use Rattle.mb_msg.specs.Fits.{IsCounter, FitsRequest};
-    ghost use Rattle.mb_msg.specs.declared.message.Stamped.TheVariants as stamped;
-    ghost use Rattle.mb_model.specs.History.{Self as Identity, History, Entry, stamped_in, last_counter, view_of, low_of};
+    ghost use Rattle.mb_parts.specs.Spelling.{request_bytes};
+    ghost use Rattle.mb_msg.specs.Bodies.{body_digest};
+    ghost use Rattle.mb_parts.specs.Fits.{IsCounter, FitsRequest};
+    ghost use Rattle.mb_msg.specs.declared.stamped.Stamped.TheVariants as stamped;
+    ghost use Rattle.mb_model.specs.History.{Identity, History, Entry, stamped_in, last_counter, view_of, low_of};
     ghost use Rattle.mb_model.specs.Slots.{slot_at, matching, whole_body};
     ghost use Rattle.minbft.specs.Store.{Pairs};
     ghost use Rattle.minbft.specs.Represents.{RepresentsTables, kept_vote};

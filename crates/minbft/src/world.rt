@@ -61,7 +61,7 @@ pub struct World {
 impl World {
     ghost use Rattle.std.specs.Prelude.{◌≡◌, ◌<◌, ◌≤◌, ◌+◌, ◌-◌, ◌^◌, true, false, is_some, IfOk, OnOk};
     ghost use Rattle.mb_base.specs.Shapes.{client_count, host_count};
-    ghost use Rattle.mb_msg.specs.Fits.{FitsText, FitsRequest};
+    ghost use Rattle.mb_parts.specs.Fits.{FitsText, FitsRequest};
     ghost use Rattle.minbft.specs.Reports.{report_of};
     ghost use Rattle.minbft.specs.World.{World as WorldState, nothing_happened, numbered, request, asks, given, is_possible, happens};
     ghost use Rattle.minbft.specs.Hosts.{AllRun};

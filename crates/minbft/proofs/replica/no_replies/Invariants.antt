@@ -1,4 +1,4 @@
-use Rattle.std.proofs.Common.{◌≡◌, replicate, None}
+use Rattle.std.proofs.Common.{◌≡◌, replicate}
 use Rattle.mb_model.specs.Service.{no_reply}
 use Rattle.minbft.proofs.replica.no_replies.Given as goal
 

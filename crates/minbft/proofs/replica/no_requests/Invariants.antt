@@ -1,5 +1,4 @@
 use Rattle.std.proofs.Common.{◌≡◌, replicate, None}
-use Rattle.mb_model.specs.Service.{no_reply}
 use Rattle.minbft.proofs.replica.no_requests.Given as goal
 
 abbrev pub invariant-loop : goal.invariant-loop

@@ -1,4 +1,4 @@
-use Rattle.std.proofs.Common.{◌≡◌, replicate, None}
+use Rattle.std.proofs.Common.{◌≡◌, replicate}
 use Rattle.minbft.proofs.tables.zeros.Given as goal
 
 abbrev pub invariant-loop : goal.invariant-loop

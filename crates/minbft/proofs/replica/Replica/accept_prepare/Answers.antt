@@ -1,6 +1,6 @@
-use Rattle.std.proofs.Common.{◌≡◌, refl, sym, ap, ◌∙◌, subst}
+use Rattle.std.proofs.Common.{refl, sym}
 use Rattle.mb_msg.specs.declared.message.Message.TheVariants as message
-use Rattle.mb_msg.specs.declared.message.Stamped.TheVariants as stamped
+use Rattle.mb_msg.specs.declared.stamped.Stamped.TheVariants as stamped
 use Rattle.mb_model.specs.History.{Accepted}
 use Rattle.minbft.specs.Represents.{me}
 use Rattle.minbft.proofs.AcceptLaws.{accepted_next, accepted_stamped}
@@ -12,4 +12,4 @@ returns-clause-stands c = λ d st passes.
     let m = c.args.prepare in
     let next = accepted_next (me r) d (stamped.Prepare m) st.own passes in
     accepted_stamped (me r) r _ d (message.Prepare m) (stamped.Prepare m) refl refl refl refl refl refl refl refl passes st
-    (c.take_prepare.ensures.stands (me r) d (Accepted (message.Prepare m)) m st.tables refl refl refl refl (sym c.digest-digest.ensures) (sym c.whole_request-request.ensures) next.next)
+    (c.take_prepare.ensures.stands (me r) d (Accepted (message.Prepare m)) m st.tables refl refl refl refl (sym c.request_digest-digest.ensures) (sym c.whole_request-request.ensures) next.next)

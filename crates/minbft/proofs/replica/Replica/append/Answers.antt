@@ -1,4 +1,4 @@
-use Rattle.std.proofs.Common.{rules, refl, sym, ap, ◌∙◌, ◌≡◌, ◌<◌, ◌≤◌, length, arith}
+use Rattle.std.proofs.Common.{rules, refl, sym, ap, ◌∙◌, ◌<◌, length, arith}
 use Rattle.mb_base.specs.Shapes.{client_count}
 use Rattle.minbft.specs.Store.{store_machine}
 use Rattle.minbft.specs.Due.{served_of}

@@ -1,6 +1,10 @@
-use Rattle.std.proofs.Common.{refl, ◌∙◌}
+use Rattle.std.proofs.Common.{rules, refl, ◌∙◌}
+use Rattle.mb_msg.proofs.Sizes.{small_commit}
 use Rattle.minbft.proofs.StampedEntry.{stands-commit}
 use Rattle.minbft.proofs.replica.Replica.commit.Goals as goal
+
+pub send-requires : goal.send-requires
+send-requires c = small_commit c.bind-ui.new.self.shape _ (search rules)
 
 pub returns-clause-stands : goal.returns-clause-stands
 returns-clause-stands c = λ x st digest.

@@ -1,4 +1,3 @@
-use Rattle.std.proofs.Common.{◌∙◌}
 use Rattle.minbft.specs.Represents.{me}
 use Rattle.minbft.proofs.RuleLaws.{execute-open, execute-barred, execute-without, execute-named}
 use Rattle.minbft.proofs.replica.Replica.execute_due.Goals as goal

@@ -1,4 +1,4 @@
-use Rattle.std.proofs.Common.{◌≡◌, [], replicate, None, refl, sym, ap, ◌∙◌}
+use Rattle.std.proofs.Common.{[], replicate, None, refl, ap, ◌∙◌}
 use Rattle.mb_model.specs.Service.{no_reply}
 use Rattle.minbft.specs.Store.{store_machine}
 use Rattle.minbft.proofs.Beginning.{requests_fit-start, replies_fit-start, nothing_happened}

@@ -1,5 +1,5 @@
 use Rattle.std.proofs.Common.{◌≡◌, None, refl, sym, ◌∙◌}
-use Rattle.mb_msg.specs.declared.message.Stamped.TheVariants as stamped
+use Rattle.mb_msg.specs.declared.stamped.Stamped.TheVariants as stamped
 use Rattle.mb_model.specs.Checks.{stamped_refusal}
 use Rattle.mb_model.specs.Transition.{give_stamped}
 use Rattle.minbft.specs.Represents.{me}

@@ -1,4 +1,4 @@
-use Rattle.std.proofs.Common.{◌≡◌, sym, ◌∙◌, arith}
+use Rattle.std.proofs.Common.{sym, ◌∙◌}
 use Rattle.minbft.specs.Represents.{me}
 use Rattle.minbft.proofs.CheckLaws.{counter-stale, counter-ahead, counter-next}
 use Rattle.minbft.proofs.replica.Replica.refuse_counter.Goals as goal

@@ -1,7 +1,6 @@
-use Rattle.std.proofs.Common.{◌≡◌, ◌<◌, Some, is_none, true, false, not, length, slice_get, refl, sym, ap, ◌∙◌, arith, rules}
+use Rattle.std.proofs.Common.{◌≡◌, ◌<◌, Some, length, slice_get, refl, arith, rules}
 use Rattle.std.proofs.lemmas.Option.{slice_get_read}
-use Rattle.minbft.proofs.TableLaws.{vote_counted, first-none, first-some}
-use Rattle.minbft.proofs.AcceptedEntry.{slot_in-more}
+use Rattle.minbft.proofs.TableLaws.{vote_counted, first-none}
 use Rattle.minbft.proofs.tables.Tables.count_vote.Goals as goal
 
 pub returns-then-is_none-clause-votes : goal.returns-then-is_none-clause-votes

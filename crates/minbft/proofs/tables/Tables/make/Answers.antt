@@ -1,4 +1,4 @@
-use Rattle.std.proofs.Common.{◌≡◌, ap, ◌∙◌, replicate, None}
+use Rattle.std.proofs.Common.{ap, ◌∙◌, replicate, None}
 use Rattle.minbft.proofs.TableLaws.{nothing_taken}
 use Rattle.minbft.proofs.tables.Tables.make.Goals as goal
 

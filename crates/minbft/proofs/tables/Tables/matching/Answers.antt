@@ -1,6 +1,6 @@
-use Rattle.std.proofs.Common.{◌≡◌, ◌+◌, ◌<◌, ◌≤◌, ℕ, Some, None, length, slice_get, get_or, refl, sym, ap, ◌∙◌, arith}
+use Rattle.std.proofs.Common.{◌≡◌, ◌<◌, ◌≤◌, ℕ, Some, None, length, slice_get, get_or, refl, ap, ◌∙◌, arith}
 use Rattle.std.proofs.lemmas.Option.{slice_get_read}
-use Rattle.mb_base.specs.Shapes.{host_count, span, tally}
+use Rattle.mb_base.specs.Shapes.{host_count, tally}
 use Rattle.mb_model.specs.Votes.{is_vote}
 use Rattle.minbft.proofs.TableLaws.{refused, matching-outside, matching-inside, tally-step, tally-bound}
 use Rattle.minbft.proofs.tables.Tables.matching.Goals as goal

@@ -1,4 +1,4 @@
-use Rattle.std.proofs.Common.{◌≡◌, ℕ, ◌+◌, ◌-◌, slice_get, slice_index_or, None}
+use Rattle.std.proofs.Common.{◌≡◌, slice_index_or, None}
 use Rattle.mb_base.specs.Shapes.{tally}
 use Rattle.mb_model.specs.Votes.{is_vote}
 use Rattle.minbft.proofs.tables.Tables.matching.Given as goal

@@ -1,6 +1,6 @@
-use Rattle.std.proofs.Common.{◌≡◌, ◌+◌, ◌<◌, ◌≤◌, ℕ, slice_get, refl, sym, ap, ◌∙◌}
-use Rattle.mb_msg.specs.declared.message.Stamped.TheVariants as stamped
-use Rattle.minbft.proofs.TableLaws.{taken_by, refused, kept_in, commit_slot, vote-passed, vote-kept}
+use Rattle.std.proofs.Common.{slice_get, refl, ap}
+use Rattle.mb_msg.specs.declared.stamped.Stamped.TheVariants as stamped
+use Rattle.minbft.proofs.TableLaws.{taken_by, refused, commit_slot, vote-passed, vote-kept}
 use Rattle.minbft.proofs.tables.Tables.take_commit.Goals as goal
 
 pub returns-then-not-is_kept-clause-stands : goal.returns-then-not-is_kept-clause-stands

@@ -1,8 +1,7 @@
-use Rattle.std.proofs.Common.{◌≡◌, ◌+◌, ◌<◌, ◌≤◌, ℕ, slice_get, refl, sym, ap, ◌∙◌, subst, arith}
-use Rattle.mb_base.specs.Shapes.{span, host_count}
+use Rattle.std.proofs.Common.{◌<◌, slice_get, refl, sym, ap, ◌∙◌, subst}
+use Rattle.mb_base.specs.Shapes.{span}
 use Rattle.mb_base.specs.declared.shape.Shape.{Shape}
-use Rattle.mb_msg.specs.declared.message.Stamped.TheVariants as stamped
-use Rattle.minbft.specs.Represents.{kept_vote}
+use Rattle.mb_msg.specs.declared.stamped.Stamped.TheVariants as stamped
 use Rattle.minbft.proofs.TableLaws.{taken_by, refused, kept_in, prepare_slot-passed, prepare_slot-kept, vote-passed, vote-kept}
 use Rattle.minbft.proofs.tables.Tables.take_prepare.Goals as goal
 

@@ -1,7 +1,11 @@
 use Rattle.std.proofs.Common.{◌∙◌, List, refl}
 use Rattle.mb_base.specs.Shapes.{Bytes}
+use Rattle.mb_msg.proofs.Sizes.{small_request}
 use Rattle.minbft.proofs.WorldLaws.{request_made}
 use Rattle.minbft.proofs.world.World.ask.Goals as goal
+
+pub encode-requires : goal.encode-requires
+encode-requires c = small_request c.args.self.now.shape _ c.in_ok-request.ensures.fits
 
 pub returns-clause-stands : goal.returns-clause-stands
 returns-clause-stands c = λ s x h.

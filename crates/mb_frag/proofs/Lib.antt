@@ -1,0 +1,4 @@
+pub mod ReadingLemmas
+pub mod CuttingLemmas
+pub mod PushLemmas
+pub mod CameLemmas

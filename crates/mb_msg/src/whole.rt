@@ -1,0 +1,186 @@
+//! Whole messages: their bytes, reading and writing.
+
+ghost use Rattle.std.specs.Prelude.{◌≡◌, ◌↔◌, ◌++◌, ◌≤◌, length, IfOk, IsTrue, OnOk, Ok};
+ghost use Rattle.mb_base.specs.Fields.{place_of};
+ghost use Rattle.mb_parts.specs.Decoded.{Decodes, DecodesWhole};
+ghost use Rattle.mb_msg.specs.declared.message.Message.{Message};
+ghost use Rattle.mb_msg.specs.Fits.{message_limit, FitsFields, Fits};
+ghost use Rattle.mb_msg.specs.Spelling.{spelling};
+ghost use Rattle.mb_msg.specs.Stamps.{as_message};
+ghost use Rattle.mb_msg.specs.Reading.{behind_kind_at, message_of};
+
+use crate::change::ReqViewChange;
+use crate::kinds::{FETCH, LOG, REPLY, REQ_VIEW_CHANGE, REQUEST, RESEND, STATE, STOP};
+use crate::limits::MESSAGE_LIMIT;
+use crate::message::Message;
+use crate::normal::{Reply, Stop};
+use crate::stamped::Stamped;
+use crate::stamps::read_stamped;
+use crate::transfer::{Fetch, Log, Resend, StateMsg};
+use mb_base::{Fields, NoMemory, Shape, put_u8};
+use mb_parts::{Part, Readable, Request, Undecoded, read_digest};
+use std::alloc::Global;
+
+impl Part for Message {
+    ghost text = { spelling };
+
+    ghost valid = { FitsFields };
+
+    fn fits(&self, shape: &Shape) -> bool {
+        match self {
+            Message::Request(request) => request.fits(shape),
+            Message::Prepare(prepare) => prepare.fits(shape),
+            Message::Commit(commit) => commit.fits(shape),
+            Message::Reply(reply) => reply.fits(shape),
+            Message::Checkpoint(checkpoint) => checkpoint.fits(shape),
+            Message::ReqViewChange(wish) => wish.fits(shape),
+            Message::ViewChange(change) => change.fits(shape),
+            Message::NewView(new_view) => new_view.fits(shape),
+            Message::Enter(enter) => enter.fits(shape),
+            Message::Open(open) => open.fits(shape),
+            Message::Join(join) => join.fits(shape),
+            Message::Resend(resend) => resend.fits(shape),
+            Message::Log(log) => log.fits(shape),
+            Message::Fetch(fetch) => fetch.fits(shape),
+            Message::State(state) => state.fits(shape),
+            Message::Stop(stop) => stop.tag.fits(shape),
+        }
+    }
+
+    #[tactic(auto, unfolding(crate::specs::Spelling::spelling))]
+    fn put(&self, shape: &Shape, out: &mut Vec<u8>) -> Result<(), NoMemory> {
+        put_u8(out, self.kind())?;
+        match self {
+            Message::Request(request) => request.put(shape, out),
+            Message::Prepare(prepare) => prepare.put(shape, out),
+            Message::Commit(commit) => commit.put(shape, out),
+            Message::Reply(reply) => reply.put(shape, out),
+            Message::Checkpoint(checkpoint) => checkpoint.put(shape, out),
+            Message::ReqViewChange(wish) => wish.put(shape, out),
+            Message::ViewChange(change) => change.put(shape, out),
+            Message::NewView(new_view) => new_view.put(shape, out),
+            Message::Enter(enter) => enter.put(shape, out),
+            Message::Open(open) => open.put(shape, out),
+            Message::Join(join) => join.put(shape, out),
+            Message::Resend(resend) => resend.put(shape, out),
+            Message::Log(log) => log.put(shape, out),
+            Message::Fetch(fetch) => fetch.put(shape, out),
+            Message::State(state) => state.put(shape, out),
+            Message::Stop(stop) => stop.tag.put(shape, out),
+        }
+    }
+}
+
+impl Stamped {
+    /// The same as a message.
+    pub fn into_message(self) -> Message
+        ensures { result ≡ as_message self }
+    {
+        match self {
+            Stamped::Prepare(prepare) => Message::Prepare(prepare),
+            Stamped::Commit(commit) => Message::Commit(commit),
+            Stamped::Checkpoint(checkpoint) => Message::Checkpoint(checkpoint),
+            Stamped::ViewChange(change) => Message::ViewChange(change),
+            Stamped::NewView(new_view) => Message::NewView(new_view),
+            Stamped::Enter(enter) => Message::Enter(enter),
+            Stamped::Open(open) => Message::Open(open),
+            Stamped::Join(join) => Message::Join(join),
+        }
+    }
+}
+
+/// A message behind its kind.
+#[tactic(auto, unfolding(crate::specs::Reading::behind_kind_at))]
+fn read_kind(
+    alloc: Global,
+    shape: &Shape,
+    kind: u8,
+    fields: &mut Fields<'_>,
+) -> Result<Message, Undecoded>
+    ensures { Decodes result fields.new (behind_kind_at shape.now kind (place_of fields.old)) }
+{
+    match kind {
+        REQUEST => Ok(Message::Request(Request::read(alloc, shape, fields)?)),
+        REPLY => Ok(Message::Reply(Reply::read(alloc, shape, fields)?)),
+        REQ_VIEW_CHANGE => {
+            Ok(Message::ReqViewChange(ReqViewChange::read(alloc, shape, fields)?))
+        }
+        RESEND => Ok(Message::Resend(Resend::read(alloc, shape, fields)?)),
+        LOG => Ok(Message::Log(Log::read(alloc, shape, fields)?)),
+        FETCH => Ok(Message::Fetch(Fetch::read(alloc, shape, fields)?)),
+        STATE => Ok(Message::State(StateMsg::read(alloc, shape, fields)?)),
+        STOP => Ok(Message::Stop(Stop {
+            tag: read_digest(fields)?,
+        })),
+        _ => Ok(read_stamped(alloc, shape, kind, fields)?.into_message()),
+    }
+}
+
+#[tactic(auto, unfolding(crate::specs::Reading::message_of))]
+fn read_whole(alloc: Global, shape: &Shape, bytes: &[u8]) -> Result<Message, Undecoded>
+    ensures { DecodesWhole result (message_of shape.now bytes.now) }
+{
+    if bytes.len() > MESSAGE_LIMIT {
+        return Err(Undecoded::Malformed { at: MESSAGE_LIMIT });
+    }
+    let mut fields = Fields::over(bytes);
+    let kind = fields.u8_in(REQUEST, STOP)?;
+    let message = read_kind(alloc, shape, kind, &mut fields)?;
+    if !fields.is_at_end() {
+        return Err(Undecoded::Malformed { at: fields.place() });
+    }
+    Ok(message)
+}
+
+/// The message that the bytes spell, all of the bytes.
+///
+/// `Malformed` comes exactly where the bytes are no message, at the first field that is short or has a value that isn't allowed,
+/// at the first byte behind the message, or at [`MESSAGE_LIMIT`] where there are more bytes.
+pub fn decode(alloc: Global, shape: &Shape, bytes: &[u8]) -> Result<Message, Undecoded>
+    // What is read has allowed values and is spelled so.
+    ensures found { IfOk result (λ m. Fits shape.now m × (bytes.now ≡ spelling m)) }
+    // What has allowed values and is spelled so is read, unless memory runs out.
+    ensures only { (m : Message) → Fits shape.now m → bytes.now ≡ spelling m → DecodesWhole result (Ok m) }
+    // The offset of the first fault.
+    ensures exact { DecodesWhole result (message_of shape.now bytes.now) }
+{
+    read_whole(alloc, shape, bytes)
+}
+
+fn message_bytes(alloc: Global, shape: &Shape, message: &Message) -> Result<Vec<u8>, NoMemory>
+    requires { FitsFields shape.now message.now }
+    ensures { IfOk result (λ v. v.items ≡ spelling message.now) }
+{
+    let mut out = Vec::new(alloc);
+    message.put(shape, &mut out)?;
+    Ok(out)
+}
+
+/// The bytes of a message that [`fits`]: each field has an allowed value, and there are at most [`MESSAGE_LIMIT`] bytes.
+pub fn encode(alloc: Global, shape: &Shape, message: &Message) -> Result<Vec<u8>, NoMemory>
+    requires { Fits shape.now message.now }
+    ensures text { IfOk result (λ v. v.items ≡ spelling message.now) }
+    // They are read as that message again.
+    ensures back { message_of shape.now (spelling message.now) ≡ Ok message.now }
+{
+    message_bytes(alloc, shape, message)
+}
+
+/// Whether each field of the message has an allowed value.
+pub fn fields_fit(shape: &Shape, message: &Message) -> bool
+    ensures { IsTrue result ↔ FitsFields shape.now message.now }
+{
+    message.fits(shape)
+}
+
+/// Whether each field of the message has an allowed value, and its bytes are at most [`MESSAGE_LIMIT`].
+/// It takes the memory of the bytes.
+pub fn fits(alloc: Global, shape: &Shape, message: &Message) -> Result<bool, NoMemory>
+    ensures { IfOk result (λ b. IsTrue b ↔ Fits shape.now message.now) }
+{
+    if !fields_fit(shape, message) {
+        return Ok(false);
+    }
+    let bytes = message_bytes(alloc, shape, message)?;
+    Ok(bytes.len() <= MESSAGE_LIMIT)
+}

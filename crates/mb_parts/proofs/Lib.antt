@@ -1,0 +1,14 @@
+pub mod Faults
+pub mod Held
+pub mod Fields
+pub mod Public
+pub mod BareLaws
+pub mod Counters
+pub mod OrderedParts
+pub mod OrderedLaws
+pub mod Advance
+pub mod Joined
+pub mod LongestOrdered
+pub mod SameBareLaws
+pub mod IssuedLaws
+pub mod CertificateLaws

@@ -1,0 +1,14 @@
+pub mod Decoded
+pub mod Fits
+pub mod Spelling
+pub mod Reading
+pub mod Bares
+pub mod BareReading
+pub mod Counters
+pub mod Claims
+pub mod Certificates
+pub mod Ordered
+pub mod OrderedLists
+pub mod SameBare
+pub mod Issued
+pub mod CheckedCertificates

@@ -1,0 +1,34 @@
+//! The parts of messages, their bytes, and how they are read and written.
+#![tactic(auto)]
+
+mod certificates;
+mod evidence;
+mod fault;
+mod floor;
+mod laws;
+mod limits;
+mod numbers;
+mod part;
+mod plain;
+mod reading;
+mod request;
+mod stable;
+mod writing;
+
+pub use certificates::{
+    Evidence, EvidenceMember, FloorCert, FloorMember, StableCert, StableMember,
+};
+pub use evidence::read_evidence_in;
+pub use fault::Undecoded;
+pub use floor::{Floor, Mark, Phase};
+pub use laws::{certificates_carry_over, ordered_lists_go_on_from_floors, prefixes_are_consistent};
+pub use limits::{MAX_POS, MAX_VIEW, TEXT_LIMIT};
+pub use numbers::{
+    is_base, is_counter, is_end, is_place, is_position, read_base, read_client, read_counter,
+    read_digest, read_end, read_host, read_place, read_point, read_position, read_text, text_fits,
+};
+pub use part::{Member, Part, Readable, all_fit, put_all, read_members, read_parts, rise};
+pub use reading::{read_evidence, read_floor, read_floor_cert, read_request, read_stable};
+pub use request::{Request, put_text, read_ui_from};
+pub use stable::{floors_fit, read_floors, read_stable_in};
+pub use writing::{put_evidence, put_floor, put_floor_cert, put_request, put_stable};

@@ -1,0 +1,94 @@
+//! Writing one part of a message, each field of which has an allowed value. After want of memory the bytes written so far are unchanged.
+
+ghost use Rattle.std.specs.Prelude.{◌≡◌, ◌++◌, IfSome, OnOk, OnErr};
+ghost use Rattle.mb_base.specs.Spelling.{optional};
+ghost use Rattle.mb_parts.specs.Fits.{FitsRequest, FitsStable, FitsFloor, FitsFloorCert, FitsEvidence};
+ghost use Rattle.mb_parts.specs.Spelling.{request_bytes, stable_bytes, floor_bytes, floor_cert_bytes, evidence_bytes};
+
+use crate::certificates::{Evidence, FloorCert, StableCert};
+use crate::floor::Floor;
+use crate::part::Part;
+use crate::request::Request;
+use mb_base::{NoMemory, Shape, put_bytes};
+use std::alloc::Global;
+
+/// Appends the bytes of a part, or nothing where memory runs out: they are spelled apart first, and appended at once.
+fn put_whole<T: Part>(
+    alloc: Global,
+    shape: &Shape,
+    part: &T,
+    out: &mut Vec<u8>,
+) -> Result<(), NoMemory>
+    requires { T.valid shape.now part.now }
+    ensures ok { OnOk result (out.new.items ≡ out.old.items ++ T.text part.now) }
+    ensures err { OnErr result (out.new.items ≡ out.old.items) }
+{
+    let mut text = Vec::new(alloc);
+    part.put(shape, &mut text)?;
+    put_bytes(out, &text)
+}
+
+pub fn put_request(
+    alloc: Global,
+    shape: &Shape,
+    part: &Request,
+    out: &mut Vec<u8>,
+) -> Result<(), NoMemory>
+    requires { FitsRequest shape.now part.now }
+    ensures ok { OnOk result (out.new.items ≡ out.old.items ++ request_bytes part.now) }
+    ensures err { OnErr result (out.new.items ≡ out.old.items) }
+{
+    put_whole(alloc, shape, part, out)
+}
+
+pub fn put_stable(
+    alloc: Global,
+    shape: &Shape,
+    part: &StableCert,
+    out: &mut Vec<u8>,
+) -> Result<(), NoMemory>
+    requires { FitsStable shape.now part.now }
+    ensures ok { OnOk result (out.new.items ≡ out.old.items ++ stable_bytes part.now) }
+    ensures err { OnErr result (out.new.items ≡ out.old.items) }
+{
+    put_whole(alloc, shape, part, out)
+}
+
+pub fn put_floor_cert(
+    alloc: Global,
+    shape: &Shape,
+    part: &Option<FloorCert>,
+    out: &mut Vec<u8>,
+) -> Result<(), NoMemory>
+    requires { IfSome part.now (FitsFloorCert shape.now) }
+    ensures ok { OnOk result (out.new.items ≡ out.old.items ++ optional floor_cert_bytes part.now) }
+    ensures err { OnErr result (out.new.items ≡ out.old.items) }
+{
+    put_whole(alloc, shape, part, out)
+}
+
+pub fn put_evidence(
+    alloc: Global,
+    shape: &Shape,
+    part: &Evidence,
+    out: &mut Vec<u8>,
+) -> Result<(), NoMemory>
+    requires { FitsEvidence shape.now part.now }
+    ensures ok { OnOk result (out.new.items ≡ out.old.items ++ evidence_bytes part.now) }
+    ensures err { OnErr result (out.new.items ≡ out.old.items) }
+{
+    put_whole(alloc, shape, part, out)
+}
+
+pub fn put_floor(
+    alloc: Global,
+    shape: &Shape,
+    part: &Option<Floor>,
+    out: &mut Vec<u8>,
+) -> Result<(), NoMemory>
+    requires { IfSome part.now FitsFloor }
+    ensures ok { OnOk result (out.new.items ≡ out.old.items ++ optional floor_bytes part.now) }
+    ensures err { OnErr result (out.new.items ≡ out.old.items) }
+{
+    put_whole(alloc, shape, part, out)
+}
