@@ -1,4 +1,7 @@
 -- Logs by rising host: a list that stands so stays as it is, and the order in which logs are given does not matter.
+--
+-- Asked host by host, a rising list gives its own logs again (`by_host_rising`). Two lists of the same logs, of each host at most one, give the same log
+-- for each host, and so the same plan (`plans_ignore_order`).
 use Rattle.std.proofs.Common.{◌≡◌, ℕ, zero, suc, ◌+◌, ◌≤◌, ◌<◌, true, false, List, [], ◌∷◌, map, refl, sym, ap, ◌∙◌, inl, inr, arith, eqb, Option, Some, None}
 use Rattle.std.specs.Prelude.{filter_map, Contains, nat_lt}
 use Rattle.std.specs.List.{AllByRecursion, range_with_len, cons_option}

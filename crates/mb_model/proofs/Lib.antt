@@ -3,7 +3,6 @@ pub mod Refusals
 pub mod Enabled
 pub mod ServiceLaws
 pub mod OnLiterals
-mod Worked
 pub mod Members
 pub mod ByHost
 pub mod Quorums
@@ -22,5 +21,23 @@ pub mod OnRecords
 pub mod ViewChangeData
 pub mod ViewChangeWitness
 pub mod CarriedLogs
-mod WorkedLogs
-mod WorkedPlans
+pub mod StepPotential
+pub mod StepRounds
+pub mod StepUnchanged
+pub mod StepQuiescent
+pub mod StepOnLiterals
+pub mod NothingUndone
+pub mod StepPassed
+pub mod StepArises
+pub mod StepGivenArise
+pub mod StepRulesArise
+pub mod StepEventsArise
+pub mod StepOwnList
+pub mod RisingLists
+pub mod StepHeldEvidence
+pub mod StepPlanBases
+pub mod StepHeldStable
+pub mod StepOwnFloor
+pub mod StepOwnSteady
+pub mod StepOwnStamped
+pub mod OwnListsOrdered

@@ -1,4 +1,7 @@
 -- Members of lists, by recursion.
+--
+-- `In` is what `Contains` says, in a form that steps through the list. Behind both ways between the two: members of joined lists, what holds of all members
+-- or of some, and members of a mapped list.
 use Rattle.std.proofs.Common.{◌≡◌, zero, suc, List, [], ◌∷◌, ◌++◌, map, refl, ap, subst, inl, inr, ◌⊎◌, arith, Bool, true}
 use Rattle.std.specs.Prelude.{Contains}
 use Rattle.std.specs.List.{AllByRecursion, list_any}

@@ -1,4 +1,7 @@
 -- A usable log is a prefix of what its host stamped.
+--
+-- The floor of the log hides a beginning of the host's ordered list (`FloorStands`). From there each entry in turn goes on in that list (`descends`,
+-- by `extends`), and so does the VIEW_CHANGE that shows them (`shown_prefix`).
 use Rattle.std.proofs.Common.{◌≡◌, ℕ, suc, ◌+◌, ◌-◌, ◌≤◌, ◌<◌, Bool, true, List, [], ◌∷◌, ◌++◌, length, take, refl, sym, ap, subst, ◌∙◌, inr, arith, Option, Some, None, length-append, zero-add}
 use Rattle.std.proofs.lemmas.Bool.{or_parts, eqb-true, ltb-false, leb-false, lt-ltb, not-false}
 use Rattle.std.proofs.lemmas.List.{take-append-drop, append-nil}

@@ -4,7 +4,7 @@ use Rattle.std.specs.Bool.{then_some}
 use Rattle.std.specs.Option.{option_or}
 use Rattle.mb_base.specs.Shapes.{span}
 use Rattle.mb_base.specs.declared.names.Ui.{Ui}
-use Rattle.mb_usig.specs.Tags.{same_bytes, request_tag, is_certified}
+use Rattle.mb_usig.specs.Tags.{is_certified}
 use Rattle.mb_parts.specs.declared.request.Request.{Request}
 use Rattle.mb_msg.specs.declared.event.Outcome.{Outcome}
 use Rattle.mb_msg.specs.declared.event.Outcome.TheVariants as outcome
@@ -14,6 +14,7 @@ use Rattle.mb_msg.specs.declared.stamped.Stamped.{Stamped as StampedMessage}
 use Rattle.mb_msg.specs.declared.stamped.Stamped.TheVariants as stamped
 use Rattle.mb_parts.specs.Bares.{bare_bytes}
 use Rattle.mb_msg.specs.Stamps.{bare_of, ui_of}
+use Rattle.mb_model.specs.Verified.{is_rightly_tagged}
 use Rattle.mb_model.specs.Service.{reply_of}
 use Rattle.mb_model.specs.History.{History, Identity, counter_of, last_counter, view_of, low_of, exec_of}
 use Rattle.mb_model.specs.Slots.{state_of, pending}
@@ -52,7 +53,7 @@ module _ {S : Type 0} (self : Identity S) where
   -- ---- requests
 
   abbrev pub is_badly_tagged : Request → Bool
-  is_badly_tagged r = not (same_bytes r.tag (request_tag self.secret r.client r.seq r.op))
+  is_badly_tagged r = not (is_rightly_tagged self.secret r)
 
   -- ---- votes: view, window and body
 

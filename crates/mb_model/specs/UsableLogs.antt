@@ -6,7 +6,7 @@ use Rattle.std.specs.List.{list_all, list_any}
 use Rattle.sha2.specs.Sha256.{sha256}
 use Rattle.mb_base.specs.Shapes.{Bytes, span, interval}
 use Rattle.mb_base.specs.declared.shape.Shape.{Shape}
-use Rattle.mb_usig.specs.Tags.{same_bytes, request_tag}
+use Rattle.mb_usig.specs.Tags.{same_bytes}
 use Rattle.mb_parts.specs.declared.floor.Floor.{Floor}
 use Rattle.mb_parts.specs.declared.certificates.FloorCert.{FloorCert}
 use Rattle.mb_parts.specs.declared.request.Request.{Request}
@@ -22,6 +22,7 @@ use Rattle.mb_msg.specs.declared.stamped.Shown.{Shown}
 use Rattle.mb_msg.specs.declared.stamped.Shown.TheVariants as shown
 use Rattle.mb_msg.specs.Stamps.{bare_of_shown, ui_of_shown}
 use Rattle.mb_msg.specs.Plans.{plan_string}
+use Rattle.mb_model.specs.Verified.{is_rightly_tagged}
 
 -- ---- entries
 
@@ -114,24 +115,21 @@ Fault = ℕ × ℕ
 -- 3: the counter is not the next one
 -- 4: the entry is not the host's, or its tag does not verify
 -- 5: the entry may not stand there
--- 6: a body is shown that isn't wanted, or is wanted and not shown
+-- 6: a vote or an OPEN has the wrong form. Bodies are shown of the last OPEN where no JOIN is behind it, and of the votes behind the last opening, or of all
+--    votes where no opening is shown; of nothing else
 -- 7: a vote, or an OPEN's end, is more than 2K above the stable position
 -- 8: a request's tag does not verify, or the body of an OPEN is not that of its plan
 -- 3 and 5 behind the last entry: the VIEW_CHANGE itself has not the next counter, or goes to no later view
 module _ (s : Shape) (secret : Bytes) (valid : Claim → Bool) where
-  -- Its client asked for it.
-  abbrev pub is_asked : Request → Bool
-  is_asked r = same_bytes r.tag (request_tag secret r.client r.seq r.op)
-
-  -- The certificate is valid and is that of the base, the requests were asked and are as many as the plan has, and both give its digest.
+  -- The certificate is valid and is that of the base, the requests are rightly tagged and as many as the plan has, and both give its digest.
   abbrev pub is_plan_body : ℕ → ℕ → Bytes → OpenBody → Bool
   is_plan_body base end plan b =
       is_stable s valid b.stable && (b.stable.pos == base && (length b.requests == end - base
-      && (list_all is_asked b.requests && same_bytes plan (sha256 (plan_string base b.stable.state (map request_digest b.requests))))))
+      && (list_all (is_rightly_tagged secret) b.requests && same_bytes plan (sha256 (plan_string base b.stable.state (map request_digest b.requests))))))
 
-  -- Where the request is shown, its client asked for it.
+  -- Where the request is shown, it is rightly tagged.
   abbrev pub is_sound_request : Body Request → Bool
-  is_sound_request (Whole r) = is_asked r
+  is_sound_request (Whole r) = is_rightly_tagged secret r
   is_sound_request (Short digest) = true
 
   -- Where the body of an OPEN is shown, it is that of its plan.

@@ -2,12 +2,13 @@
 
 ghost use Rattle.std.specs.Prelude.{◌≡◌, ◌↔◌, ◌++◌, IfOk, IsTrue, OnOk};
 ghost use Rattle.mb_base.specs.Fields.{place_of};
+ghost use Rattle.mb_parts.specs.Counted.{counted};
 ghost use Rattle.mb_parts.specs.Decoded.{Decodes};
 ghost use Rattle.mb_msg.specs.Bodies.{form_of, body_bytes, body_digest, FitsBody, form_at, bare_form_at, body_at};
 
 use crate::message::Body;
 use mb_base::{Digest, Fields, NoMemory, Shape, put_bytes};
-use mb_parts::{Part, Readable, Undecoded, read_digest};
+use mb_parts::{Part, Readable, Undecoded, count_bytes, read_digest};
 use sha2::{Digest as _, Sha256};
 use std::alloc::Global;
 
@@ -63,6 +64,16 @@ impl<T: Part> Body<T> {
         match self {
             Body::Whole(part) => part.fits(shape),
             Body::Bare(digest) => digest.fits(shape),
+        }
+    }
+
+    pub(crate) fn count(&self, shape: &Shape, so_far: usize) -> usize
+        requires { FitsBody (T.valid shape.now) self.now }
+        ensures { result ≡ counted so_far (body_bytes T.text self.now) }
+    {
+        match self {
+            Body::Whole(part) => part.count(shape, so_far),
+            Body::Bare(digest) => count_bytes(so_far, digest),
         }
     }
 

@@ -11,8 +11,8 @@ use crate::body::{BARE_FORM, read_bare_form, read_body, read_form};
 use crate::normal::{BareCheckpoint, Checkpoint, Floors};
 use mb_base::{Fields, NoMemory, Shape, Ui, put_bytes, put_u8, put_u64};
 use mb_parts::{
-    Part, Readable, Undecoded, floors_fit, is_position, put_all, read_digest, read_floors,
-    read_position,
+    Part, Readable, Undecoded, count_all, count_bytes, count_u8, count_u64, floors_fit,
+    is_position, put_all, read_digest, read_floors, read_position,
 };
 use std::alloc::Global;
 
@@ -23,6 +23,10 @@ impl Part for Floors {
 
     fn fits(&self, shape: &Shape) -> bool {
         floors_fit(shape, &self.floors)
+    }
+
+    fn count(&self, shape: &Shape, so_far: usize) -> usize {
+        count_all(shape, so_far, self.floors.as_slice())
     }
 
     fn put(&self, shape: &Shape, out: &mut Vec<u8>) -> Result<(), NoMemory> {
@@ -47,6 +51,15 @@ impl Part for Checkpoint {
 
     fn fits(&self, shape: &Shape) -> bool {
         is_position(self.pos) && self.body.fits(shape) && self.ui.fits(shape)
+    }
+
+    #[tactic(auto, using(mb_parts::proofs::CountedBytes::counted_behind), unfolding(crate::specs::Spelling::checkpoint_bytes))]
+    fn count(&self, shape: &Shape, so_far: usize) -> usize {
+        let so_far = count_u8(so_far, self.body.form());
+        let so_far = count_u64(so_far, self.pos);
+        let so_far = count_bytes(so_far, &self.state);
+        let so_far = self.body.count(shape, so_far);
+        self.ui.count(shape, so_far)
     }
 
     #[tactic(auto, unfolding(crate::specs::Spelling::checkpoint_bytes))]
@@ -89,6 +102,15 @@ impl Part for BareCheckpoint {
 
     fn fits(&self, shape: &Shape) -> bool {
         is_position(self.pos) && self.ui.fits(shape)
+    }
+
+    #[tactic(auto, using(mb_parts::proofs::CountedBytes::counted_behind), unfolding(crate::specs::Spelling::bare_checkpoint_bytes))]
+    fn count(&self, shape: &Shape, so_far: usize) -> usize {
+        let so_far = count_u8(so_far, BARE_FORM);
+        let so_far = count_u64(so_far, self.pos);
+        let so_far = count_bytes(so_far, &self.state);
+        let so_far = count_bytes(so_far, &self.body);
+        self.ui.count(shape, so_far)
     }
 
     #[tactic(auto, unfolding(crate::specs::Spelling::bare_checkpoint_bytes))]

@@ -1,10 +1,9 @@
 //! The messages of the protocol, and what a host is given and answers.
 #![tactic(auto)]
 
-mod away;
 mod body;
 mod change;
-mod changing;
+mod change_bytes;
 mod checkpoints;
 mod digests;
 mod event;
@@ -15,9 +14,11 @@ mod message;
 mod normal;
 mod openings;
 mod plan;
+mod shown_bytes;
 mod stamped;
-mod stamps;
+mod stamped_bytes;
 mod transfer;
+mod transfer_bytes;
 mod votes;
 mod whole;
 

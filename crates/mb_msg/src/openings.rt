@@ -4,6 +4,7 @@ ghost use Rattle.std.specs.Prelude.{◌≡◌, ◌↔◌, ◌++◌, ◌-◌, ◌
 ghost use Rattle.std.specs.List.{AllByRecursion};
 ghost use Rattle.mb_base.specs.Fields.{place_of};
 ghost use Rattle.mb_parts.specs.Bares.{if_there};
+ghost use Rattle.mb_parts.specs.Counted.{counted};
 ghost use Rattle.mb_parts.specs.Decoded.{Decodes};
 ghost use Rattle.mb_parts.specs.Fits.{FitsRequest, FitsStable, FitsEvidence, FitsJoined};
 ghost use Rattle.mb_parts.specs.Reading.{stable_in, evidence_in, evidence_of_view};
@@ -17,9 +18,9 @@ use crate::change::{Enter, Join, Open, OpenBody, ReqViewChange};
 use crate::message::Body;
 use mb_base::{Fields, NoMemory, Shape, Ui, View, put_bytes, put_u8, put_u64};
 use mb_parts::{
-    Evidence, MAX_POS, MAX_VIEW, Part, Readable, Undecoded, all_fit, is_counter, is_place,
-    is_position, put_all, read_counter, read_digest, read_evidence_in, read_host, read_parts,
-    read_place, read_position, read_stable_in,
+    Evidence, MAX_POS, MAX_VIEW, Part, Readable, Undecoded, all_fit, count_all, count_bytes,
+    count_u8, count_u64, is_counter, is_place, is_position, put_all, read_counter, read_digest,
+    read_evidence_in, read_host, read_parts, read_place, read_position, read_stable_in,
 };
 use std::alloc::Global;
 
@@ -30,6 +31,13 @@ impl Part for ReqViewChange {
 
     fn fits(&self, shape: &Shape) -> bool {
         self.host < shape.n() && is_position(self.view)
+    }
+
+    #[tactic(auto, using(mb_parts::proofs::CountedBytes::counted_behind), unfolding(crate::specs::Spelling::wish_bytes))]
+    fn count(&self, shape: &Shape, so_far: usize) -> usize {
+        let so_far = count_u8(so_far, self.host);
+        let so_far = count_u64(so_far, self.view);
+        count_bytes(so_far, &self.tag)
     }
 
     #[tactic(auto, unfolding(crate::specs::Spelling::wish_bytes))]
@@ -63,6 +71,15 @@ impl Part for Enter {
 
     fn fits(&self, shape: &Shape) -> bool {
         is_position(self.view) && is_counter(self.counter) && self.ui.fits(shape)
+    }
+
+    #[tactic(auto, using(mb_parts::proofs::CountedBytes::counted_behind), unfolding(crate::specs::Spelling::enter_bytes))]
+    fn count(&self, shape: &Shape, so_far: usize) -> usize {
+        let so_far = count_u8(so_far, BARE_FORM);
+        let so_far = count_u64(so_far, self.view);
+        let so_far = count_u64(so_far, self.counter);
+        let so_far = count_bytes(so_far, &self.plan);
+        self.ui.count(shape, so_far)
     }
 
     #[tactic(auto, unfolding(crate::specs::Spelling::enter_bytes))]
@@ -101,6 +118,12 @@ impl Part for OpenBody {
 
     fn fits(&self, shape: &Shape) -> bool {
         self.stable.fits(shape) && all_fit(shape, self.requests.as_slice())
+    }
+
+    #[tactic(auto, using(mb_parts::proofs::CountedBytes::counted_behind), unfolding(crate::specs::Spelling::open_body_bytes))]
+    fn count(&self, shape: &Shape, so_far: usize) -> usize {
+        let so_far = self.stable.count(shape, so_far);
+        count_all(shape, so_far, self.requests.as_slice())
     }
 
     #[tactic(auto, unfolding(crate::specs::Spelling::open_body_bytes))]
@@ -172,6 +195,14 @@ impl Part for Open {
             && self.ui.fits(shape)
     }
 
+    #[tactic(auto, using(mb_parts::proofs::CountedBytes::counted_behind, crate::proofs::Opened::opened_parts), unfolding(crate::specs::Spelling::open_bytes))]
+    fn count(&self, shape: &Shape, so_far: usize) -> usize {
+        let so_far = count_u8(so_far, self.body.form());
+        let so_far = self.evidence.count(shape, so_far);
+        let so_far = self.body.count(shape, so_far);
+        self.ui.count(shape, so_far)
+    }
+
     #[tactic(auto, using(crate::proofs::Opened::opened_parts), unfolding(crate::specs::Spelling::open_bytes))]
     fn put(&self, shape: &Shape, out: &mut Vec<u8>) -> Result<(), NoMemory> {
         put_u8(out, self.body.form())?;
@@ -232,6 +263,17 @@ pub(crate) fn put_joined(
     }
 }
 
+#[tactic(auto, using(mb_parts::proofs::CountedBytes::counted_behind, mb_parts::proofs::CountedBytes::counted_nothing))]
+fn count_joined(shape: &Shape, so_far: usize, view: View, evidence: &Option<Evidence>) -> usize
+    requires { FitsJoined shape.now view evidence.now }
+    ensures { result ≡ counted so_far (if_there evidence.now) }
+{
+    match evidence {
+        None => so_far,
+        Some(evidence) => evidence.count(shape, so_far),
+    }
+}
+
 impl Part for Join {
     ghost text = { join_bytes };
 
@@ -243,6 +285,15 @@ impl Part for Join {
             && self.stable.fits(shape)
             && self.stable.pos >= 1
             && self.ui.fits(shape)
+    }
+
+    #[tactic(auto, using(mb_parts::proofs::CountedBytes::counted_behind), unfolding(crate::specs::Spelling::join_bytes))]
+    fn count(&self, shape: &Shape, so_far: usize) -> usize {
+        let so_far = count_u8(so_far, BARE_FORM);
+        let so_far = count_u64(so_far, self.view);
+        let so_far = count_joined(shape, so_far, self.view, &self.evidence);
+        let so_far = self.stable.count(shape, so_far);
+        self.ui.count(shape, so_far)
     }
 
     #[tactic(auto, unfolding(crate::specs::Spelling::join_bytes))]

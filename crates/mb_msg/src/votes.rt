@@ -4,6 +4,7 @@ ghost use Rattle.std.specs.Prelude.{◌≡◌, ◌↔◌, ◌++◌, IfOk, IsTrue
 ghost use Rattle.std.specs.Int.{w64};
 ghost use Rattle.mb_base.specs.Spelling.{number};
 ghost use Rattle.mb_base.specs.Fields.{place_of};
+ghost use Rattle.mb_parts.specs.Counted.{counted};
 ghost use Rattle.mb_parts.specs.Decoded.{Decodes};
 ghost use Rattle.mb_msg.specs.Fits.{FitsPrepare, FitsCommit, FitsReply};
 ghost use Rattle.mb_msg.specs.Spelling.{prepare_bytes, commit_bytes, reply_bytes};
@@ -13,8 +14,9 @@ use crate::body::{read_body, read_form};
 use crate::normal::{Commit, Prepare, Reply};
 use mb_base::{Counter, Digest, Fields, NoMemory, Shape, Ui, put_bytes, put_u8, put_u64};
 use mb_parts::{
-    Part, Readable, Undecoded, is_counter, is_place, is_position, put_text, read_client,
-    read_counter, read_digest, read_host, read_place, read_position, read_text, text_fits,
+    Part, Readable, Undecoded, count_bytes, count_text, count_u8, count_u64, is_counter, is_place,
+    is_position, put_text, read_client, read_counter, read_digest, read_host, read_place,
+    read_position, read_text, text_fits,
 };
 use std::alloc::Global;
 
@@ -25,6 +27,15 @@ impl Part for Prepare {
 
     fn fits(&self, shape: &Shape) -> bool {
         is_place(self.view) && is_position(self.pos) && self.body.fits(shape) && self.ui.fits(shape)
+    }
+
+    #[tactic(auto, using(mb_parts::proofs::CountedBytes::counted_behind), unfolding(crate::specs::Spelling::prepare_bytes))]
+    fn count(&self, shape: &Shape, so_far: usize) -> usize {
+        let so_far = count_u8(so_far, self.body.form());
+        let so_far = count_u64(so_far, self.view);
+        let so_far = count_u64(so_far, self.pos);
+        let so_far = self.body.count(shape, so_far);
+        self.ui.count(shape, so_far)
     }
 
     #[tactic(auto, unfolding(crate::specs::Spelling::prepare_bytes))]
@@ -64,6 +75,14 @@ fn put_named(out: &mut Vec<u8>, counter: Counter, cert: &Digest) -> Result<(), N
     put_bytes(out, cert)
 }
 
+/// Counts the counter and the certificate of the PREPARE that a COMMIT votes for.
+#[tactic(auto, using(mb_parts::proofs::CountedBytes::counted_behind))]
+fn count_named(so_far: usize, counter: Counter, cert: &Digest) -> usize
+    ensures { result ≡ counted so_far (number w64 counter ++ cert.now) }
+{
+    count_bytes(count_u64(so_far, counter), cert)
+}
+
 impl Part for Commit {
     ghost text = { commit_bytes };
 
@@ -75,6 +94,16 @@ impl Part for Commit {
             && is_counter(self.counter)
             && self.body.fits(shape)
             && self.ui.fits(shape)
+    }
+
+    #[tactic(auto, using(mb_parts::proofs::CountedBytes::counted_behind), unfolding(crate::specs::Spelling::commit_bytes))]
+    fn count(&self, shape: &Shape, so_far: usize) -> usize {
+        let so_far = count_u8(so_far, self.body.form());
+        let so_far = count_u64(so_far, self.view);
+        let so_far = count_u64(so_far, self.pos);
+        let so_far = count_named(so_far, self.counter, &self.cert);
+        let so_far = self.body.count(shape, so_far);
+        self.ui.count(shape, so_far)
     }
 
     #[tactic(auto, unfolding(crate::specs::Spelling::commit_bytes))]
@@ -122,6 +151,16 @@ impl Part for Reply {
             && is_counter(self.seq)
             && is_place(self.pos)
             && text_fits(&self.result)
+    }
+
+    #[tactic(auto, using(mb_parts::proofs::CountedBytes::counted_behind), unfolding(crate::specs::Spelling::reply_bytes))]
+    fn count(&self, shape: &Shape, so_far: usize) -> usize {
+        let so_far = count_u8(so_far, self.host);
+        let so_far = count_u8(so_far, self.client);
+        let so_far = count_u64(so_far, self.seq);
+        let so_far = count_u64(so_far, self.pos);
+        let so_far = count_text(so_far, &self.result);
+        count_bytes(so_far, &self.tag)
     }
 
     #[tactic(auto, unfolding(crate::specs::Spelling::reply_bytes))]

@@ -15,10 +15,10 @@ use crate::limits::MESSAGE_LIMIT;
 use crate::message::Message;
 use crate::normal::{Reply, Stop};
 use crate::stamped::Stamped;
-use crate::stamps::read_stamped;
+use crate::stamped_bytes::read_stamped;
 use crate::transfer::{Fetch, Log, Resend, StateMsg};
 use mb_base::{Fields, NoMemory, Shape, put_u8};
-use mb_parts::{Part, Readable, Request, Undecoded, read_digest};
+use mb_parts::{Part, Readable, Request, Undecoded, count_u8, read_digest};
 use std::alloc::Global;
 
 impl Part for Message {
@@ -44,6 +44,29 @@ impl Part for Message {
             Message::Fetch(fetch) => fetch.fits(shape),
             Message::State(state) => state.fits(shape),
             Message::Stop(stop) => stop.tag.fits(shape),
+        }
+    }
+
+    #[tactic(auto, using(mb_parts::proofs::CountedBytes::counted_behind), unfolding(crate::specs::Spelling::spelling))]
+    fn count(&self, shape: &Shape, so_far: usize) -> usize {
+        let so_far = count_u8(so_far, self.kind());
+        match self {
+            Message::Request(request) => request.count(shape, so_far),
+            Message::Prepare(prepare) => prepare.count(shape, so_far),
+            Message::Commit(commit) => commit.count(shape, so_far),
+            Message::Reply(reply) => reply.count(shape, so_far),
+            Message::Checkpoint(checkpoint) => checkpoint.count(shape, so_far),
+            Message::ReqViewChange(wish) => wish.count(shape, so_far),
+            Message::ViewChange(change) => change.count(shape, so_far),
+            Message::NewView(new_view) => new_view.count(shape, so_far),
+            Message::Enter(enter) => enter.count(shape, so_far),
+            Message::Open(open) => open.count(shape, so_far),
+            Message::Join(join) => join.count(shape, so_far),
+            Message::Resend(resend) => resend.count(shape, so_far),
+            Message::Log(log) => log.count(shape, so_far),
+            Message::Fetch(fetch) => fetch.count(shape, so_far),
+            Message::State(state) => state.count(shape, so_far),
+            Message::Stop(stop) => stop.tag.count(shape, so_far),
         }
     }
 
@@ -151,7 +174,7 @@ fn message_bytes(alloc: Global, shape: &Shape, message: &Message) -> Result<Vec<
     requires { FitsFields shape.now message.now }
     ensures { IfOk result (λ v. v.items ≡ spelling message.now) }
 {
-    let mut out = Vec::new(alloc);
+    let mut out = Vec::with_capacity(alloc, message.count(shape, 0))?;
     message.put(shape, &mut out)?;
     Ok(out)
 }
@@ -173,14 +196,18 @@ pub fn fields_fit(shape: &Shape, message: &Message) -> bool
     message.fits(shape)
 }
 
-/// Whether each field of the message has an allowed value, and its bytes are at most [`MESSAGE_LIMIT`].
-/// It takes the memory of the bytes.
-pub fn fits(alloc: Global, shape: &Shape, message: &Message) -> Result<bool, NoMemory>
-    ensures { IfOk result (λ b. IsTrue b ↔ Fits shape.now message.now) }
+/// Whether the message has at most [`MESSAGE_LIMIT`] bytes. Each field has an allowed value.
+#[tactic(auto, using(mb_parts::proofs::CountedBytes::counted_within, mb_parts::proofs::CountedBytes::within_counted))]
+fn is_short(shape: &Shape, message: &Message) -> bool
+    requires { FitsFields shape.now message.now }
+    ensures { IsTrue result ↔ (length (spelling message.now) ≤ message_limit) }
 {
-    if !fields_fit(shape, message) {
-        return Ok(false);
-    }
-    let bytes = message_bytes(alloc, shape, message)?;
-    Ok(bytes.len() <= MESSAGE_LIMIT)
+    message.count(shape, 0) <= MESSAGE_LIMIT
+}
+
+/// Whether each field of the message has an allowed value, and its bytes are at most [`MESSAGE_LIMIT`].
+pub fn fits(shape: &Shape, message: &Message) -> bool
+    ensures { IsTrue result ↔ Fits shape.now message.now }
+{
+    fields_fit(shape, message) && is_short(shape, message)
 }

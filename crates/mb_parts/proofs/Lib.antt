@@ -1,3 +1,4 @@
+pub mod CountedBytes
 pub mod Faults
 pub mod Held
 pub mod Fields

@@ -5,19 +5,21 @@ ghost use Rattle.std.specs.List.{AllByRecursion};
 ghost use Rattle.mb_base.specs.Shapes.{primary};
 ghost use Rattle.mb_base.specs.Reading.{is_other};
 ghost use Rattle.mb_base.specs.Fields.{place_of};
+ghost use Rattle.mb_parts.specs.Counted.{counted};
 ghost use Rattle.mb_parts.specs.Decoded.{Decodes};
 ghost use Rattle.mb_parts.specs.Fits.{FitsBackup, FitsEvidenceMember, FitsEvidence};
 ghost use Rattle.mb_parts.specs.Spelling.{evidence_member_bytes, carried_bytes, evidence_bytes};
 ghost use Rattle.mb_parts.specs.Reading.{evidence_member_at, evidence_in, evidence_at};
 
 use crate::certificates::{Evidence, EvidenceMember};
+use crate::counting::{count_bytes, count_u8, count_u64};
 use crate::fault::Undecoded;
 use crate::limits::MAX_VIEW;
 use crate::numbers::{
     is_base, is_counter, is_end, is_position, read_base, read_counter, read_digest, read_end,
     read_member_host,
 };
-use crate::part::{Member, Part, Readable, put_all, read_members, rise};
+use crate::part::{Member, Part, Readable, count_all, put_all, read_members, rise};
 use mb_base::{Fields, Host, NoMemory, Shape, View, put_bytes, put_u8, put_u64};
 use std::alloc::Global;
 
@@ -28,6 +30,12 @@ impl Part for EvidenceMember {
 
     fn fits(&self, shape: &Shape) -> bool {
         self.host < shape.n() && is_counter(self.counter)
+    }
+
+    #[tactic(auto, using(crate::proofs::CountedBytes::counted_behind), unfolding(crate::specs::Spelling::evidence_member_bytes))]
+    fn count(&self, shape: &Shape, so_far: usize) -> usize {
+        let behind_counter = count_u64(count_u8(so_far, self.host), self.counter);
+        count_bytes(behind_counter, &self.cert)
     }
 
     #[tactic(auto, unfolding(crate::specs::Spelling::evidence_member_bytes))]
@@ -88,6 +96,15 @@ fn put_carried(out: &mut Vec<u8>, evidence: &Evidence) -> Result<(), NoMemory>
     put_bytes(out, &evidence.body)
 }
 
+/// Counts where the view begins and ends, and the digests of its plan and of its NEW_VIEW's body.
+#[tactic(auto, using(crate::proofs::CountedBytes::counted_behind))]
+fn count_carried(so_far: usize, evidence: &Evidence) -> usize
+    ensures { result ≡ counted so_far (carried_bytes evidence.now) }
+{
+    let behind_end = count_u64(count_u64(so_far, evidence.base), evidence.end);
+    count_bytes(count_bytes(behind_end, &evidence.plan), &evidence.body)
+}
+
 impl Part for Evidence {
     ghost text = { evidence_bytes };
 
@@ -101,6 +118,14 @@ impl Part for Evidence {
             && self.members.len() == shape.f() as usize
             && rise(self.members.as_slice())
             && are_backups(shape, self.view, self.members.as_slice())
+    }
+
+    #[tactic(auto, using(crate::proofs::Held::backups_fit, crate::proofs::CountedBytes::counted_behind), unfolding(crate::specs::Spelling::evidence_bytes))]
+    fn count(&self, shape: &Shape, so_far: usize) -> usize {
+        let behind_carried = count_carried(count_u64(so_far, self.view), self);
+        let behind_counter = count_u64(behind_carried, self.counter);
+        let behind_cert = count_bytes(behind_counter, &self.cert);
+        count_all(shape, behind_cert, self.members.as_slice())
     }
 
     #[tactic(auto, using(crate::proofs::Held::backups_fit), unfolding(crate::specs::Spelling::evidence_bytes))]

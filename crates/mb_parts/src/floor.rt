@@ -7,6 +7,7 @@ ghost use Rattle.mb_parts.specs.Fits.{FitsFloor};
 ghost use Rattle.mb_parts.specs.Spelling.{phase_number, floor_bytes};
 ghost use Rattle.mb_parts.specs.Reading.{phase_at, floor_at};
 
+use crate::counting::{count_u8, count_u64};
 use crate::fault::Undecoded;
 use crate::numbers::{is_counter, is_place, read_counter, read_place};
 use crate::part::{Part, Readable};
@@ -84,6 +85,14 @@ impl Part for Floor {
             && is_place(self.last)
             && is_place(self.top)
             && is_place(self.point)
+    }
+
+    #[tactic(auto, using(crate::proofs::CountedBytes::counted_behind), unfolding(crate::specs::Spelling::floor_bytes))]
+    fn count(&self, shape: &Shape, so_far: usize) -> usize {
+        let behind_view = count_u64(count_u64(so_far, self.counter), self.view);
+        let behind_phase = count_u8(behind_view, self.phase.number());
+        let behind_last = count_u64(behind_phase, self.last);
+        count_u64(count_u64(behind_last, self.top), self.point)
     }
 
     #[tactic(auto, unfolding(crate::specs::Spelling::floor_bytes))]

@@ -2,6 +2,7 @@
 #![tactic(auto)]
 
 mod certificates;
+mod counting;
 mod evidence;
 mod fault;
 mod floor;
@@ -18,6 +19,7 @@ mod writing;
 pub use certificates::{
     Evidence, EvidenceMember, FloorCert, FloorMember, StableCert, StableMember,
 };
+pub use counting::{count_bytes, count_u8, count_u16, count_u32, count_u64};
 pub use evidence::read_evidence_in;
 pub use fault::Undecoded;
 pub use floor::{Floor, Mark, Phase};
@@ -27,8 +29,11 @@ pub use numbers::{
     is_base, is_counter, is_end, is_place, is_position, read_base, read_client, read_counter,
     read_digest, read_end, read_host, read_place, read_point, read_position, read_text, text_fits,
 };
-pub use part::{Member, Part, Readable, all_fit, put_all, read_members, read_parts, rise};
+pub use part::{
+    Member, Part, Readable, all_fit, are_members, count_all, count_listed, put_all, put_listed,
+    read_listed, read_members, read_parts, rise,
+};
 pub use reading::{read_evidence, read_floor, read_floor_cert, read_request, read_stable};
-pub use request::{Request, put_text, read_ui_from};
+pub use request::{Request, count_text, put_text, read_ui_from};
 pub use stable::{floors_fit, read_floors, read_stable_in};
 pub use writing::{put_evidence, put_floor, put_floor_cert, put_request, put_stable};

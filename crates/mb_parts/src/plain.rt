@@ -5,6 +5,7 @@ ghost use Rattle.mb_base.specs.Spelling.{number, text as length_and_text};
 ghost use Rattle.mb_parts.specs.Fits.{IsCounter, IsDigest, FitsStatePart};
 ghost use Rattle.mb_parts.specs.Reading.{counter_at, digest_at, state_part_at};
 
+use crate::counting::{count_bytes, count_u32, count_u64};
 use crate::fault::Undecoded;
 use crate::numbers::{is_counter, read_counter, read_digest};
 use crate::part::{Part, Readable};
@@ -18,6 +19,10 @@ impl Part for Counter {
 
     fn fits(&self, shape: &Shape) -> bool {
         is_counter(*self)
+    }
+
+    fn count(&self, shape: &Shape, so_far: usize) -> usize {
+        count_u64(so_far, *self)
     }
 
     fn put(&self, shape: &Shape, out: &mut Vec<u8>) -> Result<(), NoMemory> {
@@ -43,6 +48,10 @@ impl Part for Digest {
         true
     }
 
+    fn count(&self, shape: &Shape, so_far: usize) -> usize {
+        count_bytes(so_far, self)
+    }
+
     fn put(&self, shape: &Shape, out: &mut Vec<u8>) -> Result<(), NoMemory> {
         put_bytes(out, self)
     }
@@ -64,6 +73,11 @@ impl Part for Items<u8> {
 
     fn fits(&self, shape: &Shape) -> bool {
         self.len() <= u32::MAX as usize
+    }
+
+    #[tactic(auto, using(crate::proofs::CountedBytes::counted_behind))]
+    fn count(&self, shape: &Shape, so_far: usize) -> usize {
+        count_bytes(count_u32(so_far, self.len() as u32), self.as_slice())
     }
 
     fn put(&self, shape: &Shape, out: &mut Vec<u8>) -> Result<(), NoMemory> {

@@ -1,13 +1,13 @@
 //! Reading one part of a message.
 //!
 //! `Malformed` comes exactly where no spelling of the part begins at the place of the fields: at the first field that is short
-//! or has a value that isn't allowed, and the fields then stand there.
+//! or has a value that isn't allowed, and the fields then stand there. Where memory runs out they stand where they stood.
 
 ghost use Rattle.std.specs.Prelude.{◌+◌, ◌-◌, ◌^◌, IfSome};
 ghost use Rattle.mb_base.specs.Spelling.{optional};
 ghost use Rattle.mb_base.specs.Reading.{optional_at};
 ghost use Rattle.mb_base.specs.Fields.{place_of};
-ghost use Rattle.mb_parts.specs.Decoded.{Decodes, Spelled, ReadsAgain};
+ghost use Rattle.mb_parts.specs.Decoded.{Decodes, Spelled, ReadsAgain, StaysWithoutMemory};
 ghost use Rattle.mb_parts.specs.Fits.{FitsRequest, FitsStable, FitsFloor, FitsFloorCert, FitsEvidence};
 ghost use Rattle.mb_parts.specs.Spelling.{request_bytes, stable_bytes, floor_bytes, floor_cert_bytes, evidence_bytes};
 ghost use Rattle.mb_parts.specs.Reading.{request_at, stable_at, floor_at, floor_cert_at, evidence_at};
@@ -20,6 +20,23 @@ use crate::request::Request;
 use mb_base::{Fields, Shape};
 use std::alloc::Global;
 
+/// The part at the place of the fields.
+fn read_or_stay<T: Readable>(
+    alloc: Global,
+    shape: &Shape,
+    fields: &mut Fields<'_>,
+) -> Result<T, Undecoded>
+    ensures exact { Decodes result fields.new (T.reads shape.now (place_of fields.old)) }
+    ensures kept { StaysWithoutMemory result fields.old fields.new }
+{
+    let before = *fields;
+    let part = T::read(alloc, shape, fields);
+    if let Err(Undecoded::NoMemory) = part {
+        *fields = before;
+    }
+    part
+}
+
 /// The request at the place of the fields.
 pub fn read_request(
     alloc: Global,
@@ -29,8 +46,9 @@ pub fn read_request(
     ensures exact { Decodes result fields.new (request_at shape.now (place_of fields.old)) }
     ensures found { Spelled request_bytes (FitsRequest shape.now) result fields.old fields.new }
     ensures only { ReadsAgain request_bytes (FitsRequest shape.now) result fields.old fields.new }
+    ensures kept { StaysWithoutMemory result fields.old fields.new }
 {
-    Request::read(alloc, shape, fields)
+    read_or_stay(alloc, shape, fields)
 }
 
 /// The stable certificate at the place of the fields.
@@ -42,8 +60,9 @@ pub fn read_stable(
     ensures exact { Decodes result fields.new (stable_at shape.now (place_of fields.old)) }
     ensures found { Spelled stable_bytes (FitsStable shape.now) result fields.old fields.new }
     ensures only { ReadsAgain stable_bytes (FitsStable shape.now) result fields.old fields.new }
+    ensures kept { StaysWithoutMemory result fields.old fields.new }
 {
-    StableCert::read(alloc, shape, fields)
+    read_or_stay(alloc, shape, fields)
 }
 
 /// The floor certificate, or none, at the place of the fields.
@@ -55,8 +74,9 @@ pub fn read_floor_cert(
     ensures exact { Decodes result fields.new (optional_at (floor_cert_at shape.now) (place_of fields.old)) }
     ensures found { Spelled (optional floor_cert_bytes) (λ o. IfSome o (FitsFloorCert shape.now)) result fields.old fields.new }
     ensures only { ReadsAgain (optional floor_cert_bytes) (λ o. IfSome o (FitsFloorCert shape.now)) result fields.old fields.new }
+    ensures kept { StaysWithoutMemory result fields.old fields.new }
 {
-    Readable::read(alloc, shape, fields)
+    read_or_stay(alloc, shape, fields)
 }
 
 /// The evidence at the place of the fields.
@@ -68,8 +88,9 @@ pub fn read_evidence(
     ensures exact { Decodes result fields.new (evidence_at shape.now (place_of fields.old)) }
     ensures found { Spelled evidence_bytes (FitsEvidence shape.now) result fields.old fields.new }
     ensures only { ReadsAgain evidence_bytes (FitsEvidence shape.now) result fields.old fields.new }
+    ensures kept { StaysWithoutMemory result fields.old fields.new }
 {
-    Evidence::read(alloc, shape, fields)
+    read_or_stay(alloc, shape, fields)
 }
 
 /// The floor, or none, at the place of the fields.
@@ -81,6 +102,7 @@ pub fn read_floor(
     ensures exact { Decodes result fields.new (optional_at floor_at (place_of fields.old)) }
     ensures found { Spelled (optional floor_bytes) (λ o. IfSome o FitsFloor) result fields.old fields.new }
     ensures only { ReadsAgain (optional floor_bytes) (λ o. IfSome o FitsFloor) result fields.old fields.new }
+    ensures kept { StaysWithoutMemory result fields.old fields.new }
 {
-    Readable::read(alloc, shape, fields)
+    read_or_stay(alloc, shape, fields)
 }

@@ -6,11 +6,13 @@ ghost use Rattle.mb_base.specs.Shapes.{host_count};
 ghost use Rattle.mb_base.specs.Spelling.{number, text16};
 ghost use Rattle.mb_base.specs.Fields.{place_of};
 ghost use Rattle.mb_parts.specs.Bares.{request_digest};
+ghost use Rattle.mb_parts.specs.Counted.{counted};
 ghost use Rattle.mb_parts.specs.Decoded.{Decodes};
 ghost use Rattle.mb_parts.specs.Fits.{FitsText, FitsUi, FitsRequest};
 ghost use Rattle.mb_parts.specs.Spelling.{ui_bytes, request_bytes};
 ghost use Rattle.mb_parts.specs.Reading.{ui_from, ui_at, request_at};
 
+use crate::counting::{count_bytes, count_u8, count_u16, count_u64};
 use crate::fault::Undecoded;
 use crate::numbers::{
     is_counter, read_client, read_counter, read_digest, read_member_host, read_text, text_fits,
@@ -53,6 +55,15 @@ pub fn put_text(out: &mut Vec<u8>, text: &Items<u8>) -> Result<(), NoMemory>
     put_bytes(out, text.as_slice())
 }
 
+/// Counts a text behind its length in two bytes.
+#[tactic(auto, using(crate::proofs::CountedBytes::counted_behind))]
+pub fn count_text(so_far: usize, text: &Items<u8>) -> usize
+    requires { FitsText text.now }
+    ensures { result ≡ counted so_far (text16 text.now) }
+{
+    count_bytes(count_u16(so_far, text.len() as u16), text.as_slice())
+}
+
 impl Part for Request {
     ghost text = { request_bytes };
 
@@ -60,6 +71,14 @@ impl Part for Request {
 
     fn fits(&self, shape: &Shape) -> bool {
         self.client < shape.clients() && is_counter(self.seq) && text_fits(&self.op)
+    }
+
+    #[tactic(auto, using(crate::proofs::CountedBytes::counted_behind), unfolding(crate::specs::Spelling::request_bytes))]
+    fn count(&self, shape: &Shape, so_far: usize) -> usize {
+        let behind_client = count_u8(so_far, self.client);
+        let behind_number = count_u64(behind_client, self.seq);
+        let behind_text = count_text(behind_number, &self.op);
+        count_bytes(behind_text, &self.tag)
     }
 
     #[tactic(auto, unfolding(crate::specs::Spelling::request_bytes))]
@@ -119,6 +138,12 @@ impl Part for Ui {
 
     fn fits(&self, shape: &Shape) -> bool {
         self.host < shape.n() && is_counter(self.counter)
+    }
+
+    #[tactic(auto, using(crate::proofs::CountedBytes::counted_behind), unfolding(crate::specs::Spelling::ui_bytes))]
+    fn count(&self, shape: &Shape, so_far: usize) -> usize {
+        let head = count_u64(count_u8(so_far, self.host), self.counter);
+        count_bytes(head, &self.cert)
     }
 
     #[tactic(auto, unfolding(crate::specs::Spelling::ui_bytes))]

@@ -4,18 +4,22 @@ ghost use Rattle.std.specs.Prelude.{◌≡◌, ◌↔◌, ◌++◌, ◌<◌, rep
 ghost use Rattle.mb_base.specs.Shapes.{host_count, quorum};
 ghost use Rattle.mb_base.specs.Fields.{place_of};
 ghost use Rattle.mb_parts.specs.Decoded.{Decodes};
+ghost use Rattle.mb_parts.specs.Counted.{counted};
 ghost use Rattle.mb_parts.specs.Fits.{AreMembers, FitsFloors, FitsStableMember, FitsHeld, FitsStable, FitsFloorMember, FitsFloorCert};
 ghost use Rattle.mb_parts.specs.Spelling.{floors_bytes, stable_member_bytes, held_bytes, stable_bytes, floor_member_bytes, floor_cert_bytes};
 ghost use Rattle.mb_parts.specs.Reading.{floors_at, stable_member_at, held_at, stable_in, stable_at, floor_member_at, floor_cert_at};
 
 use crate::certificates::{FloorCert, FloorMember, StableCert, StableMember};
+use crate::counting::{count_bytes, count_u8, count_u64};
 use crate::fault::Undecoded;
 use crate::floor::Floor;
 use crate::limits::MAX_POS;
 use crate::numbers::{
     is_base, is_counter, read_counter, read_digest, read_member_host, read_point,
 };
-use crate::part::{Member, Part, Readable, all_fit, put_all, read_members, read_parts, rise};
+use crate::part::{
+    Member, Part, Readable, all_fit, are_members, count_all, put_all, read_members, read_parts,
+};
 use mb_base::{Digest, Fields, Host, Items, NoMemory, Pos, Shape, put_bytes, put_u8, put_u64};
 use std::alloc::Global;
 
@@ -26,6 +30,12 @@ impl Part for StableMember {
 
     fn fits(&self, shape: &Shape) -> bool {
         self.host < shape.n() && is_counter(self.counter)
+    }
+
+    #[tactic(auto, using(crate::proofs::CountedBytes::counted_behind), unfolding(crate::specs::Spelling::stable_member_bytes))]
+    fn count(&self, shape: &Shape, so_far: usize) -> usize {
+        let behind_counter = count_u64(count_u8(so_far, self.host), self.counter);
+        count_bytes(count_bytes(behind_counter, &self.floors), &self.cert)
     }
 
     #[tactic(auto, unfolding(crate::specs::Spelling::stable_member_bytes))]
@@ -67,15 +77,6 @@ impl Member for StableMember {
     }
 }
 
-/// Whether so many members are of rising hosts, and each field of each has an allowed value.
-fn are_stable_members(shape: &Shape, members: &Items<StableMember>) -> bool
-    ensures { IsTrue result ↔ AreMembers (λ m. m.host) (FitsStableMember shape.now) (quorum shape.now) members.now }
-{
-    members.len() == shape.quorum() as usize
-        && rise(members.as_slice())
-        && all_fit(shape, members.as_slice())
-}
-
 fn is_zero(state: &Digest) -> bool
     ensures { IsTrue result ↔ (state.now ≡ replicate 32 0) }
 {
@@ -96,7 +97,7 @@ fn held_fits(shape: &Shape, pos: Pos, state: &Digest, members: &Items<StableMemb
     if pos == 0 {
         return is_nothing(state, members);
     }
-    are_stable_members(shape, members)
+    are_members(shape, shape.quorum(), members)
 }
 
 #[tactic(auto, using(crate::proofs::Held::held_above))]
@@ -134,6 +135,23 @@ fn read_held(
     Ok((state, members))
 }
 
+#[tactic(auto, using(crate::proofs::CountedBytes::counted_behind, crate::proofs::CountedBytes::counted_nothing, crate::proofs::Held::held_above))]
+fn count_held(
+    shape: &Shape,
+    so_far: usize,
+    pos: Pos,
+    state: &Digest,
+    members: &Items<StableMember>,
+) -> usize
+    requires { FitsHeld shape.now pos state.now members.now }
+    ensures { result ≡ counted so_far (held_bytes pos state.now members.now) }
+{
+    if pos == 0 {
+        return so_far;
+    }
+    count_all(shape, count_bytes(so_far, state), members.as_slice())
+}
+
 impl Part for StableCert {
     ghost text = { stable_bytes };
 
@@ -141,6 +159,12 @@ impl Part for StableCert {
 
     fn fits(&self, shape: &Shape) -> bool {
         is_base(shape, self.pos) && held_fits(shape, self.pos, &self.state, &self.members)
+    }
+
+    #[tactic(auto, using(crate::proofs::CountedBytes::counted_behind), unfolding(crate::specs::Spelling::stable_bytes))]
+    fn count(&self, shape: &Shape, so_far: usize) -> usize {
+        let behind_pos = count_u64(so_far, self.pos);
+        count_held(shape, behind_pos, self.pos, &self.state, &self.members)
     }
 
     #[tactic(auto, unfolding(crate::specs::Spelling::stable_bytes))]
@@ -209,6 +233,13 @@ impl Part for FloorMember {
         self.host < shape.n() && is_counter(self.counter) && floors_fit(shape, &self.floors)
     }
 
+    #[tactic(auto, using(crate::proofs::CountedBytes::counted_behind), unfolding(crate::specs::Spelling::floor_member_bytes))]
+    fn count(&self, shape: &Shape, so_far: usize) -> usize {
+        let behind_counter = count_u64(count_u8(so_far, self.host), self.counter);
+        let behind_floors = count_all(shape, behind_counter, self.floors.as_slice());
+        count_bytes(behind_floors, &self.cert)
+    }
+
     #[tactic(auto, unfolding(crate::specs::Spelling::floor_member_bytes))]
     fn put(&self, shape: &Shape, out: &mut Vec<u8>) -> Result<(), NoMemory> {
         put_u8(out, self.host)?;
@@ -256,9 +287,13 @@ impl Part for FloorCert {
     fn fits(&self, shape: &Shape) -> bool {
         self.pos >= 1
             && is_base(shape, self.pos)
-            && self.members.len() == shape.quorum() as usize
-            && rise(self.members.as_slice())
-            && all_fit(shape, self.members.as_slice())
+            && are_members(shape, shape.quorum(), &self.members)
+    }
+
+    #[tactic(auto, using(crate::proofs::CountedBytes::counted_behind), unfolding(crate::specs::Spelling::floor_cert_bytes))]
+    fn count(&self, shape: &Shape, so_far: usize) -> usize {
+        let behind_state = count_bytes(count_u64(so_far, self.pos), &self.state);
+        count_all(shape, behind_state, self.members.as_slice())
     }
 
     #[tactic(auto, unfolding(crate::specs::Spelling::floor_cert_bytes))]

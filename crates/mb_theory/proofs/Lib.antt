@@ -16,3 +16,10 @@ pub mod Worlds
 pub mod Rising
 pub mod Safe
 pub mod Stand
+pub mod RoomForRules
+pub mod KeptByEvents
+pub mod KeptByWorlds
+pub mod Checkpointed
+pub mod PartsHeld
+pub mod NothingLeft
+pub mod LogLimits

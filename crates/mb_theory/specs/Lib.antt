@@ -1,3 +1,16 @@
 pub mod World
 pub mod Hashed
 pub mod Promises
+pub mod Inside
+pub mod WorldEvents
+pub mod WholeWorld
+pub mod FaultyHosts
+pub mod WorldSteps
+pub mod WorldRecord
+pub mod Forged
+pub mod Stops
+pub mod Justification
+pub mod NothingLeft
+pub mod Safety
+pub mod Bounds
+pub mod Headline

@@ -9,10 +9,10 @@ pub returns-clause-found : goal.returns-clause-found
 returns-clause-found c =
     let s = c.args.shape.now in
     let h : IsShape s = search rules in
-    is_spelled _ _ _ (optional_field _ _ _ (floor_cert_field s h)) c.read.result c.args.fields.now c.read.new.fields (IsBytes-drop c.args.fields.now.place c.args.fields.now.bytes.now c.args.fields.now.in_range) c.read.ensures
+    is_spelled _ _ _ (optional_field _ _ _ (floor_cert_field s h)) c.read_or_stay.result c.args.fields.now c.read_or_stay.new.fields (IsBytes-drop c.args.fields.now.place c.args.fields.now.bytes.now c.args.fields.now.in_range) c.read_or_stay.ensures.exact
 
 pub returns-clause-only : goal.returns-clause-only
 returns-clause-only c =
     let s = c.args.shape.now in
     let h : IsShape s = search rules in
-    reads_again _ _ _ (optional_field _ _ _ (floor_cert_field s h)) c.read.result c.args.fields.now c.read.new.fields c.read.ensures
+    reads_again _ _ _ (optional_field _ _ _ (floor_cert_field s h)) c.read_or_stay.result c.args.fields.now c.read_or_stay.new.fields c.read_or_stay.ensures.exact

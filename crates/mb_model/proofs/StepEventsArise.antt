@@ -1,0 +1,60 @@
+-- After any events of a host its history arose.
+use Rattle.std.proofs.Common.{◌≡◌, ℕ, Bool, true, false, ◌&&◌, ◌||◌, List, [], ◌∷◌, refl, sym, subst, inl, inr, Result, Ok, Err}
+use Rattle.std.specs.Prelude.{◌==◌, nat_lt}
+use Rattle.std.proofs.lemmas.Bool.{cases_Bool}
+use Rattle.mb_msg.specs.declared.message.Message.{Message}
+use Rattle.mb_msg.specs.Reading.{message_of}
+use Rattle.mb_model.specs.Outcomes.{Event, Outcome}
+use Rattle.mb_model.specs.Outcomes as outcome
+use Rattle.mb_model.specs.Histories.{Nudged, History, Identity, view_of}
+use Rattle.mb_model.specs.Held.{view_limit, wish_of}
+use Rattle.mb_model.specs.Sending.{Progress, begin}
+use Rattle.mb_model.specs.CarriedOut.{run_rules, enough}
+use Rattle.mb_model.specs.Given.{Answer, give}
+use Rattle.mb_model.specs.HostStep.{on_patience, on_nudge, on_bytes, is_behind, low_rose, with_fetch, finished_where, transition, after}
+use Rattle.mb_model.proofs.StepArises.{Arises, Arisen}
+use Rattle.mb_model.proofs.StepGivenArise.{give_arises}
+use Rattle.mb_model.proofs.StepRulesArise.{run_arises}
+
+module _ {S : Type 0} (self : Identity S) where
+  -- ---- whole events
+
+  fetch_same : (asks : Bool) (before : History) (x : Progress) → (with_fetch self asks before x).history ≡ x.history
+  fetch_same asks before x = elim (cases_Bool (is_behind self x.history && (asks || low_rose self before x.history))) [
+    | inl does ↦ rw does refl
+    | inr not_so ↦ rw not_so refl
+  ]
+
+  finish_arises : (runs asks : Bool) (before : History) (o : Answer) → Arisen self o.left → Arisen self (finished_where self runs asks before o).left
+  finish_arises true asks before o a = subst (λ (d : History). Arises self d) (sym (fetch_same asks before (run_rules self enough o.left))) (run_arises self enough o.left a)
+  finish_arises false asks before o a = a
+
+  patience_arises : (x : Progress) → Arisen self x → Arisen self (on_patience self x).left
+  unfolding on_patience
+  patience_arises x a = elim (cases_Bool (view_of self x.history == view_limit)) [
+    | inl last ↦ rw last a
+    | inr more ↦ rw more (tt, a)
+  ]
+
+  nudge_arises : (x : Progress) → Arisen self x → Arisen self (on_nudge self x).left
+  unfolding on_nudge
+  nudge_arises x a = elim (cases_Bool (nat_lt (view_of self (Nudged ∷ x.history)) (wish_of self (Nudged ∷ x.history) self.host))) [
+    | inl wishes ↦ rw wishes (tt, a)
+    | inr none ↦ rw none (tt, a)
+  ]
+
+  bytes_arise : (d : History) (r : Result Message ℕ) → Arises self d → Arises self (on_bytes self r d).left.history
+  bytes_arise d (Ok m) a = finish_arises _ _ d (give self m (begin d)) (give_arises self m (begin d) a)
+  bytes_arise d (Err at) a = a
+
+  transition_arises : (d : History) (e : Event) → Arises self d → Arises self (transition self d e).left.history
+  unfolding transition
+  transition_arises d (outcome.Given bytes) a = bytes_arise d (message_of self.shape bytes) a
+  transition_arises d outcome.Patience a = finish_arises _ false d (on_patience self (begin d)) (patience_arises (begin d) a)
+  transition_arises d outcome.Nudge a = finish_arises true true d (on_nudge self (begin d)) (nudge_arises (begin d) a)
+
+  -- After any events the history arose so.
+  pub after_arises : (events : List Event) → Arises self (after self events)
+  unfolding after
+  after_arises [] = tt
+  after_arises (e ∷ es) = transition_arises (after self es) e (after_arises es)

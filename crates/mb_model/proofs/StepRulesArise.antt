@@ -1,0 +1,168 @@
+-- What the rules leave arises: each stamped message is the one that an enabled rule makes, and each execution is at the next position.
+use Rattle.std.proofs.Common.{◌≡◌, ℕ, zero, suc, ◌+◌, ◌&&◌, ◌||◌, ◌∷◌, refl, sym, ap, subst, ◌∙◌, inl, inr, Option, Some, None}
+use Rattle.std.specs.Prelude.{◌==◌, ◌%◌, ◌^◌, nat_lt, nat_le, not, option_map}
+use Rattle.std.specs.List.{range_with_len}
+use Rattle.std.proofs.lemmas.Bool.{cases_Bool}
+use Rattle.mb_base.specs.Shapes.{interval, client_count}
+use Rattle.mb_parts.specs.declared.request.Request.{Request}
+use Rattle.mb_parts.specs.declared.certificates.Evidence.{Evidence}
+use Rattle.mb_msg.specs.declared.event.Slot.{Slot}
+use Rattle.mb_msg.specs.declared.change.Plan.{Plan}
+use Rattle.mb_model.specs.declared.known.KnownSlot.{KnownSlot}
+use Rattle.mb_model.specs.Histories.{Executed, History, Identity, view_of, is_open, is_changing, is_primary}
+use Rattle.mb_model.specs.Held.{chosen, new_view_of, new_view_in_view, evidence_for, plan_at}
+use Rattle.mb_model.specs.Stable.{low_of}
+use Rattle.mb_model.specs.OwnLog.{has_room, has_other_room}
+use Rattle.mb_model.specs.Positions.{exec_of, slot_at, in_window}
+use Rattle.mb_model.specs.Sending.{Progress}
+use Rattle.mb_model.specs.EnabledRules.{Rule, ChangeView, Announce, Enter, Open, Join, Commit, Execute, Prepare, next_rule, target, change_enabled, announce_enabled, enter_enabled, open_enabled, join_enabled, commit_enabled, execute_enabled, prepare_enabled, next_position, with_request, unordered, open_with, may_open, is_evidence_of, has_evidence, lags_behind, is_past_plan, if_committed, is_committed}
+use Rattle.mb_model.specs.CarriedOut.{slot_for, with_slot, with_reply, at_interval, execute, carry_out, run_rules}
+use Rattle.mb_model.proofs.Options.{option_cases, or_some, if_some, map_some}
+use Rattle.mb_model.proofs.StepArises.{JustExecuted, Arises, Arisen}
+
+some_is : {A : Type 0} (x y : A) → Some x ≡ Some y → x ≡ y
+some_is x y e = cc
+
+module _ {S : Type 0} (self : Identity S) where
+  -- ---- the rules
+
+  abbrev Carries : Progress → Rule → Type 0
+  Carries x rule = Arises self (carry_out self rule x).history
+
+  carries_change : (x : Progress) (rule : Rule) → change_enabled self x.history ≡ Some rule → Arisen self x → Carries x rule
+  unfolding change_enabled carry_out
+  carries_change x rule e a =
+      let d : History = x.history in
+      let t = if_some (nat_lt (view_of self d) (target self d) && has_other_room self d) (Some (ChangeView (target self d))) rule e in
+      let same : ChangeView (target self d) ≡ rule = some_is (ChangeView (target self d)) rule t.1 in
+      subst (λ (r : Rule). Carries x r) same ((target self d, e ∙ ap (λ (r : Rule). Some r) (sym same), refl), a)
+
+  carries_announce : (x : Progress) (rule : Rule) → announce_enabled self x.history ≡ Some rule → Arisen self x → Carries x rule
+  unfolding announce_enabled carry_out
+  carries_announce x rule e a =
+      let d : History = x.history in
+      let t = if_some (is_primary self d && (is_changing self d && has_other_room self d)) (option_map Announce (chosen self d (view_of self d))) rule e in
+      let m = map_some Announce (chosen self d (view_of self d)) rule t.1 in
+      subst (λ (r : Rule). Carries x r) m.2 ((m.0, e ∙ ap (λ (r : Rule). Some r) (sym m.2), refl), a)
+
+  carries_enter : (x : Progress) (rule : Rule) → enter_enabled self x.history ≡ Some rule → Arisen self x → Carries x rule
+  unfolding enter_enabled carry_out
+  carries_enter x rule e a =
+      let d : History = x.history in
+      let t = if_some (not (is_primary self d) && (is_changing self d && has_other_room self d)) (option_map Enter (new_view_in_view (view_of self d) (new_view_of self d))) rule e in
+      let m = map_some Enter (new_view_in_view (view_of self d) (new_view_of self d)) rule t.1 in
+      subst (λ (r : Rule). Carries x r) m.2 ((m.0, e ∙ ap (λ (r : Rule). Some r) (sym m.2), refl), a)
+
+  open_shape : (e : Option Evidence) (plan : Option Plan) (rule : Rule) → open_with e plan ≡ Some rule → (f : Evidence) × (p : Plan) × (Open f p ≡ rule)
+  open_shape (Some f) (Some p) rule o = let t = if_some (is_evidence_of f p) (Some (Open f p)) rule o in (f, p, some_is (Open f p) rule t.1)
+  open_shape (Some f) None rule o = absurd cc
+  open_shape None plan rule o = absurd cc
+
+  carries_open : (x : Progress) (rule : Rule) → open_enabled self x.history ≡ Some rule → Arisen self x → Carries x rule
+  unfolding open_enabled carry_out
+  carries_open x rule e a =
+      let d : History = x.history in
+      let t = if_some (may_open self d && has_other_room self d) (open_with (evidence_for self d (view_of self d)) (plan_at self d (view_of self d))) rule e in
+      let m = open_shape (evidence_for self d (view_of self d)) (plan_at self d (view_of self d)) rule t.1 in
+      subst (λ (r : Rule). Carries x r) m.2 ((m.0, m.1, e ∙ ap (λ (r : Rule). Some r) (sym m.2), refl), a)
+
+  carries_join : (x : Progress) (rule : Rule) → join_enabled self x.history ≡ Some rule → Arisen self x → Carries x rule
+  unfolding join_enabled carry_out
+  carries_join x rule e a =
+      let d : History = x.history in
+      let t = if_some ((lags_behind self d || is_past_plan self d) && (has_evidence self d && (nat_le (low_of self d) (exec_of d) && has_other_room self d))) (Some Join) rule e in
+      let same : Join ≡ rule = some_is Join rule t.1 in
+      subst (λ (r : Rule). Carries x r) same ((e ∙ ap (λ (r : Rule). Some r) (sym same), refl), a)
+
+  commit_shape : (q : ℕ) (k : Option KnownSlot) (rule : Rule) → with_request (Commit q) k ≡ Some rule → (j : KnownSlot) × (r : Request) × (Commit q j r ≡ rule)
+  commit_shape q None rule e = absurd cc
+  commit_shape q (Some j) rule e = let m = map_some (Commit q j) j.request rule e in (j, m.0, m.2)
+
+  carries_commit : (x : Progress) (rule : Rule) → commit_enabled self x.history ≡ Some rule → Arisen self x → Carries x rule
+  unfolding commit_enabled carry_out
+  carries_commit x rule e a =
+      let d : History = x.history in
+      let t = if_some (is_open self d && (not (is_primary self d) && has_room self d)) (with_request (Commit (next_position self d)) (slot_at self d (next_position self d))) rule e in
+      let m = commit_shape (next_position self d) (slot_at self d (next_position self d)) rule t.1 in
+      subst (λ (r : Rule). Carries x r) m.2 ((next_position self d, m.0, m.1, e ∙ ap (λ (r : Rule). Some r) (sym m.2), refl), a)
+
+  carries_prepare : (x : Progress) (rule : Rule) → prepare_enabled self x.history ≡ Some rule → Arisen self x → Carries x rule
+  unfolding prepare_enabled carry_out
+  carries_prepare x rule e a =
+      let d : History = x.history in
+      let t = if_some (is_open self d && (is_primary self d && (in_window self d (next_position self d) && (nat_lt (next_position self d) (2 ^ 63) && has_room self d))))
+      (option_map (Prepare (next_position self d)) (unordered self d (range_with_len 0 (client_count self.shape)))) rule e in
+      let m = map_some (Prepare (next_position self d)) (unordered self d (range_with_len 0 (client_count self.shape))) rule t.1 in
+      subst (λ (r : Rule). Carries x r) m.2 ((next_position self d, m.0, e ∙ ap (λ (r : Rule). Some r) (sym m.2), refl), a)
+
+  -- ---- executing: a CHECKPOINT follows at once, or never
+
+  interval_arises : (p : ℕ) (x : Progress) → JustExecuted self x.history p → Arisen self x → Arisen self (at_interval self p x)
+  interval_arises p x just a = elim (cases_Bool (p % interval self.shape == 0)) [
+    | inr between ↦ rw between a
+    | inl whole ↦ rw whole (elim (cases_Bool (has_room self x.history)) [
+      | inl room ↦ rw room ((p, just, whole, refl), a)
+      | inr full ↦ rw full a
+    ])
+  ]
+
+  reply_same : (slot : Slot) (x : Progress) → (with_reply self slot x).history ≡ x.history
+  reply_same slot x = elim (cases_Bool slot.fresh) [
+    | inl fresh ↦ rw fresh refl
+    | inr again ↦ rw again refl
+  ]
+
+  execute_arises : (p : ℕ) (r : Request) (x : Progress) → p ≡ exec_of x.history + 1 → Arisen self x → Arisen self (execute self p r x)
+  unfolding execute
+  execute_arises p r x next a =
+      let slot : Slot = slot_for self x.history p r in
+      let y : Progress = with_slot self slot x in
+      let same : (with_reply self slot y).history ≡ Executed slot ∷ x.history = reply_same slot y in
+      interval_arises p (with_reply self slot y) (subst (λ (d : History). JustExecuted self d p) (sym same) refl) (subst (λ (d : History). Arises self d) (sym same) (next, a))
+
+  execute_shape : (d : History) (q : ℕ) (k : Option KnownSlot) (rule : Rule) → if_committed self d q k ≡ Some rule → (r : Request) × (Execute q r ≡ rule)
+  execute_shape d q None rule e = absurd cc
+  execute_shape d q (Some k) rule e =
+      let t = if_some (is_committed self d q k) (option_map (Execute q) k.request) rule e in
+      let m = map_some (Execute q) k.request rule t.1 in (m.0, m.2)
+
+  carries_execute : (x : Progress) (rule : Rule) → execute_enabled self x.history ≡ Some rule → Arisen self x → Carries x rule
+  unfolding execute_enabled carry_out
+  carries_execute x rule e a =
+      let d : History = x.history in
+      let t = if_some (is_open self d && nat_le (low_of self d) (exec_of d)) (if_committed self d (exec_of d + 1) (slot_at self d (exec_of d + 1))) rule e in
+      let m = execute_shape d (exec_of d + 1) (slot_at self d (exec_of d + 1)) rule t.1 in
+      subst (λ (r : Rule). Carries x r) m.1 (execute_arises (exec_of d + 1) m.0 x refl a)
+
+  carries : (x : Progress) (rule : Rule) → next_rule self x.history ≡ Some rule → Arisen self x → Carries x rule
+  unfolding next_rule
+  carries x rule e a = elim (or_some _ _ rule e) [
+    | inl first ↦ carries_change x rule first a
+    | inr e ↦ elim (or_some _ _ rule e) [
+      | inl first ↦ carries_announce x rule first a
+      | inr e ↦ elim (or_some _ _ rule e) [
+        | inl first ↦ carries_enter x rule first a
+        | inr e ↦ elim (or_some _ _ rule e) [
+          | inl first ↦ carries_open x rule first a
+          | inr e ↦ elim (or_some _ _ rule e) [
+            | inl first ↦ carries_join x rule first a
+            | inr e ↦ elim (or_some _ _ rule e) [
+              | inl first ↦ carries_commit x rule first a
+              | inr e ↦ elim (or_some _ _ rule e) [
+                | inl first ↦ carries_execute x rule first a
+                | inr e ↦ carries_prepare x rule e a
+              ]
+            ]
+          ]
+        ]
+      ]
+    ]
+  ]
+
+  pub run_arises : (n : ℕ) (x : Progress) → Arisen self x → Arisen self (run_rules self n x)
+  unfolding run_rules
+  run_arises zero x a = a
+  run_arises (suc n) x a = elim (option_cases (next_rule self x.history)) [
+    | inl none ↦ rw none a
+    | inr (rule, some) ↦ rw some (run_arises n (carry_out self rule x) (carries x rule some a))
+  ]

@@ -1,0 +1,154 @@
+-- What follows in the same step: eight rules, of which the first that is enabled is next. Each asks for room in the own log for what it
+-- stamps; a rule without room is not enabled, and later ones may be.
+use Rattle.std.specs.Prelude.{◌≡◌, ℕ, ◌+◌, ◌^◌, Bool, ◌&&◌, ◌||◌, not, List, [], ◌∷◌, max, nat_lt, nat_le, ◌==◌, Option, Some, None, if◌then◌else◌, option_map, option_and_then}
+use Rattle.std.specs.List.{range_with_len}
+use Rattle.std.specs.Option.{option_or}
+use Rattle.mb_base.specs.Shapes.{span, quorum, host_count, client_count}
+use Rattle.mb_usig.specs.Tags.{same_bytes}
+use Rattle.mb_parts.specs.declared.request.Request.{Request}
+use Rattle.mb_parts.specs.declared.certificates.Evidence.{Evidence}
+use Rattle.mb_parts.specs.Ordered.{end_of}
+use Rattle.mb_msg.specs.declared.change.ViewChange.{ViewChange}
+use Rattle.mb_msg.specs.declared.change.NewView.{NewView}
+use Rattle.mb_msg.specs.declared.change.Plan.{Plan}
+use Rattle.mb_msg.specs.Plans.{plan_end, plan_digest}
+use Rattle.mb_model.specs.declared.known.KnownSlot.{KnownSlot}
+use Rattle.mb_model.specs.Histories.{History, Identity, here, view_of, is_open, is_entered, is_changing, is_primary}
+use Rattle.mb_model.specs.Held.{quorum_wish, chosen, new_view_of, new_view_in_view, evidence_view, evidence_of, evidence_for, plan_at}
+use Rattle.mb_model.specs.Stable.{low_of}
+use Rattle.mb_model.specs.OwnLog.{has_room, has_other_room}
+use Rattle.mb_model.specs.Positions.{slot_vote, exec_of, slot_at, in_window, matching}
+use Rattle.mb_model.specs.Execution.{pending, if_above}
+
+-- what is to be done, with what it is done
+pub data Rule : Type 0 where
+  ChangeView : ℕ → Rule  -- stamp VIEW_CHANGE to a view
+  Announce : List ViewChange → Rule  -- stamp NEW_VIEW of these
+  Enter : NewView → Rule  -- stamp the ENTER that answers it
+  Open : Evidence → Plan → Rule  -- stamp OPEN with them
+  Join : Rule  -- stamp JOIN at the stable position
+  Commit : ℕ → KnownSlot → Request → Rule  -- stamp COMMIT of the slot of a position
+  Execute : ℕ → Request → Rule  -- execute a request at a position
+  Prepare : ℕ → Request → Rule  -- stamp PREPARE of a request at a position
+
+abbrev pub rule_where : Bool → Option Rule → Option Rule
+rule_where test r = if test then r else None
+
+-- the view of a NEW_VIEW, 0 where there is none
+abbrev pub new_view_number : Option NewView → ℕ
+new_view_number None = 0
+new_view_number (Some n) = n.view
+
+-- Evidence is of a plan: it names its base, end and digest.
+abbrev pub is_evidence_of : Evidence → Plan → Bool
+is_evidence_of e plan = e.base == plan.base.pos && (e.end == plan_end plan && same_bytes e.plan (plan_digest plan))
+
+abbrev pub open_with : Option Evidence → Option Plan → Option Rule
+open_with (Some e) (Some plan) = rule_where (is_evidence_of e plan) (Some (Open e plan))
+open_with e plan = None
+
+abbrev pub with_request : (KnownSlot → Request → Rule) → Option KnownSlot → Option Rule
+with_request f None = None
+with_request f (Some k) = option_map (f k) k.request
+
+-- the number of a client's request, 0 where it is none
+abbrev pub number_of : ℕ → Option Request → ℕ
+number_of c None = 0
+number_of c (Some r) = if r.client == c then r.seq else 0
+
+module _ {S : Type 0} (self : Identity S) where
+  -- ---- a greater view is asked for by f+1 hosts, announced, or open for f+1 hosts
+
+  -- the greatest of them
+  abbrev pub target : History → ℕ
+  target d = max (quorum_wish self d (host_count self.shape)) (max (new_view_number (new_view_of self d)) (evidence_view (evidence_of self d)))
+
+  unfoldable pub change_enabled : History → Option Rule
+  change_enabled d = rule_where (nat_lt (view_of self d) (target d) && has_other_room self d) (Some (ChangeView (target d)))
+
+  -- ---- the primary that left the view before has f+1 VIEW_CHANGEs
+
+  unfoldable pub announce_enabled : History → Option Rule
+  announce_enabled d = rule_where (is_primary self d && (is_changing self d && has_other_room self d)) (option_map Announce (chosen self d (view_of self d)))
+
+  -- ---- a backup that left the view before has the NEW_VIEW
+
+  unfoldable pub enter_enabled : History → Option Rule
+  enter_enabled d = rule_where (not (is_primary self d) && (is_changing self d && has_other_room self d)) (option_map Enter (new_view_in_view (view_of self d) (new_view_of self d)))
+
+  -- ---- a host whose view is not open has its plan, and evidence of this plan; the primary only behind its NEW_VIEW
+
+  abbrev pub may_open : History → Bool
+  may_open d = nat_lt 0 (view_of self d) && (not (is_open self d) && (not (is_primary self d) || is_entered self d))
+
+  unfoldable pub open_enabled : History → Option Rule
+  open_enabled d = rule_where (may_open d && has_other_room self d) (open_with (evidence_for self d (view_of self d)) (plan_at self d (view_of self d)))
+
+  -- ---- what is stable and executed reaches beyond what was ordered in the view
+
+  -- Evidence of the view is held. View 0 needs none.
+  abbrev pub has_evidence : History → Bool
+  has_evidence d = view_of self d == 0 || evidence_view (evidence_of self d) == view_of self d
+
+  -- The view is open, and its last position fell behind the stable one.
+  abbrev pub lags_behind : History → Bool
+  lags_behind d = is_open self d && nat_lt (here self d).last (low_of self d)
+
+  -- The view is not open, and all of its plan is at or below the stable position; the primary only behind its NEW_VIEW.
+  abbrev pub is_past_plan : History → Bool
+  is_past_plan d = nat_lt 0 (view_of self d) && (not (is_open self d) && (not (is_primary self d && is_changing self d)
+      && (nat_lt 0 (low_of self d) && nat_le (end_of (evidence_of self d)) (low_of self d))))
+
+  unfoldable pub join_enabled : History → Option Rule
+  join_enabled d = rule_where ((lags_behind d || is_past_plan d) && (has_evidence d && (nat_le (low_of self d) (exec_of d) && has_other_room self d))) (Some Join)
+
+  -- ---- a backup has the slot of the next position, with its request
+
+  -- the position behind the last one
+  abbrev pub next_position : History → ℕ
+  next_position d = (here self d).last + 1
+
+  unfoldable pub commit_enabled : History → Option Rule
+  commit_enabled d = rule_where (is_open self d && (not (is_primary self d) && has_room self d)) (with_request (Commit (next_position d)) (slot_at self d (next_position d)))
+
+  -- ---- f+1 votes are for the slot behind the last executed one; this needs no room
+
+  abbrev pub is_committed : History → ℕ → KnownSlot → Bool
+  is_committed d pos k = nat_le (quorum self.shape) (matching self d (view_of self d) pos (slot_vote k))
+
+  abbrev pub if_committed : History → ℕ → Option KnownSlot → Option Rule
+  if_committed d pos None = None
+  if_committed d pos (Some k) = rule_where (is_committed d pos k) (option_map (Execute pos) k.request)
+
+  unfoldable pub execute_enabled : History → Option Rule
+  execute_enabled d = rule_where (is_open self d && nat_le (low_of self d) (exec_of d)) (if_committed d (exec_of d + 1) (slot_at self d (exec_of d + 1)))
+
+  -- ---- the primary has a request to order
+
+  -- the greatest number of a client among the slots of these positions
+  unfoldable pub greatest_in_slots : History → ℕ → List ℕ → ℕ
+  greatest_in_slots d c [] = 0
+  greatest_in_slots d c (p ∷ ps) = max (number_of c (option_and_then (λ k. k.request) (slot_at self d p))) (greatest_in_slots d c ps)
+
+  -- the positions of the window
+  abbrev pub window : History → List ℕ
+  window d = range_with_len (low_of self d + 1) (span self.shape)
+
+  -- the request of the first of these clients that has a pending one which isn't ordered in this view
+  unfoldable pub unordered : History → List ℕ → Option Request
+  unordered d [] = None
+  unordered d (c ∷ cs) = option_or (if_above (greatest_in_slots d c (window d)) (pending self d c)) (unordered d cs)
+
+  unfoldable pub prepare_enabled : History → Option Rule
+  prepare_enabled d = rule_where (is_open self d && (is_primary self d && (in_window self d (next_position d) && (nat_lt (next_position d) (2 ^ 63) && has_room self d))))
+      (option_map (Prepare (next_position d)) (unordered d (range_with_len 0 (client_count self.shape))))
+
+  -- ---- the first that is enabled
+
+  unfoldable pub next_rule : History → Option Rule
+  next_rule d = option_or (change_enabled d) (option_or (announce_enabled d) (option_or (enter_enabled d) (option_or (open_enabled d)
+      (option_or (join_enabled d) (option_or (commit_enabled d) (option_or (execute_enabled d) (prepare_enabled d)))))))
+
+  -- None is enabled: nothing is left undone.
+  abbrev pub IsQuiescent : History → Type 0
+  IsQuiescent d = next_rule d ≡ None

@@ -1,0 +1,121 @@
+-- What a host knows of the positions of its view: the last executed one, the window above the stable one, slots and votes.
+use Rattle.std.specs.Prelude.{ℕ, ◌+◌, ◌-◌, Bool, true, false, ◌&&◌, List, [], ◌∷◌, nat_lt, nat_le, ◌==◌, Option, Some, None, if◌then◌else◌, option_map, option_and_then, slice_get}
+use Rattle.std.specs.Option.{option_or}
+use Rattle.mb_base.specs.Shapes.{span, host_count, tally}
+use Rattle.mb_usig.specs.Tags.{same_bytes}
+use Rattle.mb_parts.specs.declared.request.Request.{Request}
+use Rattle.mb_parts.specs.declared.certificates.Evidence.{Evidence}
+use Rattle.mb_parts.specs.Spelling.{request_bytes}
+use Rattle.mb_parts.specs.Bares.{request_digest}
+use Rattle.mb_msg.specs.declared.message.Body.{Body}
+use Rattle.mb_msg.specs.declared.message.Message.TheVariants as message
+use Rattle.mb_msg.specs.declared.normal.Prepare.{Prepare}
+use Rattle.mb_msg.specs.declared.change.Open.{Open}
+use Rattle.mb_msg.specs.declared.change.Plan.{Plan}
+use Rattle.mb_msg.specs.declared.stamped.Stamped.TheVariants as stamped
+use Rattle.mb_msg.specs.Bodies.{body_digest}
+use Rattle.mb_msg.specs.Plans.{plan_digest}
+use Rattle.mb_model.specs.declared.known.Vote.{Vote}
+use Rattle.mb_model.specs.declared.known.KnownSlot.{KnownSlot}
+use Rattle.mb_model.specs.Votes.{is_vote}
+use Rattle.mb_model.specs.Histories.{Entry, Accepted, Stamped, Executed, Installed, History, Identity, view_of}
+use Rattle.mb_model.specs.Held.{whole_body, opened_by, plan_at}
+use Rattle.mb_model.specs.Stable.{low_of}
+
+-- ---- the last executed position; that of a state that was installed
+
+unfoldable pub exec_of : History → ℕ
+exec_of [] = 0
+exec_of (Executed slot ∷ d) = slot.pos
+exec_of (Installed pos parts ∷ d) = pos
+exec_of (_ ∷ d) = exec_of d
+
+-- ---- what one entry says of a position of a view
+
+-- the vote that agrees with a slot
+abbrev pub slot_vote : KnownSlot → Vote
+slot_vote k = record { counter = k.counter; request = k.digest }
+
+-- the request at a position of a list that begins behind a base
+abbrev pub request_from : ℕ → ℕ → List Request → Option Request
+request_from base p requests = if nat_lt base p then slice_get requests (p - base - 1) else None
+
+abbrev pub slot_of_prepare : Prepare → ℕ → ℕ → Option KnownSlot
+slot_of_prepare m v p = if m.view == v && m.pos == p then Some (record {
+  counter = m.ui.counter;
+  cert = m.ui.cert;
+  digest = body_digest request_bytes m.body;
+  request = whole_body m.body;
+}) else None
+
+-- a request that an OPEN carries on, as the NEW_VIEW of its evidence ordered it
+abbrev pub slot_of_plan : Evidence → Request → KnownSlot
+slot_of_plan e r = record { counter = e.counter; cert = e.cert; digest = request_digest r; request = Some r }
+
+abbrev pub slot_of_open : Open → ℕ → ℕ → Option KnownSlot
+slot_of_open m v p = if m.evidence.view == v then option_map (slot_of_plan m.evidence) (option_and_then (λ b. request_from m.evidence.base p b.requests) (whole_body m.body)) else None
+
+-- A PREPARE is the slot of its position, and the own OPEN makes slots of the positions of its plan.
+abbrev pub slot_by : Entry → ℕ → ℕ → Option KnownSlot
+slot_by (Accepted (message.Prepare m)) v p = slot_of_prepare m v p
+slot_by (Stamped (stamped.Prepare m)) v p = slot_of_prepare m v p
+slot_by (Stamped (stamped.Open m)) v p = slot_of_open m v p
+slot_by _ v p = None
+
+-- the vote of a message of one host, as a vote of the host that is asked for
+abbrev pub vote_with : ℕ → ℕ → ℕ → ℕ → ℕ → ℕ → Body Request → ℕ → Option Vote
+vote_with voter h v p view pos body counter = if view == v && (pos == p && voter == h) then Some (record { counter = counter; request = body_digest request_bytes body }) else None
+
+-- A PREPARE is its sender's vote at its own counter, a COMMIT at the counter of its PREPARE. What this host stamps is its own vote, its
+-- OPEN at the counter of the NEW_VIEW.
+abbrev pub vote_by : ℕ → Entry → ℕ → ℕ → ℕ → Option Vote
+vote_by own (Accepted (message.Prepare m)) h v p = vote_with m.ui.host h v p m.view m.pos m.body m.ui.counter
+vote_by own (Accepted (message.Commit m)) h v p = vote_with m.ui.host h v p m.view m.pos m.body m.counter
+vote_by own (Stamped (stamped.Prepare m)) h v p = vote_with own h v p m.view m.pos m.body m.ui.counter
+vote_by own (Stamped (stamped.Commit m)) h v p = vote_with own h v p m.view m.pos m.body m.counter
+vote_by own (Stamped (stamped.Open m)) h v p = if own == h then option_map slot_vote (slot_of_open m v p) else None
+vote_by own _ h v p = None
+
+-- an entry behind which the votes of OPENs are counted: an OPEN was accepted, a plan came to be held, or this host came to another view
+abbrev pub counts_opens : Entry → Bool
+counts_opens (Accepted (message.Open m)) = true
+counts_opens (Accepted (message.NewView m)) = true
+counts_opens (Stamped (stamped.NewView m)) = true
+counts_opens (Stamped (stamped.ViewChange m)) = true
+counts_opens _ = false
+
+module _ {S : Type 0} (self : Identity S) where
+  -- a position of the window above the stable one
+  abbrev pub in_window : History → ℕ → Bool
+  in_window d p = nat_lt (low_of self d) p && nat_le p (low_of self d + span self.shape)
+
+  -- what is found for a position, where it is one of the window
+  abbrev pub if_in_window : {A : Type 0} → History → ℕ → Option A → Option A
+  if_in_window d p x = if in_window d p then x else None
+
+  -- the vote of a host's last OPEN, where it is of this host's view, and the plan that has its digest is held
+  abbrev pub open_vote : History → Option Evidence → Option Plan → ℕ → ℕ → Option Vote
+  open_vote d (Some e) (Some plan) v p = if view_of self d == v && (e.view == v && same_bytes (plan_digest plan) e.plan)
+      then option_map (λ r. record { counter = e.counter; request = request_digest r }) (request_from plan.base.pos p plan.requests) else None
+  open_vote d e plan v p = None
+
+  abbrev pub open_vote_by : History → Entry → ℕ → ℕ → ℕ → Option Vote
+  open_vote_by d e h v p = if counts_opens e then open_vote d (opened_by d h) (plan_at self d v) v p else None
+
+  -- ---- slots and votes: the first that came counts, where it stood in the window of its moment
+
+  unfoldable pub slot_in : History → ℕ → ℕ → Option KnownSlot
+  slot_in [] v p = None
+  slot_in (e ∷ d) v p = option_or (slot_in d v p) (if_in_window (e ∷ d) p (slot_by e v p))
+
+  unfoldable pub vote_of : History → ℕ → ℕ → ℕ → Option Vote
+  vote_of [] h v p = None
+  vote_of (e ∷ d) h v p = option_or (vote_of d h v p) (if_in_window (e ∷ d) p (option_or (vote_by self.host e h v p) (open_vote_by (e ∷ d) e h v p)))
+
+  -- how many hosts have this vote
+  abbrev pub matching : History → ℕ → ℕ → Vote → ℕ
+  matching d v p x = tally (λ h. is_vote (vote_of d h v p) x) (host_count self.shape)
+
+  -- the slot of a position of the window in this host's view
+  abbrev pub slot_at : History → ℕ → Option KnownSlot
+  slot_at d p = if_in_window d p (slot_in d (view_of self d) p)

@@ -1,0 +1,120 @@
+-- What faulty hosts and clients make: tags for any reply, wish or request of their own, and stamps for any content.
+use Rattle.std.specs.Prelude.{ℕ, ◌+◌, ◌-◌, Bool, ◌&&◌, List, ◌∷◌, ◌++◌, length, map, take, reverse, filter_map, replicate, nat_le, Option, Some, None, option_map, option_and_then}
+use Rattle.mb_base.specs.Shapes.{Bytes}
+use Rattle.mb_base.specs.declared.names.Ui.{Ui}
+use Rattle.mb_usig.specs.Tags.{certificate, reply_tag}
+use Rattle.mb_parts.specs.declared.request.Request.{Request}
+use Rattle.mb_parts.specs.Spelling.{ui_bytes}
+use Rattle.mb_parts.specs.Bares.{bare_bytes}
+use Rattle.mb_msg.specs.declared.message.Body.{Body}
+use Rattle.mb_msg.specs.declared.message.Body.TheVariants.{Whole, Bare as Short}
+use Rattle.mb_msg.specs.declared.message.Message.{Message}
+use Rattle.mb_msg.specs.declared.message.Message.TheVariants as message
+use Rattle.mb_msg.specs.declared.normal.Prepare.{Prepare}
+use Rattle.mb_msg.specs.declared.change.ChangeBody.{ChangeBody}
+use Rattle.mb_msg.specs.declared.stamped.Stamped.{Stamped as StampedMessage}
+use Rattle.mb_msg.specs.declared.stamped.Stamped.TheVariants as stamped
+use Rattle.mb_msg.specs.Spelling.{spelling}
+use Rattle.mb_msg.specs.Stamps.{bare_of, with_ui, as_stamped, as_message}
+use Rattle.mb_model.specs.OtherTags.{wish_tag}
+use Rattle.mb_model.specs.UsableLogs.{normal_limit, other_limit}
+use Rattle.mb_model.specs.Plans.{no_base}
+use Rattle.mb_model.specs.OwnLog.{kept_forms, as_shown}
+use Rattle.mb_model.specs.Sending.{no_ui}
+use Rattle.mb_theory.specs.World.{update}
+use Rattle.mb_theory.specs.WorldEvents.{Schedule}
+use Rattle.mb_theory.specs.WholeWorld.{World, read, message_at, made}
+
+-- ---- what an event has a faulty host stamp, before it has an identifier
+
+-- the request of a REQUEST
+abbrev pub request_in : Message → Option Request
+request_in (message.Request r) = Some r
+request_in m = None
+
+-- the whole PREPARE of a request at a position of a view
+abbrev pub prepare_with : ℕ → ℕ → Message → Option StampedMessage
+prepare_with view pos m = option_map (λ r. stamped.Prepare (record { view = view; pos = pos; body = Whole r; ui = no_ui })) (request_in m)
+
+-- the COMMIT of a PREPARE, where its request is there
+abbrev pub commit_with : Prepare → Body Request → Option StampedMessage
+commit_with m (Whole r) = Some (stamped.Commit (record { view = m.view; pos = m.pos; counter = m.ui.counter; cert = m.ui.cert; body = Whole r; ui = no_ui }))
+commit_with m (Short digest) = None
+
+-- the whole COMMIT of a whole PREPARE
+abbrev pub commit_for : Message → Option StampedMessage
+commit_for (message.Prepare m) = commit_with m m.body
+commit_for m = None
+
+-- a whole CHECKPOINT without floors, of so many hosts
+abbrev pub checkpoint_with : ℕ → ℕ → Bytes → StampedMessage
+checkpoint_with hosts pos digest = stamped.Checkpoint (record { pos = pos; state = digest; body = Whole (record { floors = replicate hosts None }); ui = no_ui })
+
+-- Where an event names a message of another kind, nothing is stamped.
+abbrev pub stamp_some : (StampedMessage → World → World) → Option StampedMessage → World → World
+stamp_some f None w = w
+stamp_some f (Some m) w = f m w
+
+module _ (s : Schedule) where
+  -- ---- tags
+
+  -- a reply with the host's right tag
+  abbrev pub reply_of_host : ℕ → ℕ → ℕ → ℕ → Bytes → Message
+  reply_of_host h c seq pos result = message.Reply (record { host = h; client = c; seq = seq; pos = pos; result = result; tag = reply_tag s.secret h c seq pos result })
+
+  -- a wish with the host's right tag
+  abbrev pub wish_of_host : ℕ → ℕ → Message
+  wish_of_host h view = message.ReqViewChange (record { host = h; view = view; tag = wish_tag s.secret h view })
+
+  -- ---- stamps
+
+  -- the identifier of a faulty host's next stamp
+  abbrev pub faulty_ui : World → ℕ → Bytes → Ui
+  faulty_ui w h bare = record { host = h; counter = length (w.faulty_stamps h) + 1; cert = certificate s.secret h (length (w.faulty_stamps h) + 1) bare }
+
+  -- These bytes are stamped, and this is the message.
+  abbrev pub stamp_as : ℕ → Bytes → Bytes → World → World
+  stamp_as h bare message w = made s message (record w { faulty_stamps = update w.faulty_stamps h (record { bare = bare; message = message } ∷ w.faulty_stamps h) })
+
+  -- what a content says, as bytes
+  abbrev pub bare_bytes_of : StampedMessage → Bytes
+  bare_bytes_of m = bare_bytes (bare_of m)
+
+  -- a content as a faulty host's next message
+  abbrev pub faulty_message : World → ℕ → StampedMessage → Bytes
+  faulty_message w h m = spelling (as_message (with_ui (faulty_ui w h (bare_bytes_of m)) m))
+
+  -- A content is stamped.
+  abbrev pub stamp_content : ℕ → StampedMessage → World → World
+  stamp_content h m w = stamp_as h (bare_bytes_of m) (faulty_message w h m) w
+
+  -- Any bytes can be stamped. The message is these bytes and the identifier.
+  abbrev pub stamp_bytes : ℕ → Bytes → World → World
+  stamp_bytes h bare w = stamp_as h bare (bare ++ ui_bytes (faulty_ui w h bare)) w
+
+  -- the content that an event names: of the message of a number
+  abbrev pub content : World → ℕ → (Message → Option StampedMessage) → Option StampedMessage
+  content w n f = option_and_then f (message_at s w n)
+
+  -- ---- a VIEW_CHANGE without floor and stable certificate
+
+  -- what a faulty host stamped after a counter, newest first, as far as it is messages of the grammar
+  abbrev pub stamped_after : World → ℕ → ℕ → List StampedMessage
+  stamped_after w h counter = filter_map (λ x. option_and_then as_stamped (read s x.message)) (take (length (w.faulty_stamps h) - counter) (w.faulty_stamps h))
+
+  -- shown in the forms of a shown log, except that a body that is not there is not shown
+  abbrev pub log_after : World → ℕ → ℕ → ChangeBody
+  log_after w h counter = record { floor = None; stable = no_base; entries = map as_shown (reverse (kept_forms (stamped_after w h counter))) }
+
+  -- the VIEW_CHANGE that shows it
+  abbrev pub change_after : World → ℕ → ℕ → ℕ → StampedMessage
+  change_after w h view counter = stamped.ViewChange (record { view = view; body = Whole (log_after w h counter); ui = no_ui })
+
+  -- the most bytes of a message
+  abbrev pub message_limit : ℕ
+  message_limit = 4194304
+
+  -- It has neither too many entries nor too many bytes.
+  abbrev pub is_sendable_change : World → ℕ → ℕ → ℕ → Bool
+  is_sendable_change w h view counter = nat_le (length (log_after w h counter).entries) (normal_limit s.shape + other_limit)
+      && nat_le (length (faulty_message w h (change_after w h view counter))) message_limit

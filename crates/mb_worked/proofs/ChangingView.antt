@@ -1,0 +1,89 @@
+-- VIEW_CHANGEs that are refused, computed on the definitions with real tags and digests. What is expected was worked out from the rules by hand.
+use Rattle.std.proofs.Common.{◌≡◌, ℕ, List, [], ◌∷◌, ◌++◌, refl, arith, Some, None}
+use Rattle.std.specs.Prelude.{codes}
+use Rattle.mb_base.specs.Shapes.{Bytes}
+use Rattle.mb_base.specs.declared.shape.Shape.{Shape}
+use Rattle.mb_msg.specs.declared.message.Body.TheVariants.{Whole}
+use Rattle.mb_msg.specs.declared.change.ViewChange.{ViewChange}
+use Rattle.mb_msg.specs.declared.message.Message.TheVariants as message
+use Rattle.mb_msg.specs.declared.normal.Prepare.{Prepare}
+use Rattle.mb_msg.specs.declared.normal.Commit.{Commit}
+use Rattle.mb_msg.specs.declared.stamped.Shown.{Shown}
+use Rattle.mb_msg.specs.declared.stamped.Shown.TheVariants as shown
+use Rattle.mb_model.specs.Plans.{no_base}
+use Rattle.mb_model.specs.Outcomes as outcome
+use Rattle.mb_model.specs.Histories.{Identity}
+use Rattle.mb_model.specs.Held.{change_fault}
+use Rattle.mb_model.specs.HostStep.{transition}
+use Rattle.mb_model.proofs.Hex.{unhex}
+use Rattle.mb_model.proofs.StepOnLiterals.{host_on_literals}
+use Rattle.mb_worked.proofs.Networks.{Happening, Appears, Reaches, Waits, nothing_yet, net_after, story}
+use Rattle.mb_worked.proofs.Samples.{four_clients, host, asked, prepare}
+
+-- a VIEW_CHANGE with no floor and nothing stable that shows these entries
+abbrev change : ℕ → ℕ → ℕ → List Shown → Bytes → ViewChange
+change h counter view entries cert = record { view = view; body = Whole (record { floor = None; stable = no_base; entries = entries }); ui = record { host = h; counter = counter; cert = cert } }
+
+-- ---- an invented view: of five hosts h3 is faulty. It leaves for view 3, and orders a request there, though it did not open the view.
+
+abbrev five_hosts : Shape
+five_hosts = record { f = 2; k = 4; clients = 1; faults_in = (omega arith, omega arith); interval_in = (omega arith, omega arith); clients_in = (omega arith, omega arith) }
+
+abbrev five : ℕ → Identity Bytes
+five = host five_hosts
+
+abbrev leaves : ViewChange
+leaves = change 3 1 3 [] (unhex (codes "bea379cc956488531384508c014027ea1068d4a09c901c036aa8964ae4f284a8"))
+
+abbrev orders : Prepare
+orders = record { view = 3; pos = 1; body = Whole (asked 0); ui = record { host = 3; counter = 2; cert = unhex (codes "643faa4ec3c4bcb8675790c542e071567db838fb3f87178c60b43d3eb31a1ed4") } }
+
+-- It shows both as it leaves for view 5; the first of them as its digest.
+abbrev leaves_again : ViewChange
+leaves_again = change 3 3 5 (shown.ViewChange (record { view = 3; body = unhex (codes "71b6c1d53832f789a7f2435a7c629245fa3761ad8487775ebf4957330213a706"); ui = leaves.ui }) ∷ shown.Prepare orders ∷ []) (unhex (codes "4b73f8e83777c6452e64b30b9ba95e6ed95ac17831ede7a722006a654022e1ba"))
+
+-- The PREPARE may not stand behind the first VIEW_CHANGE.
+what_shows_an_invented_view : change_fault (five 0) leaves_again ≡ Some (1, 5)
+unfolding host_on_literals
+what_shows_an_invented_view = refl
+
+-- h0 is given the three in order: the first is taken, the second closes the gate of h3, and the third comes too late. The wish of one host moves nobody.
+an_invented_view_convicts : story five (net_after five (Appears (message.Request (asked 0)) ∷ Appears (message.ViewChange leaves) ∷ Appears (message.Prepare orders) ∷ Appears (message.ViewChange leaves_again)
+    ∷ Reaches 2 0 ∷ Reaches 3 0 ∷ Reaches 4 0 ∷ []) (nothing_yet 5)) ≡ record {
+      outcomes = outcome.Took ∷ outcome.Illegal 6 ∷ outcome.Convicted 2 ∷ [];
+      kinds = 1 ∷ 7 ∷ 2 ∷ 7 ∷ [];
+      hosts = (0 ∷ 0 ∷ 0 ∷ 0 ∷ 0 ∷ []) ∷ (0 ∷ 0 ∷ 0 ∷ 0 ∷ 0 ∷ []) ∷ (0 ∷ 0 ∷ 0 ∷ 0 ∷ 0 ∷ []) ∷ (0 ∷ 0 ∷ 0 ∷ 0 ∷ 0 ∷ []) ∷ (0 ∷ 0 ∷ 0 ∷ 0 ∷ 0 ∷ []) ∷ [];
+    }
+unfolding host_on_literals net_after story
+an_invented_view_convicts = refl
+
+-- ---- a log that begins late: of three hosts h1 shows one COMMIT, which it stamped at counter 12, and no floor
+
+abbrev three : ℕ → Identity Bytes
+three = host four_clients
+
+abbrev late_commit : Commit
+late_commit = record { view = 0; pos = 1; counter = 1; cert = (prepare 1).ui.cert; body = Whole (asked 0); ui = record { host = 1; counter = 12; cert = unhex (codes "37a85d955f9c249a06faa68e2067bdea2708f9aec9b9201adcd7a1c99ae0f550") } }
+
+abbrev shows_a_late_commit : ViewChange
+shows_a_late_commit = change 1 1 1 (shown.Commit late_commit ∷ []) (unhex (codes "f0f52119617e754d3d86d13668dd8ec6b223838197db73d7d622eff513f6bb47"))
+
+-- Without a floor a log begins at counter 1. h0 refuses it behind the gate of h1, which stays where it was: given once more, it is refused for the same reason.
+a_late_log_is_unusable : story three (net_after three (Appears (message.ViewChange shows_a_late_commit) ∷ Reaches 1 0 ∷ Reaches 1 0 ∷ []) (nothing_yet 3)) ≡ record {
+  outcomes = outcome.Unusable 0 3 ∷ outcome.Unusable 0 3 ∷ [];
+  kinds = 7 ∷ [];
+  hosts = (0 ∷ 0 ∷ 0 ∷ 0 ∷ 0 ∷ []) ∷ (0 ∷ 0 ∷ 0 ∷ 0 ∷ 0 ∷ []) ∷ (0 ∷ 0 ∷ 0 ∷ 0 ∷ 0 ∷ []) ∷ [];
+}
+unfolding host_on_literals net_after story
+a_late_log_is_unusable = refl
+
+-- ---- a NEW_VIEW before its time: h1 commits a request, both backups lose patience, and the NEW_VIEW of h1 reaches h2 before the COMMIT and the VIEW_CHANGE of h1
+
+a_new_view_waits_for_what_is_before : story three (net_after three (Appears (message.Request (asked 0)) ∷ Reaches 1 0 ∷ Reaches 2 1 ∷ Waits 1 ∷ Waits 2
+    ∷ Reaches 5 2 ∷ Reaches 6 1 ∷ Reaches 7 1 ∷ Reaches 9 2 ∷ []) (nothing_yet 3)) ≡ record {
+      outcomes = outcome.Took ∷ outcome.Took ∷ outcome.Took ∷ outcome.Took ∷ outcome.Took ∷ outcome.Took ∷ outcome.Took ∷ outcome.Ahead 1 ∷ [];
+      kinds = 1 ∷ 2 ∷ 3 ∷ 4 ∷ 6 ∷ 6 ∷ 7 ∷ 7 ∷ 8 ∷ [];
+      hosts = (0 ∷ 0 ∷ 0 ∷ 1 ∷ 1 ∷ []) ∷ (1 ∷ 1 ∷ 0 ∷ 3 ∷ 3 ∷ []) ∷ (1 ∷ 0 ∷ 0 ∷ 1 ∷ 1 ∷ []) ∷ [];
+    }
+unfolding host_on_literals transition net_after story
+a_new_view_waits_for_what_is_before = refl

@@ -1,0 +1,16 @@
+mod FirstPath
+mod ShownLogs
+mod Plans
+pub mod Networks
+pub mod WholeSteps
+mod SingleSteps
+pub mod Samples
+mod FirstView
+mod Checkpoints
+pub mod TwelveRequestsData
+pub mod TwelveRequests
+mod ComingBack
+mod ChangingView
+pub mod WorldsOnLiterals
+pub mod Worlds
+mod FaultyWorlds

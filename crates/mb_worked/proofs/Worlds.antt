@@ -1,0 +1,194 @@
+-- Small worlds, computed on the definitions with real tags, certificates and digests.
+use Rattle.std.proofs.Common.{◌≡◌, ℕ, true, false, List, [], ◌∷◌, ◌++◌, length, map, refl, arith, Option, Some, None, Ok}
+use Rattle.std.specs.Prelude.{replicate, slice_get, take, filter_map, option_map, option_and_then, ◌==◌, if◌then◌else◌, unwrap_or}
+use Rattle.mb_base.specs.Shapes.{Bytes}
+use Rattle.mb_base.specs.declared.shape.Shape.{Shape}
+use Rattle.mb_parts.specs.declared.request.Request.{Request}
+use Rattle.mb_parts.specs.Bares.{request_digest}
+use Rattle.mb_parts.specs.declared.certificates.Evidence.{Evidence}
+use Rattle.mb_parts.specs.Certificates.{is_evidence}
+use Rattle.mb_parts.specs.Ordered.{initial_floor, is_ordered}
+use Rattle.mb_msg.specs.declared.change.ViewChange.{ViewChange}
+use Rattle.mb_msg.specs.declared.stamped.Stamped.{Stamped as StampedMessage}
+use Rattle.mb_msg.specs.declared.stamped.Stamped.TheVariants as stamped
+use Rattle.mb_model.specs.Votes.{is_vote}
+use Rattle.mb_model.specs.Committed.{planned, vote_in}
+use Rattle.mb_model.specs.UsableLogs.{Fault}
+use Rattle.mb_model.specs.Held.{change_fault, evidence_of}
+use Rattle.mb_model.specs.Service.{Machine, Served}
+use Rattle.mb_model.specs.States.{Snapshots}
+use Rattle.mb_model.specs.Outcomes as outcome
+use Rattle.mb_model.specs.Clients as client
+use Rattle.mb_model.specs.Histories.{view_of, said, stamped as stamped_by}
+use Rattle.mb_model.specs.Stable.{low_of}
+use Rattle.mb_model.specs.OwnLog.{own_log}
+use Rattle.mb_model.specs.Positions.{exec_of}
+use Rattle.mb_model.specs.Execution.{state_of}
+use Rattle.mb_theory.specs.WorldEvents.{WorldEvent, Ask, Give, Take, Patience, StampPrepare, Schedule}
+use Rattle.mb_theory.specs.WholeWorld.{OfHost, OfClient, Made, World, System, nothing_happened, self_of, request_of}
+use Rattle.mb_theory.specs.WorldSteps.{happens, world}
+use Rattle.mb_theory.specs.Stops.{WorldStop, stop_of}
+use Rattle.mb_theory.specs.WorldRecord.{issued, prefix, plans}
+use Rattle.mb_theory.specs.Justification.{is_sound}
+use Rattle.mb_theory.specs.Safety.{after_line}
+use Rattle.mb_worked.proofs.WorldsOnLiterals.{worlds_on_literals}
+
+-- ---- three hosts with a service that keeps the last operation and answers with the one before
+
+abbrev pub keeps_last : Machine Bytes
+keeps_last = record { after = λ state op. op; result = λ state op. state }
+
+abbrev pub keeps_parts : Snapshots Bytes
+keeps_parts = record { part = λ state i. if i == 0 then state else []; restored = λ parts. Ok (unwrap_or (slice_get parts 0) []) }
+
+abbrev pub one_client : Shape
+one_client = record { f = 1; k = 4; clients = 1; faults_in = (omega arith, omega arith); interval_in = (omega arith, omega arith); clients_in = (omega arith, omega arith) }
+
+abbrev pub system_of : Schedule → System Bytes
+system_of s = record { machine = keeps_last; snapshots = keeps_parts; initial = []; schedule = s }
+
+abbrev pub all_correct : List WorldEvent → System Bytes
+all_correct events = system_of (record { shape = one_client; secret = replicate 32 0; faulty_hosts = replicate 3 false; faulty_clients = replicate 1 false; events = events })
+
+-- what is told of a world: the first byte of each message, the length of the line, and of each host the view, the last executed position,
+-- the stable position, and the number of messages in its log
+abbrev pub kind_byte : Bytes → ℕ
+kind_byte [] = 0
+kind_byte (kind ∷ bytes) = kind
+
+abbrev pub host_told : System Bytes → World → ℕ → List ℕ
+host_told system w h = view_of (self_of system h) (w.histories h) ∷ exec_of (w.histories h) ∷ low_of (self_of system h) (w.histories h) ∷ length (own_log (self_of system h) (w.histories h)) ∷ []
+
+abbrev pub told : System Bytes → ℕ → List (List ℕ)
+told system k = map kind_byte (world system k).pool ∷ (length (world system k).line ∷ []) ∷ map (host_told system (world system k)) (0 ∷ 1 ∷ 2 ∷ [])
+
+-- ---- one request goes through, and its client accepts the result
+
+abbrev pub operation : Bytes
+operation = 1 ∷ 1 ∷ 97 ∷ 0 ∷ 1 ∷ 49 ∷ []
+
+abbrev one_request : System Bytes
+one_request = all_correct (Ask 0 operation ∷ Give 1 0 ∷ Give 2 1 ∷ Give 2 2 ∷ Give 3 0 ∷ Take 4 0 ∷ Take 6 0 ∷ [])
+
+one_request_told : told one_request 7 ≡ (1 ∷ 2 ∷ 3 ∷ 4 ∷ 3 ∷ 4 ∷ 4 ∷ []) ∷ (1 ∷ []) ∷ (0 ∷ 1 ∷ 0 ∷ 1 ∷ []) ∷ (0 ∷ 1 ∷ 0 ∷ 1 ∷ []) ∷ (0 ∷ 1 ∷ 0 ∷ 1 ∷ []) ∷ []
+unfolding worlds_on_literals
+one_request_told = refl
+
+one_request_seen : (world one_request 7).seen ≡ OfClient (client.Accepted 1) ∷ OfClient (client.Waiting 1) ∷ OfHost outcome.Took ∷ OfHost outcome.Took ∷ OfHost outcome.Took ∷ OfHost outcome.Took ∷ Made 1 1 ∷ []
+unfolding worlds_on_literals
+one_request_seen = refl
+
+-- what stands in the way of each of these events, one behind the other
+abbrev stops_from : System Bytes → World → List WorldEvent → List (Option WorldStop)
+stops_from system w [] = []
+stops_from system w (e ∷ events) = stop_of system.schedule w e ∷ stops_from system (happens system w e) events
+
+abbrev stops : System Bytes → List (Option WorldStop)
+stops system = stops_from system nothing_happened system.schedule.events
+
+one_request_goes : stops one_request ≡ replicate 7 None
+unfolding worlds_on_literals
+one_request_goes = refl
+
+-- ---- a faulty primary orders the request for one host alone; two hosts lose patience, and the next view carries it on
+
+abbrev pub of_faulty_primary : List WorldEvent → System Bytes
+of_faulty_primary events = system_of (record { shape = one_client; secret = replicate 32 0; faulty_hosts = true ∷ false ∷ false ∷ []; faulty_clients = false ∷ []; events = events })
+
+abbrev change_of_view : System Bytes
+change_of_view = of_faulty_primary (Ask 0 operation ∷ StampPrepare 0 0 1 1 ∷ Give 2 1 ∷ Patience 1 ∷ Patience 2 ∷ Give 5 2 ∷ Give 6 1 ∷ Give 7 1 ∷ Give 3 2 ∷ Give 8 2 ∷ Give 9 2 ∷ Give 10 1 ∷ Give 11 1 ∷ Give 12 2 ∷ [])
+
+change_of_view_told : told change_of_view 14 ≡ (1 ∷ 2 ∷ 3 ∷ 4 ∷ 6 ∷ 6 ∷ 7 ∷ 7 ∷ 8 ∷ 9 ∷ 10 ∷ 10 ∷ 4 ∷ []) ∷ (1 ∷ []) ∷ (0 ∷ 0 ∷ 0 ∷ 0 ∷ []) ∷ (1 ∷ 1 ∷ 0 ∷ 4 ∷ []) ∷ (1 ∷ 1 ∷ 0 ∷ 3 ∷ []) ∷ []
+unfolding worlds_on_literals
+change_of_view_told = refl
+
+-- what stands in the way of the event behind the first k
+abbrev pub stop_at : System Bytes → ℕ → Option WorldStop
+stop_at system k = option_and_then (stop_of system.schedule (world system k)) (slice_get system.schedule.events k)
+
+change_of_view_begins : stops_from change_of_view nothing_happened (take 8 change_of_view.schedule.events) ≡ replicate 8 None
+unfolding worlds_on_literals
+change_of_view_begins = refl
+
+goes_8 : stop_at change_of_view 8 ≡ None
+unfolding worlds_on_literals
+goes_8 = refl
+
+goes_9 : stop_at change_of_view 9 ≡ None
+unfolding worlds_on_literals
+goes_9 = refl
+
+goes_10 : stop_at change_of_view 10 ≡ None
+unfolding worlds_on_literals
+goes_10 = refl
+
+goes_11 : stop_at change_of_view 11 ≡ None
+unfolding worlds_on_literals
+goes_11 = refl
+
+goes_12 : stop_at change_of_view 12 ≡ None
+unfolding worlds_on_literals
+goes_12 = refl
+
+goes_13 : stop_at change_of_view 13 ≡ None
+unfolding worlds_on_literals
+goes_13 = refl
+
+-- what is promised of it, as far as it is decided by computing: the state of the correct hosts is the service's after the line's first
+-- slot; what each stamped stands in order, with checked and issued certificates; each log that it showed is usable; no gate is closed
+abbrev last_world : World
+last_world = world change_of_view 14
+
+abbrev served_once : Served Bytes
+served_once = record { state = operation; table = record { seq = 1; pos = 1; result = [] } ∷ [] }
+
+line_serves : after_line change_of_view last_world 1 ≡ served_once
+unfolding worlds_on_literals
+line_serves = refl
+
+hosts_served : map (λ h. state_of (self_of change_of_view h) (last_world.histories h)) (1 ∷ 2 ∷ []) ≡ served_once ∷ served_once ∷ []
+unfolding worlds_on_literals
+hosts_served = refl
+
+all_stand_in_order : map (λ h. is_ordered initial_floor one_client h (is_sound change_of_view.schedule last_world) (said (last_world.histories h))) (1 ∷ 2 ∷ []) ≡ true ∷ true ∷ []
+unfolding worlds_on_literals
+all_stand_in_order = refl
+
+-- the ordered prefixes of what was stamped: of the faulty primary one message, too
+prefix_lengths : map (λ h. length (prefix change_of_view.schedule last_world h)) (0 ∷ 1 ∷ 2 ∷ []) ≡ 1 ∷ 4 ∷ 3 ∷ []
+unfolding worlds_on_literals
+prefix_lengths = refl
+
+-- the logs that they showed are usable
+abbrev as_change : StampedMessage → Option ViewChange
+as_change (stamped.ViewChange m) = Some m
+as_change m = None
+
+abbrev change_faults : ℕ → List (Option Fault)
+change_faults h = map (change_fault (self_of change_of_view h)) (filter_map as_change (stamped_by (last_world.histories h)))
+
+changes_usable : change_faults 1 ++ change_faults 2 ≡ None ∷ None ∷ []
+unfolding worlds_on_literals
+changes_usable = refl
+
+-- The evidence that h2 holds of the next view was issued, and its plan has the request.
+abbrev evidence : Option Evidence
+evidence = evidence_of (self_of change_of_view 2) (last_world.histories 2)
+
+evidence_issued : option_map (is_evidence one_client (issued change_of_view.schedule last_world)) evidence ≡ Some true
+unfolding worlds_on_literals
+evidence_issued = refl
+
+evidence_plans : option_map (λ e. planned (plans change_of_view.schedule last_world e.plan) 1) evidence ≡ Some (Some (request_digest (request_of change_of_view.schedule 0 1 operation)))
+unfolding worlds_on_literals
+evidence_plans = refl
+
+-- the request got votes of h0 and h1 in view 0 and, by the plan, of h1 and h2 in view 1: 1 for each that is the same request
+abbrev votes_for_request : ℕ → List ℕ
+votes_for_request view = map (λ h. if is_vote (vote_in (plans change_of_view.schedule last_world) (prefix change_of_view.schedule last_world h) view 1) (record { counter = if view == 0 then 1 else 3; request = request_digest request }) then 1 else 0) (0 ∷ 1 ∷ 2 ∷ []) where
+  request : Request
+  request = request_of change_of_view.schedule 0 1 operation
+
+voted_in_both_views : map votes_for_request (0 ∷ 1 ∷ []) ≡ (1 ∷ 1 ∷ 0 ∷ []) ∷ (0 ∷ 1 ∷ 1 ∷ []) ∷ []
+unfolding worlds_on_literals
+voted_in_both_views = refl
