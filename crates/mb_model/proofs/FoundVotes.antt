@@ -17,7 +17,7 @@ use Rattle.mb_parts.specs.Bares.{Bare, request_digest}
 use Rattle.mb_parts.specs.Ordered.{initial_floor, is_ordered, floor_after, current_view, is_opened, last_position, phase_from, phase_is_open}
 use Rattle.mb_parts.specs.Spelling.{request_bytes}
 use Rattle.mb_parts.specs.Claims.{Claim}
-use Rattle.mb_parts.specs.Certificates.{inner_valid}
+use Rattle.mb_parts.specs.Certificates.{is_stable, inner_valid}
 use Rattle.mb_parts.proofs.Advance.{none_opened}
 use Rattle.mb_parts.proofs.OrderedParts.{tail}
 use Rattle.mb_msg.specs.declared.message.Body.{Body}
@@ -28,7 +28,7 @@ use Rattle.mb_msg.specs.declared.stamped.Shown.TheVariants as shown
 use Rattle.mb_msg.specs.Stamps.{bare_of_shown, ui_of_shown}
 use Rattle.mb_msg.specs.Bodies.{body_digest}
 use Rattle.mb_model.specs.declared.known.Vote.{Vote}
-use Rattle.mb_model.specs.UsableLogs.{bares, is_plan_body, is_sound_plan, is_whole}
+use Rattle.mb_model.specs.UsableLogs.{bares, is_plan_body, is_comparable_body, is_sound_plan, is_whole}
 use Rattle.mb_model.specs.Plans.{opened_from, view_if_open, vote_since, vote_with, plan_vote, ShownVote}
 use Rattle.mb_model.specs.Committed.{Plans, planned, vote_by, vote_in}
 use Rattle.mb_model.specs.Agreement.{IsConsistentRecord, IsKnownPlan, IsKnownBody}
@@ -192,7 +192,7 @@ module _ (s : Shape) (secret : Bytes) (plans : Plans) (issued : Claim → Bool) 
 
   pub requests_long : (base end : ℕ) (plan : Bytes) (b : OpenBody) → is_plan_body s secret issued base end plan b ≡ true → (b.stable.pos ≡ base) × (length b.requests ≡ end - base)
   requests_long base end plan b ok =
-      let a = and_parts _ _ ok in
+      let a = and_parts (is_stable s issued b.stable) _ (and_parts (is_comparable_body s secret issued base end b) _ ok).0 in
       let c = and_parts (b.stable.pos == base) _ a.1 in
       let d = and_parts (length b.requests == end - base) _ c.1 in
       (eqb-true _ _ c.0, eqb-true _ _ d.0)

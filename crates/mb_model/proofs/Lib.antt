@@ -1,8 +1,5 @@
 pub mod Options
-pub mod Refusals
-pub mod Enabled
 pub mod ServiceLaws
-pub mod OnLiterals
 pub mod Members
 pub mod ByHost
 pub mod Quorums
@@ -41,3 +38,6 @@ pub mod StepOwnFloor
 pub mod StepOwnSteady
 pub mod StepOwnStamped
 pub mod OwnListsOrdered
+pub mod EarlyHistories
+pub mod EarlyRules
+pub mod EarlyRefusals

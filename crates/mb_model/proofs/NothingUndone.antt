@@ -1,7 +1,7 @@
 -- No rule is left undone, for each service.
 use Rattle.std.specs.Prelude.{List, [], ◌∷◌}
 use Rattle.mb_base.specs.Shapes.{IsShape}
-use Rattle.mb_model.specs.Outcomes.{Event}
+use Rattle.mb_msg.specs.declared.event.Event.{Event}
 use Rattle.mb_model.specs.Histories.{Identity}
 use Rattle.mb_model.specs.EnabledRules.{IsQuiescent}
 use Rattle.mb_model.specs.HostStep.{after}

@@ -30,3 +30,8 @@ module _ {A : Type 0} where
 pub map_some : {A B : Type 0} (f : A → B) (o : Option A) (z : B) → option_map f o ≡ Some z → (x : A) × (o ≡ Some x) × (f x ≡ z)
 map_some f None z e = absurd cc
 map_some f (Some x) z e = (x, refl, cc)
+
+-- what holds of both holds of the one that is chosen
+pub of_both : {A : Type 0} (P : A → Type 0) (t : Bool) (x y : A) → P x → P y → P (if t then x else y)
+of_both P true x y p q = p
+of_both P false x y p q = q

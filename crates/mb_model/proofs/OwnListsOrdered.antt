@@ -1,9 +1,9 @@
 -- After any events what a host stamped is an ordered list, numbered from 1, and its own gate stands behind it: for each service.
-use Rattle.std.proofs.Common.{◌≡◌, ◌+◌, List, [], ◌∷◌, refl, subst}
+use Rattle.std.proofs.Common.{◌≡◌, ◌+◌, true, List, [], ◌∷◌, refl, subst}
 use Rattle.mb_msg.specs.declared.stamped.Stamped.{Stamped as StampedMessage}
 use Rattle.mb_msg.specs.declared.stamped.Stamped.TheVariants as stamped
 use Rattle.mb_msg.specs.Stamps.{bare_of, ui_of}
-use Rattle.mb_model.specs.Outcomes.{Event}
+use Rattle.mb_msg.specs.declared.event.Event.{Event}
 use Rattle.mb_model.specs.Histories.{Stamped, History, Identity, stamped as all_stamped, counter_of}
 use Rattle.mb_model.specs.Sending.{signed, next_ui}
 use Rattle.mb_model.specs.Making.{prepare, commit, view_change, new_view, enter, opening, join, checkpoint}
@@ -39,12 +39,12 @@ module _ {S : Type 0} (self : Identity S) where
   arises_numbered (Stamped m ∷ d) a = (made_next d m a.0, arises_numbered d a.1)
   arises_numbered (_ ∷ d) a = arises_numbered d a.1
 
-  list_after : (events : List Event) → IsOwnList self (after self events)
-  list_after events = (steady self (after self events) (after_arises self events)).list
+  list_after : self.built.gates ≡ true → (events : List Event) → IsOwnList self (after self events)
+  list_after on events = (steady self on (after self events) (after_arises self events)).list
 
 pub own_lists : (S : Type 0) → OwnLists S
 own_lists S = record {
-  gate = λ self events. stands_here self (after self events) (list_after self events).own;
-  list = λ self events. list_after self events;
+  gate = λ self on events. stands_here self (after self events) (list_after self on events).own;
+  list = λ self on events. list_after self on events;
   numbered = λ self events. arises_numbered self (after self events) (after_arises self events);
 }

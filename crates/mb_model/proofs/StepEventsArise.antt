@@ -3,18 +3,21 @@ use Rattle.std.proofs.Common.{◌≡◌, ℕ, Bool, true, false, ◌&&◌, ◌||
 use Rattle.std.specs.Prelude.{◌==◌, nat_lt}
 use Rattle.std.proofs.lemmas.Bool.{cases_Bool}
 use Rattle.mb_msg.specs.declared.message.Message.{Message}
+use Rattle.mb_msg.specs.Spelling.{kind_of}
 use Rattle.mb_msg.specs.Reading.{message_of}
-use Rattle.mb_model.specs.Outcomes.{Event, Outcome}
-use Rattle.mb_model.specs.Outcomes as outcome
+use Rattle.mb_msg.specs.declared.event.Event.{Event}
+use Rattle.mb_msg.specs.declared.event.Event.TheVariants as event
 use Rattle.mb_model.specs.Histories.{Nudged, History, Identity, view_of}
 use Rattle.mb_model.specs.Held.{view_limit, wish_of}
 use Rattle.mb_model.specs.Sending.{Progress, begin}
 use Rattle.mb_model.specs.CarriedOut.{run_rules, enough}
 use Rattle.mb_model.specs.Given.{Answer, give}
-use Rattle.mb_model.specs.HostStep.{on_patience, on_nudge, on_bytes, is_behind, low_rose, with_fetch, finished_where, transition, after}
+use Rattle.mb_model.specs.Positions.{is_behind}
+use Rattle.mb_model.specs.HostStep.{on_patience, on_nudge, on_message, on_bytes, if_built, low_rose, with_fetch, finished_where, transition, after}
 use Rattle.mb_model.proofs.StepArises.{Arises, Arisen}
 use Rattle.mb_model.proofs.StepGivenArise.{give_arises}
 use Rattle.mb_model.proofs.StepRulesArise.{run_arises}
+use Rattle.mb_model.proofs.Options.{of_both}
 
 module _ {S : Type 0} (self : Identity S) where
   -- ---- whole events
@@ -43,15 +46,24 @@ module _ {S : Type 0} (self : Identity S) where
     | inr none ↦ rw none (tt, a)
   ]
 
+  message_arises : (d : History) (m : Message) → Arises self d → Arises self (on_message self d m).left.history
+  message_arises d m a = elim (cases_Bool (self.built.kinds (kind_of m))) [
+    | inl acts ↦ rw acts (finish_arises _ _ d (give self m (begin d)) (give_arises self m (begin d) a))
+    | inr unbuilt ↦ rw unbuilt a
+  ]
+
   bytes_arise : (d : History) (r : Result Message ℕ) → Arises self d → Arises self (on_bytes self r d).left.history
-  bytes_arise d (Ok m) a = finish_arises _ _ d (give self m (begin d)) (give_arises self m (begin d) a)
+  bytes_arise d (Ok m) a = message_arises d m a
   bytes_arise d (Err at) a = a
+
+  signal_arises : (d : History) (o : Answer) → Arises self d → Arisen self o.left → Arises self (if_built self d o).left.history
+  signal_arises d o a arisen = of_both (λ (o : Answer). Arises self o.left.history) self.built.signals o _ arisen a
 
   transition_arises : (d : History) (e : Event) → Arises self d → Arises self (transition self d e).left.history
   unfolding transition
-  transition_arises d (outcome.Given bytes) a = bytes_arise d (message_of self.shape bytes) a
-  transition_arises d outcome.Patience a = finish_arises _ false d (on_patience self (begin d)) (patience_arises (begin d) a)
-  transition_arises d outcome.Nudge a = finish_arises true true d (on_nudge self (begin d)) (nudge_arises (begin d) a)
+  transition_arises d (event.Given bytes) a = bytes_arise d (message_of self.shape bytes) a
+  transition_arises d event.Patience a = signal_arises d _ a (finish_arises _ false d (on_patience self (begin d)) (patience_arises (begin d) a))
+  transition_arises d event.Nudge a = signal_arises d _ a (finish_arises true true d (on_nudge self (begin d)) (nudge_arises (begin d) a))
 
   -- After any events the history arose so.
   pub after_arises : (events : List Event) → Arises self (after self events)

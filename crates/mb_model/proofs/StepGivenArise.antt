@@ -16,8 +16,8 @@ use Rattle.mb_msg.specs.declared.transfer.StateMsg.{StateMsg}
 use Rattle.mb_msg.specs.declared.stamped.Stamped.{Stamped as StampedMessage}
 use Rattle.mb_msg.specs.declared.stamped.Stamped.TheVariants as stamped
 use Rattle.mb_msg.specs.Stamps.{ui_of, as_message}
-use Rattle.mb_model.specs.Outcomes.{Event, Outcome}
-use Rattle.mb_model.specs.Outcomes as outcome
+use Rattle.mb_msg.specs.declared.event.Outcome.{Outcome}
+use Rattle.mb_msg.specs.declared.event.Outcome.TheVariants as outcome
 use Rattle.mb_model.specs.Histories.{Accepted, History, Identity, gate, closed_at}
 use Rattle.mb_model.specs.Stable.{low_of, stable_of}
 use Rattle.mb_model.specs.Positions.{exec_of}
@@ -162,7 +162,7 @@ module _ {S : Type 0} (self : Identity S) where
   log_arises m x a = elim (option_cases (log_refusal self m)) [
     | inl none ↦
         let p = passes_log self m none in
-        rw none (entries_arise m.entries _ (p, jump_arises m.host (floor_shown self m.host m.floor) x p.other a))
+        rw none (entries_arise m.entries _ (p, jump_arises m.host (floor_shown self m.host m.floor) x p.not_own a))
     | inr (o, some) ↦ rw some a
   ]
 

@@ -25,7 +25,7 @@ use Rattle.mb_msg.specs.declared.change.OpenBody.{OpenBody}
 use Rattle.mb_msg.specs.declared.change.Plan.{Plan}
 use Rattle.mb_msg.specs.declared.stamped.Stamped.{Stamped as StampedMessage}
 use Rattle.mb_msg.specs.declared.stamped.Stamped.TheVariants as stamped
-use Rattle.mb_model.specs.UsableLogs.{is_whole}
+use Rattle.mb_model.specs.UsableLogs.{is_whole, is_comparable_body}
 use Rattle.mb_model.specs.Plans.{no_base}
 use Rattle.mb_model.specs.Histories.{Entry, Accepted, Stamped, History, Identity, origin, taken_of, view_of}
 use Rattle.mb_model.specs.Held.{whole_body, change_fault, is_current, change_in, arrived, changes_of, by_rising_host, chosen, plan_from, plan_in_new_view, plan_in_open, plan_in, plan_held, gives_plan, is_news, evidence_of, evidence_view, is_plan_of}
@@ -154,8 +154,8 @@ module _ {S : Type 0} (self : Identity S) where
       let t = if_some (is_whole n.body && is_current self d n.view) (Some n) m e in
       subst (λ (y : ViewChange). IsUsable self y) (some_is n m t.1) (a.kind (and_parts (is_whole n.body) (is_current self d n.view) t.0).1)
   change_usable d (Stamped (stamped.ViewChange n)) a m e =
-      let t = if_some (is_none (change_fault self n)) (Some n) m e in
-      subst (λ (y : ViewChange). IsUsable self y) (some_is n m t.1) (none_is (change_fault self n) t.0) where
+      let t = if_some (is_whole n.body && is_none (change_fault self n)) (Some n) m e in
+      subst (λ (y : ViewChange). IsUsable self y) (some_is n m t.1) (none_is (change_fault self n) (and_parts (is_whole n.body) (is_none (change_fault self n)) t.0).1) where
         none_is : {A : Type 0} (o : Option A) → is_none o ≡ true → o ≡ None
         none_is None e = refl
         none_is (Some z) e = absurd cc
@@ -231,7 +231,7 @@ module _ {S : Type 0} (self : Identity S) where
   open_plan m p passed e =
       let b = map_some (λ (b : OpenBody). (m.evidence.view, record { base = b.stable; requests = b.requests })) (whole_body m.body) p e in
       let body : is_body_of self m.evidence b.0 ≡ true = not-false _ (then_none (not (is_body_of self m.evidence b.0)) (0, 8) (shown_none (opening_fault self m.evidence) (whole_body m.body) b.0 b.1 passed)) in
-      subst (λ (q : ℕ × Plan). IsStable q.1.base) b.2 (and_parts (is_stable self.shape (valid self) b.0.stable) _ body).0
+      subst (λ (q : ℕ × Plan). IsStable q.1.base) b.2 (and_parts (is_stable self.shape (valid self) b.0.stable) _ (and_parts (is_comparable_body self.shape self.secret (valid self) m.evidence.base m.evidence.end b.0) _ body).0).0
 
   -- the plan that an entry brings
   plan_stable : (d : History) (x : Entry) → Adds self d x → Arises self d → (p : ℕ × Plan) → plan_in self d (plan_held self d) x ≡ Some p → IsStable p.1.base
@@ -252,16 +252,16 @@ module _ {S : Type 0} (self : Identity S) where
     go None is e = absurd cc
     go (Some p) is e = subst (λ (y : StableCert). IsStable y) (some_is p.1.base c e) (plan_stable d x a before p is)
 
-  learnt_checks : (d : History) (x : Entry) → Arises self (x ∷ d) → (low : ℕ) (c : StableCert) → learnt_in self d low x ≡ Some c → 0 < c.pos → IsStable c
-  learnt_checks d (Accepted (message.Join m)) a low c e above = subst (λ (y : StableCert). IsStable y) (some_is m.stable c e)
+  learnt_checks : self.built.gates ≡ true → (d : History) (x : Entry) → Arises self (x ∷ d) → (low : ℕ) (c : StableCert) → learnt_in self d low x ≡ Some c → 0 < c.pos → IsStable c
+  learnt_checks on d (Accepted (message.Join m)) a low c e above = subst (λ (y : StableCert). IsStable y) (some_is m.stable c e)
       (join_stable_valid self.shape (valid self) m.view m.evidence m.stable
-      (join_inside (origin d m.ui.host) self.shape m.ui.host (inner_valid self.shape (valid self)) (taken_of d m.ui.host) m.view m.evidence m.stable a.0.gate.permitted))
-  learnt_checks d (Accepted (message.Log m)) a low c e above = subst (λ (y : StableCert). IsStable y) (some_is m.stable c e) a.0.stable
-  learnt_checks d (Accepted (message.Checkpoint m)) a low c e above =
+      (join_inside (origin d m.ui.host) self.shape m.ui.host (inner_valid self.shape (valid self)) (taken_of d m.ui.host) m.view m.evidence m.stable (a.0.gate.permitted on)))
+  learnt_checks on d (Accepted (message.Log m)) a low c e above = subst (λ (y : StableCert). IsStable y) (some_is m.stable c e) a.0.stable
+  learnt_checks on d (Accepted (message.Checkpoint m)) a low c e above =
       above_checks (Accepted (message.Checkpoint m) ∷ d) a low c (if_some (nat_le low m.pos) (agreed_above self.shape (Accepted (message.Checkpoint m) ∷ d) low) c e).1 above
-  learnt_checks d (Stamped (stamped.Checkpoint m)) a low c e above =
+  learnt_checks on d (Stamped (stamped.Checkpoint m)) a low c e above =
       above_checks (Stamped (stamped.Checkpoint m) ∷ d) a low c (if_some (nat_le low m.pos) (agreed_above self.shape (Stamped (stamped.Checkpoint m) ∷ d) low) c e).1 above
-  learnt_checks d x a low c e above = of_plan d x a.0 a.1 c e
+  learnt_checks on d x a low c e above = of_plan d x a.0 a.1 c e
 
   further_checks : (old : StableCert) (x : Option StableCert) → IsStable old → ((c : StableCert) → x ≡ Some c → 0 < c.pos → IsStable c) → IsStable (further old x)
   further_checks old None o new = o
@@ -274,7 +274,7 @@ module _ {S : Type 0} (self : Identity S) where
   unfolding is_stable
   none_stable = refl
 
-  pub stable_checks : (d : History) → Arises self d → IsStable (stable_of self d)
+  pub stable_checks : self.built.gates ≡ true → (d : History) → Arises self d → IsStable (stable_of self d)
   unfolding stable_of
-  stable_checks [] a = none_stable
-  stable_checks (x ∷ d) a = further_checks (stable_of self d) (learnt_in self d (stable_of self d).pos x) (stable_checks d a.1) (learnt_checks d x a (stable_of self d).pos)
+  stable_checks on [] a = none_stable
+  stable_checks on (x ∷ d) a = further_checks (stable_of self d) (learnt_in self d (stable_of self d).pos x) (stable_checks on d a.1) (learnt_checks on d x a (stable_of self d).pos)

@@ -9,7 +9,7 @@ use Rattle.mb_parts.specs.Bares.{Bare}
 use Rattle.mb_parts.specs.Bares as bare
 use Rattle.mb_parts.specs.Ordered.{current_view, is_opened, last_position, last_checkpoint, floor_after, phase_from, phase_is_open}
 
-open_from : (opened entered : Bool) → phase_is_open (phase_from opened entered) ≡ opened
+pub open_from : (opened entered : Bool) → phase_is_open (phase_from opened entered) ≡ opened
 open_from true e = refl
 open_from false true = refl
 open_from false false = refl

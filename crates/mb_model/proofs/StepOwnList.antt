@@ -1,7 +1,7 @@
 -- The own list of a host is ordered: each rule stamps only what the own gate permits, where what is held checks. And no message of the own
 -- number is accepted.
 use Rattle.std.proofs.Common.{◌≡◌, ℕ, ◌+◌, ◌≤◌, ◌<◌, Bool, true, false, ◌&&◌, ◌||◌, not, List, [], ◌∷◌, length, refl, sym, ap, subst, ◌∙◌, inl, inr, arith, eqb, Option, Some, None}
-use Rattle.std.specs.Prelude.{◌==◌, nat_lt, nat_le, option_map, ◌%◌, ◌^◌}
+use Rattle.std.specs.Prelude.{◌==◌, nat_lt, nat_le, option_map, ◌%◌}
 use Rattle.std.specs.List.{range_with_len}
 use Rattle.std.proofs.lemmas.Bool.{and_parts, and_from, or_cases, cases_Bool, eqb-true, eq-eqb, ltb-true, lt-ltb, le-leb, not-true}
 use Rattle.std.proofs.lemmas.List.{length-map}
@@ -237,10 +237,10 @@ module _ {S : Type 0} (self : Identity S) where
   pub prepare_permitted : (d : History) (p : ℕ) (r : Request) → IsOwnList self d → prepare_enabled self d ≡ Some (Prepare p r) → IsPermitted d (bare_of (prepare self d p r))
   unfolding prepare_enabled
   prepare_permitted d p r own e =
-      let t = if_some (is_open self d && (is_primary self d && (in_window self d (next_position self d) && (nat_lt (next_position self d) (2 ^ 63) && has_room self d))))
+      let t = if_some (is_open self d && (is_primary self d && (in_window self d (next_position self d) && has_room self d)))
       (option_map (Prepare (next_position self d)) (unordered self d (range_with_len 0 (client_count self.shape)))) (Prepare p r) e in
-      let a = and_parts (is_open self d) (is_primary self d && (in_window self d (next_position self d) && (nat_lt (next_position self d) (2 ^ 63) && has_room self d))) t.0 in
-      let b = and_parts (is_primary self d) (in_window self d (next_position self d) && (nat_lt (next_position self d) (2 ^ 63) && has_room self d)) a.1 in
+      let a = and_parts (is_open self d) (is_primary self d && (in_window self d (next_position self d) && has_room self d)) t.0 in
+      let b = and_parts (is_primary self d) (in_window self d (next_position self d) && has_room self d) a.1 in
       let m = map_some (Prepare (next_position self d)) (unordered self d (range_with_len 0 (client_count self.shape))) (Prepare p r) t.1 in
       let place : next_position self d ≡ p = cc (m.2) in
       by_gate d _ own (subst (λ (q : ℕ). permits (here self d) self.shape self.host (inner self) [] (bare.Prepare (view_of self d) q (request_digest r)) ≡ true) place
@@ -257,6 +257,6 @@ module _ {S : Type 0} (self : Identity S) where
     | inl mine ↦
         let at : (gate d (ui_of m).host).counter ≡ counter_of d = ap (λ (h : ℕ). (gate d h).counter) (eqb-true (ui_of m).host self.host mine) ∙ own_counter d own in
         let more : nat_lt (counter_of d) (ui_of m).counter ≡ true = lt-ltb (counter_of d) (ui_of m).counter (omega (arith, at, p.next)) in
-        let r : ((ui_of m).host == self.host && nat_lt (counter_of d) (ui_of m).counter) ≡ false = p.reached in
+        let r : ((ui_of m).host == self.host && nat_lt (counter_of d) (ui_of m).counter) ≡ false = p.not_future in
         let h = rw (mine, more) at r in absurd cc
   ]

@@ -1,6 +1,6 @@
 -- What each rule stamps goes onto the own list in order, and keeps what goes with that order. So in a history that arises the own list is ordered.
 use Rattle.std.proofs.Common.{◌≡◌, ℕ, ◌+◌, ◌≤◌, ◌<◌, true, false, ◌&&◌, ◌||◌, not, List, [], ◌∷◌, length, refl, sym, ap, subst, ◌∙◌, inl, inr, arith, Option, Some, None}
-use Rattle.std.specs.Prelude.{◌==◌, ◌%◌, ◌^◌, ◌-◌, nat_lt, nat_le, option_map, slice_get, if◌then◌else◌}
+use Rattle.std.specs.Prelude.{◌==◌, ◌%◌, ◌-◌, nat_lt, nat_le, option_map, slice_get, if◌then◌else◌}
 use Rattle.std.specs.List.{range_with_len}
 use Rattle.std.proofs.lemmas.Bool.{and_parts, both_ways, or_cases, cases_Bool, eqb-true, eq-eqb, ltb-true, leb-true, not-true, and_from}
 use Rattle.std.proofs.lemmas.Option.{slice_get_within}
@@ -141,12 +141,12 @@ module _ {S : Type 0} (self : Identity S) where
       let t = if_some (nat_lt base p) (slice_get l (p - base - 1)) r e in
       omega (arith, ltb-true base p t.0, slice_get_within l (p - base - 1) r t.1)
 
-  open_kept : (d : History) → Arises self d → (e : Evidence) (plan : Plan) → open_enabled self d ≡ Some (Open e plan) → IsSteady self d
+  open_kept : self.built.gates ≡ true → (d : History) → Arises self d → (e : Evidence) (plan : Plan) → open_enabled self d ≡ Some (Open e plan) → IsSteady self d
       → IsKept self d (opening e plan) (view_of self d) true e.end (here self d).point
   unfolding evidence_of
-  open_kept d a e plan o k =
+  open_kept on d a e plan o k =
       let seen = open_seen self d e plan o in
-      let c = shows_checked self d a (evidence_checks self d a) (view_of self d) e seen.0 in
+      let c = shows_checked self on d a (evidence_checks self on d a) (view_of self d) e seen.0 in
       record {
         permitted = open_permitted self d e plan k.list o c.0 c.1;
         leads = open_leads (here self d) e _ c.0;
@@ -205,12 +205,12 @@ module _ {S : Type 0} (self : Identity S) where
             (omega (arith, shown_within (view_of self d) (evidence_of self d), low), λ o. absurd (both_ways (is_open self d) (not-true _ c.0) o), has)
       ]
 
-  join_kept : (d : History) → Arises self d → join_enabled self d ≡ Some Join → IsSteady self d → IsKept self d (join self d) (view_of self d) true (low_of self d) (here self d).point
+  join_kept : self.built.gates ≡ true → (d : History) → Arises self d → join_enabled self d ≡ Some Join → IsSteady self d → IsKept self d (join self d) (view_of self d) true (low_of self d) (here self d).point
   unfolding evidence_of
-  join_kept d a e k =
+  join_kept on d a e k =
       let low = join_low d e k in
       record {
-        permitted = join_permitted self d k.list e (λ o. low.0) (λ o. low.0) (joins_valid (view_of self d) (evidence_of self d) (stable_of self d) (evidence_checks self d a) (stable_checks self d a) low.2);
+        permitted = join_permitted self d k.list e (λ o. low.0) (λ o. low.0) (joins_valid (view_of self d) (evidence_of self d) (stable_of self d) (evidence_checks self on d a) (stable_checks self on d a) low.2);
         leads = join_leads (here self d) (join_evidence self d) (stable_of self d);
         evidence = λ o. held (view_of self d) (evidence_of self d) low.2;
         end = λ o. low.0;
@@ -268,10 +268,10 @@ module _ {S : Type 0} (self : Identity S) where
   prepare_seen : (d : History) (p : ℕ) (r : Request) → prepare_enabled self d ≡ Some (Prepare p r) → (p ≡ next_position self d) × (is_primary self d ≡ true)
   unfolding prepare_enabled
   prepare_seen d p r e =
-      let t = if_some (is_open self d && (is_primary self d && (in_window self d (next_position self d) && (nat_lt (next_position self d) (2 ^ 63) && has_room self d))))
+      let t = if_some (is_open self d && (is_primary self d && (in_window self d (next_position self d) && has_room self d)))
       (option_map (Prepare (next_position self d)) (unordered self d (range_with_len 0 (client_count self.shape)))) (Prepare p r) e in
-      let a = and_parts (is_open self d) (is_primary self d && (in_window self d (next_position self d) && (nat_lt (next_position self d) (2 ^ 63) && has_room self d))) t.0 in
-      let b = and_parts (is_primary self d) (in_window self d (next_position self d) && (nat_lt (next_position self d) (2 ^ 63) && has_room self d)) a.1 in
+      let a = and_parts (is_open self d) (is_primary self d && (in_window self d (next_position self d) && has_room self d)) t.0 in
+      let b = and_parts (is_primary self d) (in_window self d (next_position self d) && has_room self d) a.1 in
       let m = map_some (Prepare (next_position self d)) (unordered self d (range_with_len 0 (client_count self.shape))) (Prepare p r) t.1 in
       let place : next_position self d ≡ p = cc (m.2) in
       (sym place, b.0)
@@ -313,17 +313,17 @@ module _ {S : Type 0} (self : Identity S) where
 
   -- ---- any entry
 
-  stamped_added : (d : History) (m : StampedMessage) → Arises self d → Makes self d m → IsSteady self d → IsSteady self (Stamped m ∷ d)
-  stamped_added d (stamped.ViewChange m) a (view, e, is) k = subst (λ (y : StampedMessage). IsSteady self (Stamped y ∷ d)) is (stamped_steady self d (view_change self d view) _ _ _ _ (change_kept d view e k) k)
-  stamped_added d (stamped.NewView m) a (changes, e, is) k = subst (λ (y : StampedMessage). IsSteady self (Stamped y ∷ d)) is (stamped_steady self d (new_view self d changes) _ _ _ _ (announce_kept d changes e k) k)
-  stamped_added d (stamped.Enter m) a (n, e, is) k = subst (λ (y : StampedMessage). IsSteady self (Stamped y ∷ d)) is (stamped_steady self d (enter n) _ _ _ _ (enter_kept d n e k) k)
-  stamped_added d (stamped.Open m) a (e, plan, o, is) k = subst (λ (y : StampedMessage). IsSteady self (Stamped y ∷ d)) is (stamped_steady self d (opening e plan) _ _ _ _ (open_kept d a e plan o k) k)
-  stamped_added d (stamped.Join m) a (e, is) k = subst (λ (y : StampedMessage). IsSteady self (Stamped y ∷ d)) is (stamped_steady self d (join self d) _ _ _ _ (join_kept d a e k) k)
-  stamped_added d (stamped.Commit m) a (p, s, r, e, is) k = subst (λ (y : StampedMessage). IsSteady self (Stamped y ∷ d)) is (stamped_steady self d (commit self d p s r) _ _ _ _ (commit_kept d p s r e k) k)
-  stamped_added d (stamped.Prepare m) a (p, r, e, is) k = subst (λ (y : StampedMessage). IsSteady self (Stamped y ∷ d)) is (stamped_steady self d (prepare self d p r) _ _ _ _ (prepare_kept d p r e k) k)
-  stamped_added d (stamped.Checkpoint m) a (p, j, whole, is) k = subst (λ (y : StampedMessage). IsSteady self (Stamped y ∷ d)) is (stamped_steady self d (checkpoint self d p) _ _ _ _ (checkpoint_kept d p j whole k) k)
+  stamped_added : self.built.gates ≡ true → (d : History) (m : StampedMessage) → Arises self d → Makes self d m → IsSteady self d → IsSteady self (Stamped m ∷ d)
+  stamped_added on d (stamped.ViewChange m) a (view, e, is) k = subst (λ (y : StampedMessage). IsSteady self (Stamped y ∷ d)) is (stamped_steady self d (view_change self d view) _ _ _ _ (change_kept d view e k) k)
+  stamped_added on d (stamped.NewView m) a (changes, e, is) k = subst (λ (y : StampedMessage). IsSteady self (Stamped y ∷ d)) is (stamped_steady self d (new_view self d changes) _ _ _ _ (announce_kept d changes e k) k)
+  stamped_added on d (stamped.Enter m) a (n, e, is) k = subst (λ (y : StampedMessage). IsSteady self (Stamped y ∷ d)) is (stamped_steady self d (enter n) _ _ _ _ (enter_kept d n e k) k)
+  stamped_added on d (stamped.Open m) a (e, plan, o, is) k = subst (λ (y : StampedMessage). IsSteady self (Stamped y ∷ d)) is (stamped_steady self d (opening e plan) _ _ _ _ (open_kept on d a e plan o k) k)
+  stamped_added on d (stamped.Join m) a (e, is) k = subst (λ (y : StampedMessage). IsSteady self (Stamped y ∷ d)) is (stamped_steady self d (join self d) _ _ _ _ (join_kept on d a e k) k)
+  stamped_added on d (stamped.Commit m) a (p, s, r, e, is) k = subst (λ (y : StampedMessage). IsSteady self (Stamped y ∷ d)) is (stamped_steady self d (commit self d p s r) _ _ _ _ (commit_kept d p s r e k) k)
+  stamped_added on d (stamped.Prepare m) a (p, r, e, is) k = subst (λ (y : StampedMessage). IsSteady self (Stamped y ∷ d)) is (stamped_steady self d (prepare self d p r) _ _ _ _ (prepare_kept d p r e k) k)
+  stamped_added on d (stamped.Checkpoint m) a (p, j, whole, is) k = subst (λ (y : StampedMessage). IsSteady self (Stamped y ∷ d)) is (stamped_steady self d (checkpoint self d p) _ _ _ _ (checkpoint_kept d p j whole k) k)
 
-  pub steady : (d : History) → Arises self d → IsSteady self d
-  steady [] a = empty_steady self
-  steady (Stamped m ∷ d) a = stamped_added d m a.1 a.0 (steady d a.1)
-  steady (x ∷ d) a = other_steady self d x tt a.0 (steady d a.1)
+  pub steady : self.built.gates ≡ true → (d : History) → Arises self d → IsSteady self d
+  steady on [] a = empty_steady self
+  steady on (Stamped m ∷ d) a = stamped_added on d m a.1 a.0 (steady on d a.1)
+  steady on (x ∷ d) a = other_steady self on d x tt a.0 (steady on d a.1)

@@ -1,6 +1,6 @@
 -- A message that is not refused has passed each test of its kind.
 use Rattle.std.proofs.Common.{◌≡◌, ℕ, ◌+◌, Bool, true, false, ◌∷◌, refl, arith, Option, Some, None}
-use Rattle.std.specs.Prelude.{not, ◌||◌, ◌==◌, nat_lt, nat_le, is_some, is_none, option_map, option_and_then}
+use Rattle.std.specs.Prelude.{not, ◌&&◌, ◌||◌, ◌==◌, nat_lt, nat_le, is_some, is_none, option_map, option_and_then}
 use Rattle.std.specs.Bool.{then_some}
 use Rattle.std.specs.Option.{option_or}
 use Rattle.std.proofs.lemmas.Bool.{not-false, eqb-false, ltb-false, leb-false, lt-ltb}
@@ -19,8 +19,8 @@ use Rattle.mb_msg.specs.declared.stamped.Stamped.{Stamped as StampedMessage}
 use Rattle.mb_msg.specs.declared.stamped.Stamped.TheVariants as stamped
 use Rattle.mb_msg.specs.Stamps.{bare_of, ui_of}
 use Rattle.mb_model.specs.UsableLogs.{Fault}
-use Rattle.mb_model.specs.Outcomes.{Outcome}
-use Rattle.mb_model.specs.Outcomes as outcome
+use Rattle.mb_msg.specs.declared.event.Outcome.{Outcome}
+use Rattle.mb_msg.specs.declared.event.Outcome.TheVariants as outcome
 use Rattle.mb_model.specs.Histories.{Accepted, History, Identity, gate}
 use Rattle.mb_model.specs.Held.{whole_body, change_fault, wish_of}
 use Rattle.mb_model.specs.Stable.{low_of}
@@ -54,6 +54,10 @@ or_false : (a b : Bool) → (a || b) ≡ false → (a ≡ false) × (b ≡ false
 or_false false b e = (refl, e)
 or_false true b e = absurd cc
 
+permits_where : (gates permitted : Bool) → (gates && not permitted) ≡ false → gates ≡ true → permitted ≡ true
+permits_where true permitted e on = not-false _ e
+permits_where false permitted e on = absurd cc
+
 there_is : {A : Type 0} (o : Option A) → is_none o ≡ false → is_some o ≡ true
 there_is None e = absurd cc
 there_is (Some x) e = refl
@@ -68,7 +72,7 @@ module _ {S : Type 0} (self : Identity S) where
       let convicted : Option Outcome = option_map outcome.Convicted (conviction self d u) in
       let stale : Option Outcome = then_some (is_stale self d u) (outcome.Stale (next_of d u.host)) in
       let ahead : Option Outcome = then_some (is_ahead self d u) (outcome.Ahead (next_of d u.host)) in
-      let illegal : Option Outcome = then_some (not (is_permitted self d m)) (outcome.Illegal (rule_of (bare_of m))) in
+      let illegal : Option Outcome = then_some (self.built.gates && not (is_permitted self d m)) (outcome.Illegal (rule_of (bare_of m))) in
       let a = or_none bad_ui (option_or own_future (option_or convicted (option_or stale (option_or ahead illegal)))) e in
       let b = or_none own_future (option_or convicted (option_or stale (option_or ahead illegal))) a.1 in
       let c = or_none convicted (option_or stale (option_or ahead illegal)) b.1 in
@@ -76,10 +80,10 @@ module _ {S : Type 0} (self : Identity S) where
       let g = or_none ahead illegal f.1 in
       record {
         certified = not-false _ (then_none (is_bad_ui self m) outcome.BadUi a.0);
-        reached = then_none (is_own_future self d u) outcome.Idle b.0;
-        free = map_none outcome.Convicted (conviction self d u) c.0;
+        not_future = then_none (is_own_future self d u) outcome.Idle b.0;
+        not_convicted = map_none outcome.Convicted (conviction self d u) c.0;
         next = next_counter (gate d u.host).counter u.counter (then_none (is_stale self d u) _ f.0) (then_none (is_ahead self d u) _ g.0);
-        permitted = not-false _ (then_none (not (is_permitted self d m)) _ g.1);
+        permitted = permits_where self.built.gates (is_permitted self d m) (then_none (self.built.gates && not (is_permitted self d m)) _ g.1);
       }
 
   passes_body : (d : History) (pos : ℕ) (b : Body Request) → body_refusal self d pos b ≡ None → PassesBody self d pos b
@@ -92,7 +96,7 @@ module _ {S : Type 0} (self : Identity S) where
       let beyond : Option Outcome = then_some (is_beyond self d pos) (outcome.BeyondWindow (low_of self d)) in
       let a = or_none _ (only_where (is_of_view self d view) (option_or beyond (body_refusal self d pos b))) e in
       record {
-        reached = then_none (is_of_later_view self d view) _ a.0;
+        not_later = then_none (is_of_later_view self d view) _ a.0;
         within = λ there. then_none (is_beyond self d pos) _ (or_none beyond (body_refusal self d pos b) (where_none _ _ a.1 there)).0;
         shown = λ there. passes_body d pos b (or_none beyond (body_refusal self d pos b) (where_none _ _ a.1 there)).1;
       }
@@ -126,7 +130,7 @@ module _ {S : Type 0} (self : Identity S) where
   unfolding resend_refusal
   passes_resend d m e =
       let a = or_none (then_some (m.host == self.host) outcome.Idle) (then_some (not (has_news_for self d m)) outcome.Idle) e in
-      record { other = then_none (m.host == self.host) _ a.0; news = not-false _ (then_none (not (has_news_for self d m)) _ a.1) }
+      record { not_own = then_none (m.host == self.host) _ a.0; has_news = not-false _ (then_none (not (has_news_for self d m)) _ a.1) }
 
   pub passes_log : (m : Log) → log_refusal self m ≡ None → PassesLog self m
   unfolding log_refusal
@@ -142,7 +146,7 @@ module _ {S : Type 0} (self : Identity S) where
         floor = not-false _ (then_none (not (is_certified_floor self m.host m.floor)) _ a.0);
         stable = not-false _ (then_none (not (is_stable self.shape (valid self) m.stable)) _ b.0);
         evidence = not-false _ (then_none (not (is_certified_evidence self m.evidence)) _ c.0);
-        other = then_none (m.host == self.host) _ c.1;
+        not_own = then_none (m.host == self.host) _ c.1;
       }
 
   pub passes_request : (d : History) (r : Request) → request_refusal self d r ≡ None → PassesRequest self d r
@@ -164,7 +168,7 @@ module _ {S : Type 0} (self : Identity S) where
   pub passes_fetch : (d : History) (m : Fetch) → fetch_refusal self d m ≡ None → PassesFetch self d m
   passes_fetch d m e =
       let a = or_false (not (m.of == self.host)) (is_none (snapshot_of self d m.pos)) (then_none _ outcome.Idle e) in
-      record { asked = not-false _ a.0; there = there_is (snapshot_of self d m.pos) a.1 }
+      record { asked = not-false _ a.0; has_snapshot = there_is (snapshot_of self d m.pos) a.1 }
 
   digests_right : (o : Option ℕ) → wrong_digest o ≡ None → o ≡ None
   digests_right None e = refl
@@ -186,6 +190,6 @@ module _ {S : Type 0} (self : Identity S) where
         wanted = not-false _ (then_none (not (is_wanted self d m.pos)) _ a.0);
         list = not-false _ (then_none (not (is_list_right self d m)) _ b.0);
         parts = digests_right (wrong_part m.digests m.first m.parts) c.0;
-        new = then_none (are_all_held self d m) _ f.0;
+        not_held = then_none (are_all_held self d m) _ f.0;
         state = f.1;
       }

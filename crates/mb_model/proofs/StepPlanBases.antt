@@ -16,7 +16,7 @@ use Rattle.mb_msg.specs.declared.change.ChangeBody.{ChangeBody}
 use Rattle.mb_msg.specs.declared.change.ViewChange.{ViewChange}
 use Rattle.mb_msg.specs.declared.stamped.Shown.{Shown}
 use Rattle.mb_msg.specs.declared.stamped.Shown.TheVariants as shown
-use Rattle.mb_model.specs.UsableLogs.{bares, newest_first, floor_of, fault_from, is_sound_plan, log_fault}
+use Rattle.mb_model.specs.UsableLogs.{bares, newest_first, floor_of, fault_from, is_comparable_body, is_sound_plan, log_fault}
 use Rattle.mb_model.specs.Plans.{ShownLog, newest, body_base, base_shown, log_of, by_host, of_view, highest_view, stable_of, opening_bases, greatest_position, cert_at, no_base, all_bases, base_of, plan_in_order, plan_of, opened_view, same_view}
 use Rattle.mb_model.specs.Histories.{Identity}
 use Rattle.mb_model.specs.Held.{whole_body, change_fault, shown_log, logs_of, plan_from}
@@ -60,7 +60,7 @@ module _ (s : Shape) (secret : Bytes) (f : Claim → Bool) where
   -- ---- what one log shows
 
   base_stable : (b : Body OpenBody) (base end : ℕ) (plan : Bytes) → is_sound_plan s secret f base end plan b ≡ true → (c : StableCert) → body_base b ≡ Some c → IsStable c
-  base_stable (Whole b) base end plan sound c e = subst (λ (x : StableCert). IsStable x) (some_is b.stable c e) (and_parts (is_stable s f b.stable) _ sound).0
+  base_stable (Whole b) base end plan sound c e = subst (λ (x : StableCert). IsStable x) (some_is b.stable c e) (and_parts (is_stable s f b.stable) _ (and_parts (is_comparable_body s secret f base end b) _ sound).0).0
   base_stable (Short digest) base end plan sound c e = absurd cc
 
   shown_stable : (host stable : ℕ) (o : Floor) (l : List Shown) → AreSound s secret f host stable o l → (c : StableCert) → base_shown l ≡ Some c → IsStable c

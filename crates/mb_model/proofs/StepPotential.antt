@@ -1,6 +1,6 @@
 -- A number that each rule lowers, so that the rules come to an end. Here its definition, and the rules that order and execute requests.
 use Rattle.std.proofs.Common.{◌≡◌, ℕ, zero, suc, ◌+◌, ◌-◌, ◌*◌, ◌≤◌, ◌<◌, Bool, true, false, ◌&&◌, not, cond, List, [], ◌∷◌, length, take, refl, sym, ap, subst, ◌∙◌, inl, inr, ◌⊎◌, arith, eqb, max, Option, Some, None}
-use Rattle.std.specs.Prelude.{◌==◌, nat_lt, nat_le, option_map, if◌then◌else◌, ◌%◌, count_by, ◌^◌}
+use Rattle.std.specs.Prelude.{◌==◌, nat_lt, nat_le, option_map, if◌then◌else◌, ◌%◌, count_by}
 use Rattle.std.specs.List.{range_with_len}
 use Rattle.std.specs.Option.{option_or}
 use Rattle.std.proofs.lemmas.Bool.{and_parts, cases_Bool, eqb-true, eq-eqb, eqb-false, ltb-true, ltb-false, leb-true}
@@ -31,7 +31,7 @@ use Rattle.mb_model.specs.Histories.{Entry, Accepted, Stamped, Executed, History
 use Rattle.mb_model.specs.Held.{wish_of, quorum_wish, new_view_of, evidence_of, plan_held, plan_at, opened_by}
 use Rattle.mb_model.specs.Stable.{stable_of, low_of, learnt_in, further, log_floor, floor_counter, cut_by, floor_from, is_kept, checkpoint_in}
 use Rattle.mb_model.specs.OwnLog.{own_log, log_start, is_normal, has_room, is_unspent}
-use Rattle.mb_model.specs.Positions.{exec_of, vote_of, vote_by, vote_with, counts_opens, open_vote, open_vote_by, slot_vote, slot_of_open, slot_at, in_window, matching}
+use Rattle.mb_model.specs.Positions.{exec_of, vote_of, vote_by, vote_with, counts_opens, open_vote, open_vote_by, slot_vote, slot_of_open, slot_at, in_window, position_limit, counts_at, matching}
 use Rattle.mb_model.specs.Execution.{state_of}
 use Rattle.mb_model.specs.Sending.{Progress, signed, no_ui}
 use Rattle.mb_model.specs.Making.{present_parts, floors_under}
@@ -162,8 +162,9 @@ module _ {S : Type 0} (self : Identity S) where
   reached_now : (d : History) (e : Entry) (p : ℕ) → counts_votes e ≡ true → in_window self (e ∷ d) p ≡ true → p ≤ reach self (e ∷ d)
   unfolding reach
   reached_now d e p counts inside =
-      let a = and_parts (nat_lt (low_of self (e ∷ d)) p) (nat_le p (low_of self (e ∷ d) + span self.shape)) inside in
-      rw counts (leb-true p (low_of self (e ∷ d) + span self.shape) a.1)
+      let a = and_parts (nat_lt (low_of self (e ∷ d)) p) (nat_le p (low_of self (e ∷ d) + span self.shape) && nat_le p position_limit) inside in
+      let b = and_parts (nat_le p (low_of self (e ∷ d) + span self.shape)) (nat_le p position_limit) a.1 in
+      rw counts (leb-true p (low_of self (e ∷ d) + span self.shape) b.0)
 
   -- another host's vote lies within reach
   pub vote_within : (d : History) (h v p : ℕ) (x : Vote) → (h ≡ self.host → ⊥) → vote_of self d h v p ≡ Some x → p ≤ reach self d
@@ -171,15 +172,16 @@ module _ {S : Type 0} (self : Identity S) where
   vote_within [] h v p x other e = absurd cc
   vote_within (e ∷ d) h v p x other vote =
       let new : Option Vote = option_or (vote_by self.host e h v p) (open_vote_by self (e ∷ d) e h v p) in
-      elim (or_some (vote_of self d h v p) (if in_window self (e ∷ d) p then new else None) x vote) [
+      elim (or_some (vote_of self d h v p) (if counts_at self (e ∷ d) v p then new else None) x vote) [
         | inl before ↦ omega (arith, vote_within d h v p x other before, grown_reach d e)
         | inr now ↦
-            let t = if_some (in_window self (e ∷ d) p) new x now in
+            let t = if_some (counts_at self (e ∷ d) v p) new x now in
+            let inside = (and_parts (view_of self (e ∷ d) == v) (in_window self (e ∷ d) p) t.0).1 in
             elim (or_some (vote_by self.host e h v p) (open_vote_by self (e ∷ d) e h v p) x t.1) [
-              | inl said ↦ reached_now d e p (message_counts self.host e h v p x other said) t.0
+              | inl said ↦ reached_now d e p (message_counts self.host e h v p x other said) inside
               | inr opened ↦
-                  let o = if_some (counts_opens e) (open_vote self (e ∷ d) (opened_by (e ∷ d) h) (plan_at self (e ∷ d) v) v p) x opened in
-                  reached_now d e p (opens_count e o.0) t.0
+                  let o = if_some (counts_opens e) (open_vote (opened_by (e ∷ d) h) (plan_at self (e ∷ d) v) v p) x opened in
+                  reached_now d e p (opens_count e o.0) inside
             ]
       ]
 
@@ -350,7 +352,7 @@ module _ {S : Type 0} (self : Identity S) where
   pub execution_leaves : (p : ℕ) (r : Request) (x : Progress) → (slot : Slot) × (slot.pos ≡ p)
       × (((execute self p r x).history ≡ Executed slot ∷ x.history) ⊎ ((m : Checkpoint) × ((execute self p r x).history ≡ Stamped (signed self (Executed slot ∷ x.history) (stamped.Checkpoint m)) ∷ Executed slot ∷ x.history)))
   unfolding execute
-  execution_leaves p r x = elim (cases_Bool (p % interval self.shape == 0)) [
+  execution_leaves p r x = elim (cases_Bool (self.built.checkpoints && p % interval self.shape == 0)) [
     | inr between ↦ rw between (elim (cases_Bool (is_fresh (state_of self x.history) r)) [
       | inl fresh ↦ rw fresh (_, refl, inl refl)
       | inr again ↦ rw again (_, refl, inl refl)
@@ -396,13 +398,12 @@ module _ {S : Type 0} (self : Identity S) where
   unfolding prepare_enabled carry_out
   prepare_rule x p r e =
       let d : History = x.history in
-      let t = if_some (is_open self d && (is_primary self d && (in_window self d (next_position self d) && (nat_lt (next_position self d) (2 ^ 63) && has_room self d))))
+      let t = if_some (is_open self d && (is_primary self d && (in_window self d (next_position self d) && has_room self d)))
       (option_map (PrepareAt (next_position self d)) (unordered self d (range_with_len 0 (client_count self.shape)))) (PrepareAt p r) e in
-      let a = and_parts (is_open self d) (is_primary self d && (in_window self d (next_position self d) && (nat_lt (next_position self d) (2 ^ 63) && has_room self d))) t.0 in
-      let b = and_parts (is_primary self d) (in_window self d (next_position self d) && (nat_lt (next_position self d) (2 ^ 63) && has_room self d)) a.1 in
-      let c = and_parts (in_window self d (next_position self d)) (nat_lt (next_position self d) (2 ^ 63) && has_room self d) b.1 in
-      let f = and_parts (nat_lt (next_position self d) (2 ^ 63)) (has_room self d) c.1 in
-      prepare_lowers d (record { view = view_of self d; pos = p; body = Whole r; ui = no_ui }) f.1
+      let a = and_parts (is_open self d) (is_primary self d && (in_window self d (next_position self d) && has_room self d)) t.0 in
+      let b = and_parts (is_primary self d) (in_window self d (next_position self d) && has_room self d) a.1 in
+      let c = and_parts (in_window self d (next_position self d)) (has_room self d) b.1 in
+      prepare_lowers d (record { view = view_of self d; pos = p; body = Whole r; ui = no_ui }) c.1
 
   committed_slot : (d : History) (q p : ℕ) (r : Request) (x : Option KnownSlot) → if_committed self d q x ≡ Some (ExecuteAt p r)
       → (k : KnownSlot) × (q ≡ p) × (is_committed self d q k ≡ true)

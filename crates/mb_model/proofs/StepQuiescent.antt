@@ -1,6 +1,6 @@
 -- After each event of a host no rule is left undone.
 use Rattle.std.proofs.Common.{◌≡◌, ℕ, zero, suc, ◌+◌, Bool, true, false, ◌&&◌, ◌||◌, not, List, [], ◌∷◌, refl, ap, ◌∙◌, inl, inr, Option, Some, None}
-use Rattle.std.specs.Prelude.{is_none, ◌==◌, ◌^◌, if◌then◌else◌, nat_lt, nat_le, option_map, Result, Ok, Err}
+use Rattle.std.specs.Prelude.{is_none, ◌==◌, if◌then◌else◌, nat_le, option_map, Result, Ok, Err}
 use Rattle.std.specs.List.{range_with_len}
 use Rattle.std.proofs.lemmas.Bool.{cases_Bool}
 use Rattle.mb_base.specs.Shapes.{IsShape, quorum, tally, host_count, client_count}
@@ -17,14 +17,17 @@ use Rattle.mb_msg.specs.declared.transfer.StateMsg.{StateMsg}
 use Rattle.mb_msg.specs.declared.stamped.Stamped.{Stamped as StampedMessage}
 use Rattle.mb_msg.specs.declared.stamped.Stamped.TheVariants as stamped
 use Rattle.mb_msg.specs.Stamps.{ui_of}
+use Rattle.mb_msg.specs.Spelling.{kind_of}
 use Rattle.mb_msg.specs.Reading.{message_of}
-use Rattle.mb_model.specs.Outcomes.{Event, Outcome}
-use Rattle.mb_model.specs.Outcomes as outcome
+use Rattle.mb_msg.specs.declared.event.Event.{Event}
+use Rattle.mb_msg.specs.declared.event.Outcome.{Outcome}
+use Rattle.mb_msg.specs.declared.event.Event.TheVariants as event
+use Rattle.mb_msg.specs.declared.event.Outcome.TheVariants as outcome
 use Rattle.mb_model.specs.Histories.{History, Identity, origin, taken_of, view_of, is_open, is_primary}
 use Rattle.mb_model.specs.Held.{view_limit, quorum_wish, wish_of, new_view_of, evidence_of}
 use Rattle.mb_model.specs.Stable.{stable_of, low_of}
 use Rattle.mb_model.specs.OwnLog.{has_room, has_other_room}
-use Rattle.mb_model.specs.Positions.{exec_of, slot_in, slot_at, in_window}
+use Rattle.mb_model.specs.Positions.{exec_of, slot_in, slot_at, in_window, is_behind}
 use Rattle.mb_model.specs.Execution.{pending}
 use Rattle.mb_model.specs.Sending.{Progress, begin, note}
 use Rattle.mb_model.specs.KindChecks.{stamped_refusal}
@@ -33,8 +36,8 @@ use Rattle.mb_model.specs.Compared.{compared_in}
 use Rattle.mb_model.specs.EnabledRules.{Rule, Commit, Prepare, rule_where, next_rule, change_enabled, announce_enabled, enter_enabled, open_enabled, join_enabled, commit_enabled, execute_enabled, prepare_enabled, with_request, next_position, if_committed, unordered, IsQuiescent}
 use Rattle.mb_model.specs.CarriedOut.{run_rules, enough}
 use Rattle.mb_model.specs.Given.{Answer, closing, give_stamped, give_request, give_wish, give_resend, give_fetch, give_state, give_log, give}
-use Rattle.mb_model.specs.HostStep.{on_patience, on_nudge, on_bytes, is_behind, low_rose, with_fetch, finished, finished_where, transition, rules_follow, is_taken}
-use Rattle.mb_model.proofs.Options.{option_cases}
+use Rattle.mb_model.specs.HostStep.{on_message, if_built, on_patience, on_nudge, on_bytes, low_rose, with_fetch, finished, finished_where, transition, rules_follow, is_taken}
+use Rattle.mb_model.proofs.Options.{of_both, option_cases}
 use Rattle.mb_model.proofs.StepRounds.{none_left}
 use Rattle.mb_model.proofs.StepUnchanged.{closed_rules, dropped_rules}
 
@@ -145,16 +148,25 @@ module _ {S : Type 0} (self : Identity S) where
     | inr more ↦ rw more (λ e. absurd cc)
   ]
 
+  message_quiet : IsShape self.shape → (d : History) (m : Message) → IsQuiescent self d → IsQuiescent self (on_message self d m).left.history
+  message_quiet k d m q = elim (cases_Bool (self.built.kinds (kind_of m))) [
+    | inl acts ↦ rw acts (finish_quiet k _ _ d (give self m (begin d)) (give_leaves m (begin d) q))
+    | inr unbuilt ↦ rw unbuilt q
+  ]
+
   bytes_quiet : IsShape self.shape → (d : History) (r : Result Message ℕ) → IsQuiescent self d → IsQuiescent self (on_bytes self r d).left.history
-  bytes_quiet k d (Ok m) q = finish_quiet k _ _ d (give self m (begin d)) (give_leaves m (begin d) q)
+  bytes_quiet k d (Ok m) q = message_quiet k d m q
   bytes_quiet k d (Err at) q = q
+
+  signal_quiet : (d : History) (a : Answer) → IsQuiescent self d → Quiet a.left → IsQuiescent self (if_built self d a).left.history
+  signal_quiet d a q after = of_both (λ (o : Answer). IsQuiescent self o.left.history) self.built.signals a _ after q
 
   -- After each event no rule is left undone, where none was before.
   pub stays_quiescent : IsShape self.shape → (d : History) (e : Event) → IsQuiescent self d → IsQuiescent self (transition self d e).left.history
   unfolding transition
-  stays_quiescent k d (outcome.Given bytes) q = bytes_quiet k d (message_of self.shape bytes) q
-  stays_quiescent k d outcome.Patience q = finish_quiet k _ false d (on_patience self (begin d)) (patience_leaves (begin d) q)
-  stays_quiescent k d outcome.Nudge q = finished_quiet k true d (on_nudge self (begin d))
+  stays_quiescent k d (event.Given bytes) q = bytes_quiet k d (message_of self.shape bytes) q
+  stays_quiescent k d event.Patience q = signal_quiet d _ q (finish_quiet k _ false d (on_patience self (begin d)) (patience_leaves (begin d) q))
+  stays_quiescent k d event.Nudge q = signal_quiet d _ q (finished_quiet k true d (on_nudge self (begin d)))
 
   -- ---- the beginning
 
@@ -214,7 +226,7 @@ module _ {S : Type 0} (self : Identity S) where
 
   no_prepare : prepare_enabled self [] ≡ None
   unfolding prepare_enabled
-  no_prepare = ap (λ x. rule_where (is_open self [] && (is_primary self [] && (in_window self [] (next_position self []) && (nat_lt (next_position self []) (2 ^ 63) && has_room self [])))) (option_map (Prepare (next_position self [])) x)) (no_pending (range_with_len 0 (client_count self.shape))) ∙ none_branches _ None refl
+  no_prepare = ap (λ x. rule_where (is_open self [] && (is_primary self [] && (in_window self [] (next_position self []) && has_room self []))) (option_map (Prepare (next_position self [])) x)) (no_pending (range_with_len 0 (client_count self.shape))) ∙ none_branches _ None refl
 
   -- at first no rule is due
   pub begins_quiescent : IsQuiescent self []

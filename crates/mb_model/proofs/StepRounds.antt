@@ -1,6 +1,6 @@
 -- The rules come to an end: each of them lowers the potential, so after enough rounds none is enabled, whatever the history.
 use Rattle.std.proofs.Common.{◌≡◌, ℕ, zero, suc, ◌+◌, ◌-◌, ◌≤◌, ◌<◌, Bool, true, false, ◌&&◌, ◌||◌, not, cond, List, ◌∷◌, length, refl, sym, ap, subst, ◌∙◌, inl, inr, arith, eqb, max, Option, Some, None}
-use Rattle.std.specs.Prelude.{◌==◌, nat_lt, nat_le, option_map, option_and_then, if◌then◌else◌, count_by, ◌^◌}
+use Rattle.std.specs.Prelude.{◌==◌, nat_lt, nat_le, option_map, option_and_then, if◌then◌else◌, count_by}
 use Rattle.std.specs.List.{list_any, range_with_len}
 use Rattle.std.proofs.lemmas.Bool.{and_parts, cases_Bool, eqb-true, eq-eqb, eqb-false, ltb-true, ltb-false, leb-true, leb-false, lt-ltb, le-leb}
 use Rattle.std.proofs.lemmas.List.Sums.{sum_by-cons}
@@ -400,7 +400,7 @@ module _ {S : Type 0} (self : Identity S) where
   unfolding prepare_enabled
   lowers_prepare x rule e =
       let d : History = x.history in
-      let t = if_some (is_open self d && (is_primary self d && (in_window self d (next_position self d) && (nat_lt (next_position self d) (2 ^ 63) && has_room self d))))
+      let t = if_some (is_open self d && (is_primary self d && (in_window self d (next_position self d) && has_room self d)))
       (option_map (Prepare (next_position self d)) (unordered self d (range_with_len 0 (client_count self.shape)))) rule e in
       let m = map_some (Prepare (next_position self d)) (unordered self d (range_with_len 0 (client_count self.shape))) rule t.1 in
       let enabled : prepare_enabled self d ≡ Some (Prepare (next_position self d) m.0) = e ∙ ap (λ (r : Rule). Some r) (sym m.2) in

@@ -1,8 +1,8 @@
 -- What the rules leave arises: each stamped message is the one that an enabled rule makes, and each execution is at the next position.
 use Rattle.std.proofs.Common.{◌≡◌, ℕ, zero, suc, ◌+◌, ◌&&◌, ◌||◌, ◌∷◌, refl, sym, ap, subst, ◌∙◌, inl, inr, Option, Some, None}
-use Rattle.std.specs.Prelude.{◌==◌, ◌%◌, ◌^◌, nat_lt, nat_le, not, option_map}
+use Rattle.std.specs.Prelude.{◌==◌, ◌%◌, nat_lt, nat_le, not, option_map}
 use Rattle.std.specs.List.{range_with_len}
-use Rattle.std.proofs.lemmas.Bool.{cases_Bool}
+use Rattle.std.proofs.lemmas.Bool.{and_parts, cases_Bool}
 use Rattle.mb_base.specs.Shapes.{interval, client_count}
 use Rattle.mb_parts.specs.declared.request.Request.{Request}
 use Rattle.mb_parts.specs.declared.certificates.Evidence.{Evidence}
@@ -90,7 +90,7 @@ module _ {S : Type 0} (self : Identity S) where
   unfolding prepare_enabled carry_out
   carries_prepare x rule e a =
       let d : History = x.history in
-      let t = if_some (is_open self d && (is_primary self d && (in_window self d (next_position self d) && (nat_lt (next_position self d) (2 ^ 63) && has_room self d))))
+      let t = if_some (is_open self d && (is_primary self d && (in_window self d (next_position self d) && has_room self d)))
       (option_map (Prepare (next_position self d)) (unordered self d (range_with_len 0 (client_count self.shape)))) rule e in
       let m = map_some (Prepare (next_position self d)) (unordered self d (range_with_len 0 (client_count self.shape))) rule t.1 in
       subst (λ (r : Rule). Carries x r) m.2 ((next_position self d, m.0, e ∙ ap (λ (r : Rule). Some r) (sym m.2), refl), a)
@@ -98,10 +98,10 @@ module _ {S : Type 0} (self : Identity S) where
   -- ---- executing: a CHECKPOINT follows at once, or never
 
   interval_arises : (p : ℕ) (x : Progress) → JustExecuted self x.history p → Arisen self x → Arisen self (at_interval self p x)
-  interval_arises p x just a = elim (cases_Bool (p % interval self.shape == 0)) [
+  interval_arises p x just a = elim (cases_Bool (self.built.checkpoints && p % interval self.shape == 0)) [
     | inr between ↦ rw between a
     | inl whole ↦ rw whole (elim (cases_Bool (has_room self x.history)) [
-      | inl room ↦ rw room ((p, just, whole, refl), a)
+      | inl room ↦ rw room ((p, just, (and_parts self.built.checkpoints (p % interval self.shape == 0) whole).1, refl), a)
       | inr full ↦ rw full a
     ])
   ]

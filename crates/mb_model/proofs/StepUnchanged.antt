@@ -1,17 +1,18 @@
 -- A closed gate and dropped parts change nothing that a rule reads.
-use Rattle.std.proofs.Common.{◌≡◌, ℕ, ◌+◌, Bool, true, false, ◌&&◌, List, [], ◌∷◌, refl, ap, ◌∙◌, max, Option, Some, None}
+use Rattle.std.proofs.Common.{◌≡◌, ℕ, ◌+◌, Bool, true, false, ◌&&◌, List, [], ◌∷◌, refl, ap, ◌∙◌, map, Option, Some, None}
 use Rattle.std.specs.Prelude.{nat_le, if◌then◌else◌, option_map, option_and_then, filter, filter_map}
 use Rattle.std.specs.List.{range_with_len}
 use Rattle.std.specs.Option.{option_or}
+use Rattle.std.proofs.Math.Path.{fun_ext}
 use Rattle.mb_base.specs.Shapes.{host_count, client_count}
 use Rattle.mb_model.specs.declared.known.KnownSlot.{KnownSlot}
 use Rattle.mb_model.specs.Votes.{is_vote}
 use Rattle.mb_model.specs.Histories.{Closed, DroppedParts, History, Identity, origin, taken_of, stamped as all_stamped, view_of, is_open}
 use Rattle.mb_model.specs.Held.{wish_of, changes_of, new_view_of, evidence_of, plan_held, enter_of, evidence_for, evidence_in, evidence_with, answers, new_view_in_view}
 use Rattle.mb_model.specs.Stable.{stable_of, low_of, log_floor}
-use Rattle.mb_model.specs.Positions.{slot_vote, exec_of, in_window, slot_in, slot_at, vote_of}
+use Rattle.mb_model.specs.Positions.{slot_vote, exec_of, counts_at, slot_in, slot_at, vote_of}
 use Rattle.mb_model.specs.Execution.{pending}
-use Rattle.mb_model.specs.EnabledRules.{Execute, rule_where, next_position, number_of, change_enabled, announce_enabled, enter_enabled, open_enabled, join_enabled, commit_enabled, execute_enabled, prepare_enabled, next_rule, is_committed, if_committed, greatest_in_slots, window, unordered}
+use Rattle.mb_model.specs.EnabledRules.{Execute, rule_where, next_position, number_of, change_enabled, announce_enabled, enter_enabled, open_enabled, join_enabled, commit_enabled, execute_enabled, prepare_enabled, next_rule, is_committed, if_committed, greatest, greatest_in_slots, window, unordered}
 use Rattle.mb_model.proofs.StepPotential.{max_none, quorum_same, tally_same}
 
 -- nothing is added
@@ -88,9 +89,7 @@ module _ {S : Type 0} (self : Identity S) where
 
   greatest_same : (d e : History) → SameTables d e → (c : ℕ) (l : List ℕ) → greatest_in_slots self e c l ≡ greatest_in_slots self d c l
   unfolding greatest_in_slots
-  greatest_same d e s c [] = refl
-  greatest_same d e s c (p ∷ ps) = ap (λ x. max (number_of c (option_and_then (λ k. k.request) x)) (greatest_in_slots self e c ps)) (slot_same d e s p)
-      ∙ ap (λ x. max (number_of c (option_and_then (λ k. k.request) (slot_at self d p))) x) (greatest_same d e s c ps)
+  greatest_same d e s c l = ap (λ (f : ℕ → ℕ). greatest (map f l)) (fun_ext (λ p. ap (λ x. number_of c (option_and_then (λ k. k.request) x)) (slot_same d e s p)))
 
   unordered_same : (d e : History) → SameTables d e → (l : List ℕ) → unordered self e l ≡ unordered self d l
   unfolding unordered
@@ -134,8 +133,8 @@ module _ {S : Type 0} (self : Identity S) where
     stable = refl;
     floor = refl;
     exec = refl;
-    slots = λ v p. adds_none (slot_in self d v p) (in_window self (Closed h c ∷ d) p);
-    votes = λ g v p. adds_none (vote_of self d g v p) (in_window self (Closed h c ∷ d) p);
+    slots = λ v p. adds_none (slot_in self d v p) (counts_at self (Closed h c ∷ d) v p);
+    votes = λ g v p. adds_none (vote_of self d g v p) (counts_at self (Closed h c ∷ d) v p);
     pending = λ g. refl;
   })
 
@@ -154,7 +153,7 @@ module _ {S : Type 0} (self : Identity S) where
     stable = refl;
     floor = refl;
     exec = refl;
-    slots = λ v p. adds_none (slot_in self d v p) (in_window self (DroppedParts ∷ d) p);
-    votes = λ g v p. adds_none (vote_of self d g v p) (in_window self (DroppedParts ∷ d) p);
+    slots = λ v p. adds_none (slot_in self d v p) (counts_at self (DroppedParts ∷ d) v p);
+    votes = λ g v p. adds_none (vote_of self d g v p) (counts_at self (DroppedParts ∷ d) v p);
     pending = λ g. refl;
   })

@@ -1,5 +1,5 @@
 -- What each rule does, and how they are carried out: the next one, again and again, until none is enabled.
-use Rattle.std.specs.Prelude.{ℕ, zero, suc, ◌%◌, List, [], ◌∷◌, ◌++◌, Option, Some, None, if◌then◌else◌, ◌==◌}
+use Rattle.std.specs.Prelude.{ℕ, zero, suc, ◌%◌, List, [], ◌∷◌, ◌++◌, Option, Some, None, if◌then◌else◌, ◌==◌, ◌&&◌}
 use Rattle.mb_base.specs.Shapes.{Bytes, interval}
 use Rattle.mb_parts.specs.declared.request.Request.{Request}
 use Rattle.mb_msg.specs.declared.event.Slot.{Slot}
@@ -39,7 +39,7 @@ module _ {S : Type 0} (self : Identity S) where
   with_checkpoint pos x = if has_room self x.history then stamp self (checkpoint self x.history pos) x else x
 
   abbrev pub at_interval : ℕ → Progress → Progress
-  at_interval pos x = if pos % interval self.shape == 0 then with_checkpoint pos (note (state_strings x.history pos) x) else x
+  at_interval pos x = if self.built.checkpoints && pos % interval self.shape == 0 then with_checkpoint pos (note (state_strings x.history pos) x) else x
 
   unfoldable pub execute : ℕ → Request → Progress → Progress
   execute pos r x = at_interval pos (with_reply (slot_for x.history pos r) (with_slot (slot_for x.history pos r) x))

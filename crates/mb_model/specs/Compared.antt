@@ -1,10 +1,8 @@
 -- The strings of plans whose digests a step compares or stamps: exactly where a check comes to the comparison.
-use Rattle.std.specs.Prelude.{ℕ, ◌-◌, Bool, true, ◌&&◌, not, List, [], ◌∷◌, ◌++◌, length, nat_lt, ◌==◌, Option, Some, None, if◌then◌else◌, is_none}
-use Rattle.std.specs.List.{list_all}
+use Rattle.std.specs.Prelude.{ℕ, Bool, true, ◌&&◌, not, List, [], ◌∷◌, ◌++◌, ◌==◌, Option, Some, None, if◌then◌else◌, is_none}
 use Rattle.mb_base.specs.Shapes.{Bytes}
 use Rattle.mb_parts.specs.declared.floor.Floor.{Floor}
 use Rattle.mb_parts.specs.declared.certificates.Evidence.{Evidence}
-use Rattle.mb_parts.specs.Certificates.{is_stable}
 use Rattle.mb_msg.specs.declared.message.Body.{Body}
 use Rattle.mb_msg.specs.declared.message.Body.TheVariants.{Whole, Bare as Short}
 use Rattle.mb_msg.specs.declared.change.OpenBody.{OpenBody}
@@ -16,8 +14,7 @@ use Rattle.mb_msg.specs.declared.stamped.Shown.TheVariants as shown
 use Rattle.mb_msg.specs.declared.stamped.Stamped.{Stamped as StampedMessage}
 use Rattle.mb_msg.specs.declared.stamped.Stamped.TheVariants as stamped
 use Rattle.mb_msg.specs.Plans.{plan_text}
-use Rattle.mb_model.specs.Verified.{is_rightly_tagged}
-use Rattle.mb_model.specs.UsableLogs.{is_too_long, entry_fault, floor_of, floor_position}
+use Rattle.mb_model.specs.UsableLogs.{is_comparable_body, is_ill_founded, is_too_long, entry_fault, floor_of}
 use Rattle.mb_model.specs.Histories.{History, Identity}
 use Rattle.mb_model.specs.Held.{plan_from, is_current}
 use Rattle.mb_model.specs.GateChecks.{valid, identifier_refusal}
@@ -42,12 +39,8 @@ reaches_body (Some reason) = reason == 8
 module _ {S : Type 0} (self : Identity S) where
   -- ---- in a whole OPEN: where all that is asked before the digest holds
 
-  abbrev pub is_ready_to_compare : Evidence → OpenBody → Bool
-  is_ready_to_compare e b = is_stable self.shape (valid self) b.stable && (b.stable.pos == e.base
-      && (length b.requests == e.end - e.base && list_all (is_rightly_tagged self.secret) b.requests))
-
   abbrev pub compared_in_open : Evidence → OpenBody → List Bytes
-  compared_in_open e b = strings_where (is_ready_to_compare e b) (plan_text (record { base = b.stable; requests = b.requests }) ∷ [])
+  compared_in_open e b = strings_where (is_comparable_body self.shape self.secret (valid self) e.base e.end b) (plan_text (record { base = b.stable; requests = b.requests }) ∷ [])
 
   -- ---- in a VIEW_CHANGE: its entries up to the first that fails
 
@@ -66,8 +59,7 @@ module _ {S : Type 0} (self : Identity S) where
 
   -- What is asked before the entries holds.
   abbrev pub reaches_entries : ChangeBody → Bool
-  reaches_entries b = is_stable self.shape (valid self) b.stable
-      && (not (nat_lt b.stable.pos (floor_position b.floor)) && not (is_too_long self.shape self.secret (valid self) b.entries))
+  reaches_entries b = not (is_ill_founded self.shape self.secret (valid self) b) && not (is_too_long self.shape self.secret (valid self) b.entries)
 
   abbrev pub compared_in_body : ℕ → ChangeBody → List Bytes
   compared_in_body host b = strings_where (reaches_entries b)

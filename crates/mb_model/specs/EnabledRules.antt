@@ -1,18 +1,17 @@
 -- What follows in the same step: eight rules, of which the first that is enabled is next. Each asks for room in the own log for what it
 -- stamps; a rule without room is not enabled, and later ones may be.
-use Rattle.std.specs.Prelude.{◌≡◌, ℕ, ◌+◌, ◌^◌, Bool, ◌&&◌, ◌||◌, not, List, [], ◌∷◌, max, nat_lt, nat_le, ◌==◌, Option, Some, None, if◌then◌else◌, option_map, option_and_then}
+use Rattle.std.specs.Prelude.{◌≡◌, ℕ, ◌+◌, Bool, ◌&&◌, ◌||◌, not, List, [], ◌∷◌, map, max, nat_lt, nat_le, ◌==◌, Option, Some, None, if◌then◌else◌, option_map, option_and_then}
 use Rattle.std.specs.List.{range_with_len}
 use Rattle.std.specs.Option.{option_or}
 use Rattle.mb_base.specs.Shapes.{span, quorum, host_count, client_count}
-use Rattle.mb_usig.specs.Tags.{same_bytes}
 use Rattle.mb_parts.specs.declared.request.Request.{Request}
 use Rattle.mb_parts.specs.declared.certificates.Evidence.{Evidence}
 use Rattle.mb_parts.specs.Ordered.{end_of}
 use Rattle.mb_msg.specs.declared.change.ViewChange.{ViewChange}
 use Rattle.mb_msg.specs.declared.change.NewView.{NewView}
 use Rattle.mb_msg.specs.declared.change.Plan.{Plan}
-use Rattle.mb_msg.specs.Plans.{plan_end, plan_digest}
 use Rattle.mb_model.specs.declared.known.KnownSlot.{KnownSlot}
+use Rattle.mb_model.specs.Plans.{describe}
 use Rattle.mb_model.specs.Histories.{History, Identity, here, view_of, is_open, is_entered, is_changing, is_primary}
 use Rattle.mb_model.specs.Held.{quorum_wish, chosen, new_view_of, new_view_in_view, evidence_view, evidence_of, evidence_for, plan_at}
 use Rattle.mb_model.specs.Stable.{low_of}
@@ -41,7 +40,7 @@ new_view_number (Some n) = n.view
 
 -- Evidence is of a plan: it names its base, end and digest.
 abbrev pub is_evidence_of : Evidence → Plan → Bool
-is_evidence_of e plan = e.base == plan.base.pos && (e.end == plan_end plan && same_bytes e.plan (plan_digest plan))
+is_evidence_of e plan = describe e.base e.end e.plan plan
 
 abbrev pub open_with : Option Evidence → Option Plan → Option Rule
 open_with (Some e) (Some plan) = rule_where (is_evidence_of e plan) (Some (Open e plan))
@@ -56,8 +55,13 @@ abbrev pub number_of : ℕ → Option Request → ℕ
 number_of c None = 0
 number_of c (Some r) = if r.client == c then r.seq else 0
 
+-- the greatest of these, 0 where there is none
+unfoldable pub greatest : List ℕ → ℕ
+greatest [] = 0
+greatest (n ∷ ns) = max n (greatest ns)
+
 module _ {S : Type 0} (self : Identity S) where
-  -- ---- a greater view is asked for by f+1 hosts, announced, or open for f+1 hosts
+  -- ---- a greater view is asked for by f+1 hosts, or announced, or f+1 hosts are known to take part in the change to it
 
   -- the greatest of them
   abbrev pub target : History → ℕ
@@ -125,10 +129,13 @@ module _ {S : Type 0} (self : Identity S) where
 
   -- ---- the primary has a request to order
 
-  -- the greatest number of a client among the slots of these positions
+  -- the number of a client's request in the slot of a position
+  abbrev pub number_in_slot : History → ℕ → ℕ → ℕ
+  number_in_slot d c p = number_of c (option_and_then (λ k. k.request) (slot_at self d p))
+
+  -- the greatest of them at these positions
   unfoldable pub greatest_in_slots : History → ℕ → List ℕ → ℕ
-  greatest_in_slots d c [] = 0
-  greatest_in_slots d c (p ∷ ps) = max (number_of c (option_and_then (λ k. k.request) (slot_at self d p))) (greatest_in_slots d c ps)
+  greatest_in_slots d c positions = greatest (map (number_in_slot d c) positions)
 
   -- the positions of the window
   abbrev pub window : History → List ℕ
@@ -140,7 +147,7 @@ module _ {S : Type 0} (self : Identity S) where
   unordered d (c ∷ cs) = option_or (if_above (greatest_in_slots d c (window d)) (pending self d c)) (unordered d cs)
 
   unfoldable pub prepare_enabled : History → Option Rule
-  prepare_enabled d = rule_where (is_open self d && (is_primary self d && (in_window self d (next_position d) && (nat_lt (next_position d) (2 ^ 63) && has_room self d))))
+  prepare_enabled d = rule_where (is_open self d && (is_primary self d && (in_window self d (next_position d) && has_room self d)))
       (option_map (Prepare (next_position d)) (unordered d (range_with_len 0 (client_count self.shape))))
 
   -- ---- the first that is enabled

@@ -10,7 +10,7 @@ use Rattle.mb_model.specs.Service.{Served, served, start, is_fresh}
 use Rattle.mb_model.specs.States.{parts_of, restored, part_count}
 use Rattle.mb_model.specs.Histories.{Accepted, Executed, Installed, DroppedParts, Nudged, History, Identity}
 use Rattle.mb_model.specs.Stable.{low_of}
-use Rattle.mb_model.specs.Positions.{exec_of}
+use Rattle.mb_model.specs.Positions.{is_behind}
 
 -- ---- requests and parts, one by one
 
@@ -22,14 +22,6 @@ if_above seq (Some r) = if nat_lt seq r.seq then Some r else None
 -- a part, where a STATE has it
 abbrev pub part_in : StateMsg → ℕ → Option Bytes
 part_in m i = if nat_le m.first i then slice_get m.parts (i - m.first) else None
-
--- A part of the state at a position: the first that came counts, until all are dropped or installed.
-unfoldable pub part_of : History → ℕ → ℕ → Option Bytes
-part_of [] pos i = None
-part_of (Accepted (message.State m) ∷ d) pos i = option_or (part_of d pos i) (if m.pos == pos then part_in m i else None)
-part_of (DroppedParts ∷ d) pos i = None
-part_of (Installed p parts ∷ d) pos i = None
-part_of (_ ∷ d) pos i = part_of d pos i
 
 module _ {S : Type 0} (self : Identity S) where
   -- ---- the state and the client table
@@ -75,6 +67,15 @@ module _ {S : Type 0} (self : Identity S) where
 
   -- ---- the parts of the state at the stable position that were fetched
 
+  -- A part of the state at a position, where this was the stable one as the part came: the first that came counts, until all are dropped or
+  -- installed.
+  unfoldable pub part_of : History → ℕ → ℕ → Option Bytes
+  part_of [] pos i = None
+  part_of (Accepted (message.State m) ∷ d) pos i = option_or (part_of d pos i) (if m.pos == pos && low_of self d == pos then part_in m i else None)
+  part_of (DroppedParts ∷ d) pos i = None
+  part_of (Installed p parts ∷ d) pos i = None
+  part_of (_ ∷ d) pos i = part_of d pos i
+
   abbrev pub part_held : History → ℕ → Option Bytes
   part_held d i = part_of d (low_of self d) i
 
@@ -91,8 +92,8 @@ module _ {S : Type 0} (self : Identity S) where
   abbrev pub next_host : ℕ → ℕ
   next_host h = if (h + 1) % host_count self.shape == self.host then (h + 2) % host_count self.shape else (h + 1) % host_count self.shape
 
-  -- At first the one behind this host. Each Nudge while the stable position is above the last executed one goes on to the next.
+  -- At first the one that follows this host. Each Nudge while this host is behind goes on to the next.
   unfoldable pub asked_host : History → ℕ
   asked_host [] = (self.host + 1) % host_count self.shape
-  asked_host (Nudged ∷ d) = if nat_lt (exec_of d) (low_of self d) then next_host (asked_host d) else asked_host d
+  asked_host (Nudged ∷ d) = if is_behind self d then next_host (asked_host d) else asked_host d
   asked_host (_ ∷ d) = asked_host d

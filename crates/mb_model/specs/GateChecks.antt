@@ -12,8 +12,8 @@ use Rattle.mb_parts.specs.Ordered.{permits}
 use Rattle.mb_msg.specs.declared.stamped.Stamped.{Stamped as StampedMessage}
 use Rattle.mb_msg.specs.Stamps.{bare_of, ui_of}
 use Rattle.mb_model.specs.Verified.{verifies}
-use Rattle.mb_model.specs.Outcomes.{Outcome}
-use Rattle.mb_model.specs.Outcomes as outcome
+use Rattle.mb_msg.specs.declared.event.Outcome.{Outcome}
+use Rattle.mb_msg.specs.declared.event.Outcome.TheVariants as outcome
 use Rattle.mb_model.specs.Histories.{History, Identity, gate, origin, taken_of, closed_at, counter_of}
 use Rattle.mb_model.specs.Sending.{next_of}
 
@@ -70,7 +70,7 @@ module _ {S : Type 0} (self : Identity S) where
       option_or (option_map outcome.Convicted (conviction d (ui_of m)))
       (option_or (then_some (is_stale d (ui_of m)) (outcome.Stale (next_of d (ui_of m).host)))
       (option_or (then_some (is_ahead d (ui_of m)) (outcome.Ahead (next_of d (ui_of m).host)))
-      (then_some (not (is_permitted d m)) (outcome.Illegal (rule_of (bare_of m))))))
+      (then_some (self.built.gates && not (is_permitted d m)) (outcome.Illegal (rule_of (bare_of m))))))
 
   -- before its kind is looked at
   unfoldable pub identifier_refusal : History → StampedMessage → Option Outcome

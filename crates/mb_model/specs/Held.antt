@@ -49,7 +49,7 @@ module _ {S : Type 0} (self : Identity S) where
   abbrev pub is_current : History → ℕ → Bool
   is_current d view = nat_le (view_of self d) view
 
-  -- why a whole VIEW_CHANGE isn't usable
+  -- why a VIEW_CHANGE isn't usable, where it is whole
   abbrev pub change_fault : ViewChange → Option Fault
   change_fault m = option_and_then (log_fault self.shape self.secret (verifies self.secret) m.ui.host m.view m.ui.counter) (whole_body m.body)
 
@@ -79,11 +79,11 @@ module _ {S : Type 0} (self : Identity S) where
 
   -- ---- VIEW_CHANGEs
 
-  -- one that is stored: a whole one of another host to a view that is current, and an own one that is usable. (That another's is usable was
-  -- seen as it was accepted.)
+  -- one that is stored, always whole: of another host one to a view that is current, and an own one that is usable. (That another's is usable
+  -- was seen as it was accepted.)
   abbrev pub change_in : History → Entry → Option ViewChange
   change_in d (Accepted (message.ViewChange m)) = if is_whole m.body && is_current d m.view then Some m else None
-  change_in d (Stamped (stamped.ViewChange m)) = if is_none (change_fault m) then Some m else None
+  change_in d (Stamped (stamped.ViewChange m)) = if is_whole m.body && is_none (change_fault m) then Some m else None
   change_in d _ = None
 
   -- A host's newer one takes the place of its earlier one, and goes last.

@@ -13,9 +13,10 @@ use Rattle.mb_msg.specs.declared.stamped.Stamped.{Stamped as StampedMessage}
 use Rattle.mb_msg.specs.Stamps.{bare_of, ui_of, as_stamped}
 use Rattle.mb_model.specs.Service.{Machine}
 use Rattle.mb_model.specs.States.{Snapshots}
+use Rattle.mb_model.specs.Built.{Built}
 
 pub data Entry : Type 0 where
-  Accepted : Message → Entry  -- a given message, in the form in which it came; of a LOG, what stands before its entries
+  Accepted : Message → Entry  -- a given message, in the form in which it came; of a LOG, only what stands before its entries is read from it
   Stamped : StampedMessage → Entry  -- by this host's USIG, whole
   Jumped : ℕ → Floor → Entry  -- the gate of a host, to a floor
   Closed : ℕ → ℕ → Entry  -- the gate of a host, at a counter
@@ -28,8 +29,9 @@ pub data Entry : Type 0 where
 abbrev pub History : Type 0
 History = List Entry
 
--- which host this is, and what it was made with
+-- which host this is, what it was made with, and what is built of it
 pub record Identity (S : Type 0) : Type 0 where
+  pub built : Built
   pub shape : Shape
   pub host : ℕ
   pub secret : Bytes
@@ -93,7 +95,7 @@ floors_with h at (Jumped g floor) said floors = if g == h then floor ∷ [] else
 floors_with h at e (Some (bare.Checkpoint pos state digest)) floors = at ∷ floors
 floors_with h at e said floors = floors
 
--- where the gate of a host stood after each CHECKPOINT since its last jump, newest first
+-- where the gate of a host stood after each CHECKPOINT since its last jump, newest first; the floor of that jump is the first of them
 unfoldable pub gate_floors : History → ℕ → List Floor
 gate_floors [] h = []
 gate_floors (e ∷ d) h = floors_with h (gate (e ∷ d) h) e (by_host h (stamped_in e)) (gate_floors d h)

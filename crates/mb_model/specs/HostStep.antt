@@ -2,13 +2,16 @@
 use Rattle.std.specs.Prelude.{ℕ, Bool, true, false, ◌&&◌, ◌||◌, List, [], ◌∷◌, nat_lt, ◌==◌, Result, Ok, Err, if◌then◌else◌, is_none}
 use Rattle.mb_msg.specs.declared.message.Message.{Message}
 use Rattle.mb_msg.specs.declared.message.Message.TheVariants as message
+use Rattle.mb_msg.specs.Spelling.{kind_of}
 use Rattle.mb_msg.specs.Reading.{message_of}
-use Rattle.mb_model.specs.Outcomes.{Event, Outcome}
-use Rattle.mb_model.specs.Outcomes as outcome
+use Rattle.mb_msg.specs.declared.event.Event.{Event}
+use Rattle.mb_msg.specs.declared.event.Outcome.{Outcome}
+use Rattle.mb_msg.specs.declared.event.Event.TheVariants as event
+use Rattle.mb_msg.specs.declared.event.Outcome.TheVariants as outcome
 use Rattle.mb_model.specs.Histories.{LostPatience, Nudged, History, Identity, view_of}
 use Rattle.mb_model.specs.Held.{wish_of, view_limit}
 use Rattle.mb_model.specs.Stable.{low_of}
-use Rattle.mb_model.specs.Positions.{exec_of}
+use Rattle.mb_model.specs.Positions.{is_behind}
 use Rattle.mb_model.specs.Execution.{asked_host}
 use Rattle.mb_model.specs.Sending.{Progress, begin, write, send, to_all, to_host}
 use Rattle.mb_model.specs.Making.{wish, resend, fetch}
@@ -35,16 +38,13 @@ module _ {S : Type 0} (self : Identity S) where
 
   -- ---- the FETCH at the end of a step
 
-  -- The stable position is above the last executed one.
-  abbrev pub is_behind : History → Bool
-  is_behind d = nat_lt (exec_of d) (low_of self d)
-
   abbrev pub low_rose : History → History → Bool
   low_rose before d = nat_lt (low_of self before) (low_of self d)
 
-  -- While the host is behind it asks the next host for state: behind a Nudge or a STATE, and where the stable position rose in this step.
+  -- While the host is behind it asks for state: in the step of a Nudge or of a STATE, and where the stable position rose in this step. It asks
+  -- the host whose turn it is, which a Nudge alone passes on.
   abbrev pub with_fetch : Bool → History → Progress → Progress
-  with_fetch asks before x = if is_behind x.history && (asks || low_rose before x.history) then send (to_host (asked_host self x.history) (fetch self x.history)) x else x
+  with_fetch asks before x = if is_behind self x.history && (asks || low_rose before x.history) then send (to_host (asked_host self x.history) (fetch self x.history)) x else x
 
   -- ---- what follows an event
 
@@ -76,7 +76,7 @@ module _ {S : Type 0} (self : Identity S) where
   after_message m d a = finished_where (rules_follow a.outcome m) (asks_on m) d a
 
   abbrev pub on_message : History → Message → Answer
-  on_message d m = after_message m d (give self m (begin d))
+  on_message d m = if self.built.kinds (kind_of m) then after_message m d (give self m (begin d)) else answer (outcome.Unbuilt (kind_of m)) (begin d)
 
   abbrev pub on_bytes : Result Message ℕ → History → Answer
   on_bytes (Err at) d = answer (outcome.Malformed at) (begin d)
@@ -85,10 +85,13 @@ module _ {S : Type 0} (self : Identity S) where
   abbrev pub after_patience : History → Answer → Answer
   after_patience d a = finished_where (is_taken a.outcome) false d a
 
+  abbrev pub if_built : History → Answer → Answer
+  if_built d a = if self.built.signals then a else answer outcome.Idle (begin d)
+
   unfoldable pub transition : History → Event → Answer
-  transition d (outcome.Given bytes) = on_bytes (message_of self.shape bytes) d
-  transition d outcome.Patience = after_patience d (on_patience (begin d))
-  transition d outcome.Nudge = finished true d (on_nudge (begin d))
+  transition d (event.Given bytes) = on_bytes (message_of self.shape bytes) d
+  transition d event.Patience = if_built d (after_patience d (on_patience (begin d)))
+  transition d event.Nudge = if_built d (finished true d (on_nudge (begin d)))
 
   -- what these events leave, the last of them first
   unfoldable pub after : List Event → History

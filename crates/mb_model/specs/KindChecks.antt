@@ -3,7 +3,6 @@ use Rattle.std.specs.Prelude.{ℕ, ◌+◌, Bool, true, false, ◌&&◌, not, Li
 use Rattle.std.specs.Bool.{then_some}
 use Rattle.std.specs.Option.{option_or}
 use Rattle.mb_base.specs.Shapes.{span}
-use Rattle.mb_usig.specs.Tags.{same_bytes}
 use Rattle.mb_parts.specs.declared.request.Request.{Request}
 use Rattle.mb_parts.specs.declared.certificates.Evidence.{Evidence}
 use Rattle.mb_msg.specs.declared.message.Body.{Body}
@@ -15,11 +14,11 @@ use Rattle.mb_msg.specs.declared.change.NewView.{NewView}
 use Rattle.mb_msg.specs.declared.change.Plan.{Plan}
 use Rattle.mb_msg.specs.declared.stamped.Stamped.{Stamped as StampedMessage}
 use Rattle.mb_msg.specs.declared.stamped.Stamped.TheVariants as stamped
-use Rattle.mb_msg.specs.Plans.{plan_end, plan_digest}
 use Rattle.mb_model.specs.Verified.{is_rightly_tagged}
 use Rattle.mb_model.specs.UsableLogs.{Fault, is_plan_body}
-use Rattle.mb_model.specs.Outcomes.{Outcome}
-use Rattle.mb_model.specs.Outcomes as outcome
+use Rattle.mb_model.specs.Plans.{describe}
+use Rattle.mb_msg.specs.declared.event.Outcome.{Outcome}
+use Rattle.mb_msg.specs.declared.event.Outcome.TheVariants as outcome
 use Rattle.mb_model.specs.Histories.{History, Identity, view_of}
 use Rattle.mb_model.specs.Held.{whole_body, plan_from, change_fault, is_current}
 use Rattle.mb_model.specs.Stable.{low_of}
@@ -92,7 +91,7 @@ module _ {S : Type 0} (self : Identity S) where
 
   -- It has base, end and digest of the plan.
   abbrev pub announces : NewView → Plan → Bool
-  announces m plan = m.base == plan.base.pos && (m.end == plan_end plan && same_bytes m.plan (plan_digest plan))
+  announces m plan = describe m.base m.end m.plan plan
 
   -- 255 and 11 where it announces another plan than that of its members
   unfoldable pub new_view_fault : NewView → NewViewBody → Option Fault

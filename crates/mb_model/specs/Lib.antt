@@ -1,11 +1,5 @@
 pub mod Service
-pub mod History
 pub mod Votes
-pub mod Slots
-pub mod Steps
-pub mod Checks
-pub mod Rules
-pub mod Transition
 pub mod Quorums
 pub mod Verified
 pub mod Committed
@@ -14,7 +8,7 @@ pub mod Plans
 pub mod Agreement
 pub mod ViewChangeRecord
 pub mod CarriedLogs
-pub mod Outcomes
+pub mod Built
 pub mod OtherTags
 pub mod States
 pub mod Histories
@@ -37,3 +31,4 @@ pub mod HostStep
 pub mod Clients
 pub mod NothingUndone
 pub mod OwnLists
+pub mod EarlyHistories

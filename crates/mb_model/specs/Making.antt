@@ -42,7 +42,7 @@ abbrev pub first_fitting : List Bytes → List Bytes
 first_fitting [] = []
 first_fitting (p ∷ ps) = p ∷ fitting (length p) ps
 
--- a host's floor, where all that it voted for lies at or below the position
+-- a host's floor, where all that it voted for or joined at lies at or below the position
 abbrev pub if_covered : ℕ → Option Floor → Option Floor
 if_covered pos None = None
 if_covered pos (Some f) = if nat_le f.top pos then Some f else None

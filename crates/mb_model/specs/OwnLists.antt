@@ -7,7 +7,7 @@ use Rattle.mb_parts.specs.Certificates.{inner_valid}
 use Rattle.mb_parts.specs.Ordered.{initial_floor, is_ordered, floor_after}
 use Rattle.mb_msg.specs.declared.stamped.Stamped.{Stamped as StampedMessage}
 use Rattle.mb_msg.specs.Stamps.{bare_of, ui_of}
-use Rattle.mb_model.specs.Outcomes.{Event}
+use Rattle.mb_msg.specs.declared.event.Event.{Event}
 use Rattle.mb_model.specs.Histories.{History, Identity, origin, taken_of, gate as gate_of, stamped, said}
 use Rattle.mb_model.specs.GateChecks.{valid}
 use Rattle.mb_model.specs.HostStep.{after}
@@ -36,9 +36,10 @@ module _ {S : Type 0} (self : Identity S) where
   AreNumbered [] = Unit {0}
   AreNumbered (m ∷ l) = (ui_of m ≡ own_ui (length l + 1) (bare_of m)) × AreNumbered l
 
--- For each service and each host, whatever it was given. No premise on faulty hosts, on forging, on the grammar or on the shape.
+-- For each service and each host that asks what may stand where, whatever it was given. No premise on faulty hosts, on forging, on the
+-- grammar or on the shape.
 pub record OwnLists (S : Type 0) : Type 0 where
   -- The gate for its own messages stands where its list leads.
-  pub gate : (self : Identity S) (events : List Event) → gate_of (after self events) self.host ≡ floor_after initial_floor (said (after self events))
-  pub list : (self : Identity S) (events : List Event) → IsOwnList self (after self events)
-  pub numbered : (self : Identity S) (events : List Event) → AreNumbered self (stamped (after self events))
+  pub gate : (self : Identity S) → self.built.gates ≡ true → (events : List Event) → gate_of (after self events) self.host ≡ floor_after initial_floor (said (after self events))
+  pub list : (self : Identity S) → self.built.gates ≡ true → (events : List Event) → IsOwnList self (after self events)
+  pub numbered : (self : Identity S) → (events : List Event) → AreNumbered self (stamped (after self events))

@@ -29,10 +29,10 @@ module _ {S : Type 0} (self : Identity S) where
   -- its sender, and the message may stand there.
   pub record PassesGate (d : History) (m : StampedMessage) : Type 0 where
     pub certified : valid self (stamp_claim m) ≡ true
-    pub reached : is_own_future self d (ui_of m) ≡ false
-    pub free : conviction self d (ui_of m) ≡ None
+    pub not_future : is_own_future self d (ui_of m) ≡ false
+    pub not_convicted : conviction self d (ui_of m) ≡ None
     pub next : (ui_of m).counter ≡ (gate d (ui_of m).host).counter + 1
-    pub permitted : is_permitted self d m ≡ true
+    pub permitted : self.built.gates ≡ true → is_permitted self d m ≡ true
 
   -- A request came whole, with the tag of its client, or its position is executed.
   abbrev pub PassesBody : History → ℕ → Body Request → Type 0
@@ -41,7 +41,7 @@ module _ {S : Type 0} (self : Identity S) where
 
   -- It is of no later view; in the host's view it is not beyond the window, and its body passes.
   pub record PassesVote (d : History) (view pos : ℕ) (body : Body Request) : Type 0 where
-    pub reached : is_of_later_view self d view ≡ false
+    pub not_later : is_of_later_view self d view ≡ false
     pub within : is_of_view self d view ≡ true → is_beyond self d pos ≡ false
     pub shown : is_of_view self d view ≡ true → PassesBody d pos body
 
@@ -72,26 +72,26 @@ module _ {S : Type 0} (self : Identity S) where
     pub above : nat_lt (wish_of self d m.host) m.view ≡ true
 
   pub record PassesResend (d : History) (m : Resend) : Type 0 where
-    pub other : (m.host == self.host) ≡ false
-    pub news : has_news_for self d m ≡ true
+    pub not_own : (m.host == self.host) ≡ false
+    pub has_news : has_news_for self d m ≡ true
 
   -- what stands before its entries
   pub record PassesLog (m : Log) : Type 0 where
     pub floor : is_certified_floor self m.host m.floor ≡ true
     pub stable : is_stable self.shape (valid self) m.stable ≡ true
     pub evidence : is_certified_evidence self m.evidence ≡ true
-    pub other : (m.host == self.host) ≡ false
+    pub not_own : (m.host == self.host) ≡ false
 
   pub record PassesFetch (d : History) (m : Fetch) : Type 0 where
     pub asked : (m.of == self.host) ≡ true
-    pub there : is_some (snapshot_of self d m.pos) ≡ true
+    pub has_snapshot : is_some (snapshot_of self d m.pos) ≡ true
 
   -- Its parts are wanted, all have the certified digests, and not all were held.
   pub record PassesState (d : History) (m : StateMsg) : Type 0 where
     pub wanted : is_wanted self d m.pos ≡ true
     pub list : is_list_right self d m ≡ true
     pub parts : wrong_part m.digests m.first m.parts ≡ None
-    pub new : are_all_held self d m ≡ false
+    pub not_held : are_all_held self d m ≡ false
     pub state : bad_state self (Accepted (message.State m) ∷ d) ≡ None
 
   -- ---- each kind: a REPLY or a STOP is never accepted

@@ -1,8 +1,9 @@
 -- What f+1 usable logs leave to the next view: a search over all the votes that they show.
-use Rattle.std.specs.Prelude.{ℕ, zero, suc, ◌+◌, ◌-◌, Bool, false, List, [], ◌∷◌, ◌++◌, map, max, nat_lt, nat_le, ◌==◌, Option, Some, None, if◌then◌else◌, slice_get, option_map, filter, filter_map, unwrap_or, replicate}
+use Rattle.std.specs.Prelude.{ℕ, zero, suc, ◌+◌, ◌-◌, Bool, false, ◌&&◌, List, [], ◌∷◌, ◌++◌, map, max, nat_lt, nat_le, ◌==◌, Option, Some, None, if◌then◌else◌, slice_get, option_map, filter, filter_map, unwrap_or, replicate}
 use Rattle.std.specs.List.{range_with_len}
-use Rattle.mb_base.specs.Shapes.{host_count, span}
+use Rattle.mb_base.specs.Shapes.{Bytes, host_count, span}
 use Rattle.mb_base.specs.declared.shape.Shape.{Shape}
+use Rattle.mb_usig.specs.Tags.{same_bytes}
 use Rattle.mb_parts.specs.declared.floor.Floor.{Floor}
 use Rattle.mb_parts.specs.declared.certificates.FloorCert.{FloorCert}
 use Rattle.mb_parts.specs.declared.certificates.StableCert.{StableCert}
@@ -16,6 +17,7 @@ use Rattle.mb_msg.specs.declared.change.ChangeBody.{ChangeBody}
 use Rattle.mb_msg.specs.declared.change.Plan.{Plan}
 use Rattle.mb_msg.specs.declared.stamped.Shown.{Shown}
 use Rattle.mb_msg.specs.declared.stamped.Shown.TheVariants as shown
+use Rattle.mb_msg.specs.Plans.{plan_end, plan_digest}
 use Rattle.mb_model.specs.UsableLogs.{newest_first}
 
 -- a log that was shown, and whose it is
@@ -26,6 +28,10 @@ pub record ShownLog : Type 0 where
 -- a vote that a log shows: the primary's counter, and the request
 abbrev pub ShownVote : Type 0
 ShownVote = ℕ × Request
+
+-- Base, end and digest are those of a plan.
+abbrev pub describe : ℕ → ℕ → Bytes → Plan → Bool
+describe base end digest plan = base == plan.base.pos && (end == plan_end plan && same_bytes digest (plan_digest plan))
 
 -- ---- one log, its entries newest first
 

@@ -1,5 +1,5 @@
 -- What a host knows of the positions of its view: the last executed one, the window above the stable one, slots and votes.
-use Rattle.std.specs.Prelude.{ℕ, ◌+◌, ◌-◌, Bool, true, false, ◌&&◌, List, [], ◌∷◌, nat_lt, nat_le, ◌==◌, Option, Some, None, if◌then◌else◌, option_map, option_and_then, slice_get}
+use Rattle.std.specs.Prelude.{ℕ, ◌+◌, ◌-◌, ◌^◌, Bool, true, false, ◌&&◌, List, [], ◌∷◌, nat_lt, nat_le, ◌==◌, Option, Some, None, if◌then◌else◌, option_map, option_and_then, slice_get}
 use Rattle.std.specs.Option.{option_or}
 use Rattle.mb_base.specs.Shapes.{span, host_count, tally}
 use Rattle.mb_usig.specs.Tags.{same_bytes}
@@ -21,6 +21,10 @@ use Rattle.mb_model.specs.Votes.{is_vote}
 use Rattle.mb_model.specs.Histories.{Entry, Accepted, Stamped, Executed, Installed, History, Identity, view_of}
 use Rattle.mb_model.specs.Held.{whole_body, opened_by, plan_at}
 use Rattle.mb_model.specs.Stable.{low_of}
+
+-- the greatest position of all
+abbrev pub position_limit : ℕ
+position_limit = 2 ^ 63 - 1
 
 -- ---- the last executed position; that of a state that was installed
 
@@ -76,7 +80,8 @@ vote_by own (Stamped (stamped.Commit m)) h v p = vote_with own h v p m.view m.po
 vote_by own (Stamped (stamped.Open m)) h v p = if own == h then option_map slot_vote (slot_of_open m v p) else None
 vote_by own _ h v p = None
 
--- an entry behind which the votes of OPENs are counted: an OPEN was accepted, a plan came to be held, or this host came to another view
+-- an entry behind which the votes of OPENs are counted: an OPEN was accepted, a plan may have come to be held, or this host came to another
+-- view
 abbrev pub counts_opens : Entry → Bool
 counts_opens (Accepted (message.Open m)) = true
 counts_opens (Accepted (message.NewView m)) = true
@@ -84,33 +89,41 @@ counts_opens (Stamped (stamped.NewView m)) = true
 counts_opens (Stamped (stamped.ViewChange m)) = true
 counts_opens _ = false
 
+-- the vote of a host's last OPEN, where it is of this view, and the plan that has its digest is held
+abbrev pub open_vote : Option Evidence → Option Plan → ℕ → ℕ → Option Vote
+open_vote (Some e) (Some plan) v p = if e.view == v && same_bytes (plan_digest plan) e.plan
+    then option_map (λ r. record { counter = e.counter; request = request_digest r }) (request_from plan.base.pos p plan.requests) else None
+open_vote e plan v p = None
+
 module _ {S : Type 0} (self : Identity S) where
-  -- a position of the window above the stable one
+  -- This host has not executed all that is stable.
+  abbrev pub is_behind : History → Bool
+  is_behind d = nat_lt (exec_of d) (low_of self d)
+
+  -- a position of the window above the stable one; the greatest of all ends it too
   abbrev pub in_window : History → ℕ → Bool
-  in_window d p = nat_lt (low_of self d) p && nat_le p (low_of self d + span self.shape)
+  in_window d p = nat_lt (low_of self d) p && (nat_le p (low_of self d + span self.shape) && nat_le p position_limit)
 
-  -- what is found for a position, where it is one of the window
-  abbrev pub if_in_window : {A : Type 0} → History → ℕ → Option A → Option A
-  if_in_window d p x = if in_window d p then x else None
+  -- where slots and votes count: in this host's view, at a position of the window
+  abbrev pub counts_at : History → ℕ → ℕ → Bool
+  counts_at d v p = view_of self d == v && in_window d p
 
-  -- the vote of a host's last OPEN, where it is of this host's view, and the plan that has its digest is held
-  abbrev pub open_vote : History → Option Evidence → Option Plan → ℕ → ℕ → Option Vote
-  open_vote d (Some e) (Some plan) v p = if view_of self d == v && (e.view == v && same_bytes (plan_digest plan) e.plan)
-      then option_map (λ r. record { counter = e.counter; request = request_digest r }) (request_from plan.base.pos p plan.requests) else None
-  open_vote d e plan v p = None
+  -- what is found for a position of a view, where it counts
+  abbrev pub if_counts_at : {A : Type 0} → History → ℕ → ℕ → Option A → Option A
+  if_counts_at d v p x = if counts_at d v p then x else None
 
   abbrev pub open_vote_by : History → Entry → ℕ → ℕ → ℕ → Option Vote
-  open_vote_by d e h v p = if counts_opens e then open_vote d (opened_by d h) (plan_at self d v) v p else None
+  open_vote_by d e h v p = if counts_opens e then open_vote (opened_by d h) (plan_at self d v) v p else None
 
-  -- ---- slots and votes: the first that came counts, where it stood in the window of its moment
+  -- ---- slots and votes: the first that came counts, of those that counted at their moment. So all are gone behind a VIEW_CHANGE.
 
   unfoldable pub slot_in : History → ℕ → ℕ → Option KnownSlot
   slot_in [] v p = None
-  slot_in (e ∷ d) v p = option_or (slot_in d v p) (if_in_window (e ∷ d) p (slot_by e v p))
+  slot_in (e ∷ d) v p = option_or (slot_in d v p) (if_counts_at (e ∷ d) v p (slot_by e v p))
 
   unfoldable pub vote_of : History → ℕ → ℕ → ℕ → Option Vote
   vote_of [] h v p = None
-  vote_of (e ∷ d) h v p = option_or (vote_of d h v p) (if_in_window (e ∷ d) p (option_or (vote_by self.host e h v p) (open_vote_by (e ∷ d) e h v p)))
+  vote_of (e ∷ d) h v p = option_or (vote_of d h v p) (if_counts_at (e ∷ d) v p (option_or (vote_by self.host e h v p) (open_vote_by (e ∷ d) e h v p)))
 
   -- how many hosts have this vote
   abbrev pub matching : History → ℕ → ℕ → Vote → ℕ
@@ -118,4 +131,4 @@ module _ {S : Type 0} (self : Identity S) where
 
   -- the slot of a position of the window in this host's view
   abbrev pub slot_at : History → ℕ → Option KnownSlot
-  slot_at d p = if_in_window d p (slot_in d (view_of self d) p)
+  slot_at d p = if in_window d p then slot_in d (view_of self d) p else None

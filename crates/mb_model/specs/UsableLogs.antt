@@ -121,11 +121,13 @@ Fault = ℕ × ℕ
 -- 8: a request's tag does not verify, or the body of an OPEN is not that of its plan
 -- 3 and 5 behind the last entry: the VIEW_CHANGE itself has not the next counter, or goes to no later view
 module _ (s : Shape) (secret : Bytes) (valid : Claim → Bool) where
-  -- The certificate is valid and is that of the base, the requests are rightly tagged and as many as the plan has, and both give its digest.
+  -- The certificate is valid and is that of the base, and the requests are rightly tagged and as many as the plan has.
+  abbrev pub is_comparable_body : ℕ → ℕ → OpenBody → Bool
+  is_comparable_body base end b = is_stable s valid b.stable && (b.stable.pos == base && (length b.requests == end - base && list_all (is_rightly_tagged secret) b.requests))
+
+  -- So it is, and both give the plan's digest.
   abbrev pub is_plan_body : ℕ → ℕ → Bytes → OpenBody → Bool
-  is_plan_body base end plan b =
-      is_stable s valid b.stable && (b.stable.pos == base && (length b.requests == end - base
-      && (list_all (is_rightly_tagged secret) b.requests && same_bytes plan (sha256 (plan_string base b.stable.state (map request_digest b.requests))))))
+  is_plan_body base end plan b = is_comparable_body base end b && same_bytes plan (sha256 (plan_string base b.stable.state (map request_digest b.requests)))
 
   -- Where the request is shown, it is rightly tagged.
   abbrev pub is_sound_request : Body Request → Bool
@@ -166,11 +168,15 @@ module _ (s : Shape) (secret : Bytes) (valid : Claim → Bool) where
   abbrev pub is_too_long : List Shown → Bool
   is_too_long entries = nat_lt (normal_limit s) (count_by is_normal_kind entries) || nat_lt other_limit (count_by (λ e. not (is_normal_kind e)) entries)
 
+  -- The stable certificate does not check, or is below the floor certificate.
+  abbrev pub is_ill_founded : ChangeBody → Bool
+  is_ill_founded b = not (is_stable s valid b.stable) || nat_lt b.stable.pos (floor_position b.floor)
+
   -- The log goes on from this floor, or not.
   abbrev pub fault_from : ℕ → ℕ → ℕ → ChangeBody → Option Floor → Option Fault
   fault_from host view counter b None = Some (0, 1)
   fault_from host view counter b (Some o) =
-      option_or (then_some (not (is_stable s valid b.stable) || nat_lt b.stable.pos (floor_position b.floor)) (0, 2))
+      option_or (then_some (is_ill_founded b) (0, 2))
       (option_or (then_some (is_too_long b.entries) (0, 9))
       (option_or (entries_fault host b.stable.pos o [] b.entries)
       (option_or (then_some (not (o.counter + length b.entries + 1 == counter)) (length b.entries, 3))

@@ -1,6 +1,6 @@
 //! What a host is given, and what it answers.
 
-use mb_base::{Client, Host, Items, Pos, Seq, View};
+use mb_base::{Client, Counter, Host, Items, Pos, Seq, View};
 use mb_parts::Request;
 
 /// What happens to a host.
@@ -8,6 +8,10 @@ use mb_parts::Request;
 pub enum Event {
     /// These bytes came.
     Given(Items<u8>),
+    /// It waited too long for something.
+    Patience,
+    /// It is time to ask for what is missing.
+    Nudge,
 }
 
 /// What became of an event: the first that fits, in the order of the checks.
@@ -19,22 +23,34 @@ pub enum Outcome {
     Unbuilt { kind: u8 },
     /// A stamped message whose certificate does not verify.
     BadUi,
+    /// A stamped message of a sender that is shut out since this counter.
+    Convicted { counter: Counter },
     /// The counter is below the next one that is expected of the sender.
-    Stale { next: u64 },
+    Stale { next: Counter },
     /// The counter is above the next one that is expected of the sender.
-    Ahead { next: u64 },
+    Ahead { next: Counter },
+    /// A stamped message that may not stand behind those before it. The number of the rule of its kind is told.
+    Illegal { rule: u8 },
     /// A vote of a view above the host's, which is told.
     LaterView { view: View },
-    /// A vote at a position beyond the window above the stable position, which is told.
+    /// A position beyond the window above the stable position, which is told.
     BeyondWindow { low: Pos },
     /// A vote without its request, at a position that isn't executed. The host's view and last executed position are told.
     NeedBody { view: View, exec: Pos },
-    /// A request whose tag does not verify.
+    /// A request, wish or STOP whose tag does not verify.
     BadTag,
+    /// What a message shows does not check. The index of what fails is told, and the number of the reason.
+    Unusable { index: u16, reason: u8 },
     /// A request numbered below the client's last executed one, which is told.
     Old { last: Seq },
     /// The client's last executed request. The stored reply is sent again.
     Again,
+    /// A part of a state has another digest than the one listed. The part is told; 65 stands for the list of digests.
+    WrongDigest { part: u8 },
+    /// All parts are there, and they are no state. The first bad part is told, and the offset in it.
+    BadState { part: u8, at: u32 },
+    /// The host is to stop.
+    Stopping,
     /// Nothing to do.
     Idle,
     /// All else.

@@ -13,7 +13,7 @@ use Rattle.mb_sched.specs.declared.report.LastResult.{LastResult}
 use Rattle.mb_sched.specs.declared.report.RefusedLine.{RefusedLine}
 use Rattle.mb_sched.specs.declared.report.Report.{Report}
 use Rattle.mb_sched.specs.declared.report.Word.{Word}
-use Rattle.mb_sched.specs.declared.report.Word.TheVariants.{Malformed, Unbuilt, BadUi, BadTag, Stale, Ahead, NeedBody, LaterView, BeyondWindow, Old}
+use Rattle.mb_sched.specs.declared.report.Word.TheVariants.{Malformed, Unbuilt, BadUi, BadTag, Stale, Ahead, Illegal, Convicted, NeedBody, LaterView, BeyondWindow, Unusable, WrongDigest, BadState, Old, OtherSeq}
 use Rattle.mb_sched.specs.Printing.{line_of, hex_word}
 
 -- client 3 is named c3
@@ -37,10 +37,16 @@ word_name BadUi = codes "badui"
 word_name BadTag = codes "badtag"
 word_name Stale = codes "stale"
 word_name Ahead = codes "ahead"
+word_name Illegal = codes "illegal"
+word_name Convicted = codes "convicted"
 word_name NeedBody = codes "needbody"
 word_name LaterView = codes "laterview"
 word_name BeyondWindow = codes "beyondwindow"
+word_name Unusable = codes "unusable"
+word_name WrongDigest = codes "wrongdigest"
+word_name BadState = codes "badstate"
 word_name Old = codes "old"
+word_name OtherSeq = codes "otherseq"
 
 -- a phase in lower case
 abbrev pub phase_name : Phase → Bytes

@@ -129,10 +129,16 @@ fn word_name(word: Word) -> &'static str
         Word::BadTag => "badtag",
         Word::Stale => "stale",
         Word::Ahead => "ahead",
+        Word::Illegal => "illegal",
+        Word::Convicted => "convicted",
         Word::NeedBody => "needbody",
         Word::LaterView => "laterview",
         Word::BeyondWindow => "beyondwindow",
+        Word::Unusable => "unusable",
+        Word::WrongDigest => "wrongdigest",
+        Word::BadState => "badstate",
         Word::Old => "old",
+        Word::OtherSeq => "otherseq",
     }
 }
 

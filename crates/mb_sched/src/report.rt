@@ -29,10 +29,16 @@ pub enum Word {
     BadTag,
     Stale,
     Ahead,
+    Illegal,
+    Convicted,
     NeedBody,
     LaterView,
     BeyondWindow,
+    Unusable,
+    WrongDigest,
+    BadState,
     Old,
+    OtherSeq,
 }
 
 /// An event that was refused: its number from 1, the outcome's name, and the outcome's numbers in the order of its fields.

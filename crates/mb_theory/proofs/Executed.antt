@@ -10,12 +10,14 @@ use Rattle.mb_parts.specs.declared.request.Request.{Request}
 use Rattle.mb_msg.specs.declared.event.Slot.{Slot}
 use Rattle.mb_parts.specs.Bares.{request_digest}
 use Rattle.mb_model.specs.Service.{Served, is_fresh, start}
-use Rattle.mb_model.specs.History.{Executed, History, exec_of}
-use Rattle.mb_model.specs.Slots.{state_of}
-use Rattle.mb_model.specs.Rules.{slot_for}
+use Rattle.mb_model.specs.Histories.{Executed, History}
+use Rattle.mb_model.specs.Positions.{exec_of}
+use Rattle.mb_model.specs.Execution.{state_of}
+use Rattle.mb_model.specs.CarriedOut.{slot_for}
+use Rattle.mb_model.proofs.Members.{In}
 use Rattle.mb_model.proofs.ServiceLaws.{served_push}
 use Rattle.mb_theory.specs.World.{update, extended}
-use Rattle.mb_theory.proofs.Lists.{In, get_last, get_push, get_there, take_next, IsLonger}
+use Rattle.mb_theory.proofs.Lists.{get_last, get_push, get_there, take_next, IsLonger}
 use Rattle.mb_theory.proofs.Legal.{Orders, IsSupported, SpellsMade}
 use Rattle.mb_theory.proofs.Growth.{orders_grows}
 use Rattle.mb_theory.proofs.OwnList.{one_request}

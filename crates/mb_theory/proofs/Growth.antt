@@ -9,8 +9,8 @@ use Rattle.mb_msg.specs.declared.normal.Commit.{Commit}
 use Rattle.mb_msg.specs.declared.message.Message.{Message}
 use Rattle.mb_msg.specs.declared.message.Message.TheVariants as message
 use Rattle.mb_msg.specs.declared.stamped.Stamped.TheVariants as stamped
-use Rattle.mb_model.specs.History.{Entry, Accepted, Stamped, Executed, History, Identity}
-use Rattle.mb_theory.proofs.Lists.{In}
+use Rattle.mb_model.specs.Histories.{Entry, Accepted, Stamped, Executed, History, Identity}
+use Rattle.mb_model.proofs.Members.{In}
 use Rattle.mb_theory.proofs.Counters.{IsOnce, at_once}
 use Rattle.mb_theory.proofs.Legal.{Stamps, Orders, PrepareMade, CommitMade, IsMade, SpellsMade, Justified, Legal}
 
@@ -58,6 +58,7 @@ module _ {S : Type 0} (self : Identity S) (stamps : Stamps) (requests : List Req
   justified_grows (Stamped (stamped.Commit m)) d x = (commit_grows self.shape stamps requests stamps' requests' g m x.0, x.1)
   justified_grows (Stamped _) d x = absurd x
   justified_grows (Executed slot) d x = record { counter = x.counter; orders = orders_grows self.shape stamps requests stamps' requests' g _ _ _ x.orders; place = x.place; fresh = x.fresh; voted = x.voted }
+  justified_grows _ d x = absurd x
 
   pub legal_grows : (d : History) → Legal self stamps requests d → Legal self stamps' requests' d
   legal_grows [] l = tt

@@ -10,12 +10,16 @@ use Rattle.mb_base.specs.Shapes.{Bytes, host_count, client_count}
 use Rattle.mb_parts.specs.declared.request.Request.{Request}
 use Rattle.mb_msg.specs.declared.event.Slot.{Slot}
 use Rattle.mb_model.specs.Service.{Machine, Served, is_fresh, served_all, start}
-use Rattle.mb_model.specs.History.{Entry, Accepted, Stamped, Executed, History, Identity, said, exec_of}
-use Rattle.mb_model.specs.History as history
-use Rattle.mb_model.specs.Slots.{state_of}
-use Rattle.mb_sched.specs.declared.schedule.Schedule.{Schedule}
-use Rattle.mb_theory.specs.World.{update, self_of}
-use Rattle.mb_theory.proofs.Lists.{In, get_more, all_append, IsLonger}
+use Rattle.mb_model.specs.States.{Snapshots}
+use Rattle.mb_model.specs.Histories.{Entry, Accepted, Stamped, Executed, History, Identity, said}
+use Rattle.mb_model.specs.Histories as history
+use Rattle.mb_model.specs.Positions.{exec_of}
+use Rattle.mb_model.specs.Execution.{state_of}
+use Rattle.mb_model.proofs.Members.{In}
+use Rattle.mb_sched.specs.declared.schedule.Schedule.{Schedule as BuiltSchedule}
+use Rattle.mb_theory.specs.World.{update, System, self_of}
+use Rattle.mb_theory.specs.FirstPath.{system_of}
+use Rattle.mb_theory.proofs.Lists.{get_more, all_append, IsLonger}
 use Rattle.mb_theory.proofs.Counters.{IsOnce, same_once, once_more}
 use Rattle.mb_theory.proofs.Legal.{Stamps, Orders, Justified, Legal, SpellsMade}
 use Rattle.mb_theory.proofs.Growth.{Grows, orders_grows, pool_grows, legal_grows}
@@ -43,15 +47,20 @@ stamps_of f = λ g. said (f g)
 
 -- ---- the invariant
 
--- A schedule over a service.
+-- a schedule over a service
 pub record Run (S : Type 0) : Type 0 where
   pub machine : Machine S
+  pub snapshots : Snapshots S
   pub initial : S
-  pub schedule : Schedule
+  pub schedule : BuiltSchedule
 
 module _ {S : Type 0} (run : Run S) where
+  -- its hosts
+  abbrev pub system : System S
+  system = system_of run.machine run.snapshots run.initial run.schedule
+
   abbrev pub self : ℕ → Identity S
-  self h = self_of run.machine run.initial run.schedule h
+  self h = self_of system h
 
   -- the sequential service after these slots
   abbrev pub after : List Slot → Served S
@@ -114,9 +123,8 @@ module _ {S : Type 0} (run : Run S) where
 
   said_once : (e : Entry) (d : History) → IsOnce (said d) (said (e ∷ d))
   unfolding history.stamped
-  said_once (Accepted m) d = same_once (said d)
   said_once (Stamped m) d = once_more _ (said d)
-  said_once (Executed slot) d = same_once (said d)
+  said_once e d = same_once (said d)
 
   pub entry_grows : (requests : List Request) (f : ℕ → History) (h : ℕ) (d : History) (e : Entry) → Grows (stamps_of (update f h d)) requests (stamps_of (update f h (e ∷ d))) requests
   entry_grows requests f h d e = record { stamped_more = λ g. there g; asked_more = λ r i. i } where
@@ -160,13 +168,13 @@ module _ {S : Type 0} (run : Run S) where
   abbrev pub is_quiet : Entry → Bool
   is_quiet (Accepted m) = true
   is_quiet (Stamped m) = true
-  is_quiet (Executed slot) = false
+  is_quiet _ = false
 
   quiet_follows : (line : List Slot) (h : ℕ) (d : History) (e : Entry) → is_quiet e ≡ true → Follows line h d → Follows line h (e ∷ d)
   unfolding exec_of state_of
   quiet_follows line h d (Accepted m) q x = record { short = x.short; state = x.state; slots = λ slot i. elim i [ inl other ↦ absurd cc | inr before ↦ x.slots slot before ] }
   quiet_follows line h d (Stamped m) q x = record { short = x.short; state = x.state; slots = λ slot i. elim i [ inl other ↦ absurd cc | inr before ↦ x.slots slot before ] }
-  quiet_follows line h d (Executed slot) q x = absurd cc
+  quiet_follows line h d e q x = absurd cc
 
   pub quiet_keeps : (requests : List Request) (f : ℕ → History) (h : ℕ) (d : History) (e : Entry) (pool added : List Bytes) (line : List Slot)
       → is_quiet e ≡ true

@@ -9,13 +9,12 @@ use Rattle.mb_msg.specs.declared.stamped.Stamped.{Stamped as StampedMessage}
 use Rattle.mb_msg.specs.Reading.{message_of}
 use Rattle.mb_msg.specs.Spelling.{spelling}
 use Rattle.mb_msg.specs.Stamps.{as_stamped}
-use Rattle.mb_model.specs.Outcomes.{Event}
-use Rattle.mb_model.specs.Outcomes as event
+use Rattle.mb_msg.specs.declared.event.Event.{Event}
+use Rattle.mb_msg.specs.declared.event.Event.TheVariants as event
 use Rattle.mb_model.specs.Histories.{History}
 use Rattle.mb_model.specs.HostStep.{transition}
-use Rattle.mb_theory.specs.World.{update, numbered}
 use Rattle.mb_theory.specs.WorldEvents.{WorldEvent, HostName, ClientName, Ask, Give, Take, Raw, Patience, Nudge, Sign, TagReply, TagWish, StampPrepare, StampCommit, StampCheckpoint, StampChange, StampAs, StampRaw, is_faulty, is_faulty_client}
-use Rattle.mb_theory.specs.WholeWorld.{World, System, self_of, steps, give_host, give_client, client_reads, heard, signal, arrives, made, request_of}
+use Rattle.mb_theory.specs.World.{update, numbered, World, System, self_of, steps, give_host, give_client, client_reads, heard, signal, arrives, made, request_of}
 use Rattle.mb_theory.specs.FaultyHosts.{stamp_some, stamp_content, stamp_bytes, content, prepare_with, commit_for, checkpoint_with, change_after, reply_of_host, wish_of_host}
 use Rattle.mb_theory.specs.WorldSteps.{where_faulty, with_message, stamps_some, happens, after, world}
 

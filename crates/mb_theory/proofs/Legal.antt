@@ -1,5 +1,5 @@
 -- What each entry of a host's history rests on: on what stood before it, on what clients asked and on what the hosts stamped.
-use Rattle.std.proofs.Common.{◌≡◌, ℕ, ◌+◌, ◌≤◌, List, [], ◌∷◌, Some}
+use Rattle.std.proofs.Common.{◌≡◌, ℕ, ◌+◌, ◌≤◌, List, [], ◌∷◌, length, Some}
 use Rattle.mb_base.specs.declared.shape.Shape.{Shape}
 use Rattle.mb_base.specs.declared.names.Ui.{Ui}
 use Rattle.mb_base.specs.Shapes.{Bytes, primary, quorum}
@@ -16,9 +16,11 @@ use Rattle.mb_parts.specs.Bares.{Bare, request_digest}
 use Rattle.mb_msg.specs.Fits.{FitsPrepare, FitsCommit}
 use Rattle.mb_msg.specs.Spelling.{spelling}
 use Rattle.mb_model.specs.Service.{is_fresh}
-use Rattle.mb_model.specs.History.{Entry, Accepted, Stamped, Executed, History, Identity, counter_of, last_counter, exec_of}
-use Rattle.mb_model.specs.Slots.{matching, state_of}
-use Rattle.mb_theory.proofs.Lists.{In}
+use Rattle.mb_model.specs.Histories.{Entry, Accepted, Stamped, Executed, History, Identity, taken_of, counter_of}
+use Rattle.mb_model.specs.Positions.{exec_of, matching}
+use Rattle.mb_model.specs.Execution.{state_of}
+use Rattle.mb_model.proofs.Members.{In}
+use Rattle.mb_model.proofs.EarlyHistories.{IsEarly}
 use Rattle.mb_theory.proofs.Counters.{at_counter}
 
 -- what each host stamped, newest first
@@ -52,7 +54,7 @@ module _ (shape : Shape) (stamps : Stamps) (requests : List Request) where
     pub issued : at_counter (stamps m.ui.host) m.ui.counter ≡ Some (bare.Commit 0 m.pos m.counter m.cert (request_digest request))
     pub fits : FitsCommit shape m
 
-  -- a client or a host made this message; of a REPLY nothing is said, and other kinds are not made yet
+  -- A client or a host made this message. Of a REPLY nothing is said, and other kinds are not made.
   abbrev pub IsMade : Message → Type 0
   IsMade (message.Request r) = In requests r
   IsMade (message.Prepare m) = PrepareMade m
@@ -71,7 +73,7 @@ module _ (shape : Shape) (stamps : Stamps) (requests : List Request) where
 -- An identifier of another host came in its turn.
 pub record InTurn (h : ℕ) (u : Ui) (d : History) : Type 0 where
   pub other : u.host ≡ h → ⊥
-  pub next : u.counter ≡ last_counter d u.host + 1
+  pub next : u.counter ≡ length (taken_of d u.host) + 1
 
 -- An identifier is this host's next one; in view 0 a position is a counter.
 pub record IsOwn (h : ℕ) (u : Ui) (pos : ℕ) (d : History) : Type 0 where
@@ -88,7 +90,7 @@ module _ {S : Type 0} (self : Identity S) (stamps : Stamps) (requests : List Req
     pub fresh : slot.fresh ≡ is_fresh (state_of self d) slot.request
     pub voted : quorum self.shape ≤ matching self d 0 slot.pos (record { counter = counter; request = request_digest slot.request })
 
-  -- what an entry rests on, behind what stood before it; other kinds are not in a history yet
+  -- what an entry rests on, behind what stood before it; other entries are not in a history
   abbrev pub Justified : Entry → History → Type 0
   Justified (Accepted (message.Request r)) d = In requests r
   Justified (Accepted (message.Prepare m)) d = PrepareMade self.shape stamps requests m × InTurn self.host m.ui d
@@ -98,8 +100,20 @@ module _ {S : Type 0} (self : Identity S) (stamps : Stamps) (requests : List Req
   Justified (Stamped (stamped.Commit m)) d = CommitMade self.shape stamps requests m × IsOwn self.host m.ui m.pos d
   Justified (Stamped _) d = ⊥
   Justified (Executed slot) d = IsSupported slot d
+  Justified _ d = ⊥
 
   -- each entry is justified behind what stood before it
   abbrev pub Legal : History → Type 0
   Legal [] = Unit {0}
   Legal (e ∷ d) = Justified e d × Legal d
+
+  -- So all entries are of the first path.
+  pub legal_early : (d : History) → Legal d → IsEarly d
+  legal_early [] l = tt
+  legal_early (Accepted (message.Request r) ∷ d) l = (tt, legal_early d l.1)
+  legal_early (Accepted (message.Prepare m) ∷ d) l = (tt, legal_early d l.1)
+  legal_early (Accepted (message.Commit m) ∷ d) l = (tt, legal_early d l.1)
+  legal_early (Stamped (stamped.Prepare m) ∷ d) l = (tt, legal_early d l.1)
+  legal_early (Stamped (stamped.Commit m) ∷ d) l = (tt, legal_early d l.1)
+  legal_early (Executed slot ∷ d) l = (tt, legal_early d l.1)
+  legal_early (e ∷ d) l = absurd l.0

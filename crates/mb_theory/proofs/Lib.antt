@@ -23,3 +23,4 @@ pub mod Checkpointed
 pub mod PartsHeld
 pub mod NothingLeft
 pub mod LogLimits
+pub mod WorldsOnLiterals

@@ -1,35 +1,12 @@
 -- Elements and places of lists, and one element more at the end.
-use Rattle.std.proofs.Common.{◌≡◌, ℕ, zero, suc, ◌+◌, ◌<◌, List, [], ◌∷◌, ◌++◌, length, refl, sym, ap, subst, ◌∙◌, inl, inr, ◌⊎◌, arith, Some}
-use Rattle.std.specs.Prelude.{slice_get, take, Contains}
-use Rattle.std.specs.List.{AllByRecursion, flat_map}
+use Rattle.std.proofs.Common.{◌≡◌, ℕ, zero, suc, ◌+◌, ◌<◌, List, [], ◌∷◌, ◌++◌, length, refl, ap, subst, ◌∙◌, inl, inr, ◌⊎◌, arith, Some}
+use Rattle.std.specs.Prelude.{slice_get, take}
+use Rattle.std.specs.List.{AllByRecursion}
 use Rattle.std.proofs.lemmas.List.{take_more}
 use Rattle.std.proofs.lemmas.Option.{get_or_from_slice_get, slice_get_within}
 
 module _ {A : Type 0} where
-  -- ---- elements, by recursion
-
-  abbrev pub In : List A → A → Type 0
-  In [] x = ⊥
-  In (y ∷ ys) x = (y ≡ x) ⊎ In ys x
-
-  pub in_contained : (xs : List A) (x : A) → Contains xs x → In xs x
-  in_contained [] x c = let lt = c.1 in absurd (omega arith)
-  in_contained (y ∷ xs) x (zero, lt, at) = inl at
-  in_contained (y ∷ xs) x (suc i, lt, at) = inr (in_contained xs x (i, omega arith, at))
-
-  pub contained : (xs : List A) (x : A) → In xs x → Contains xs x
-  contained [] x i = absurd i
-  contained (y ∷ xs) x (inl is) = (0, omega arith, is)
-  contained (y ∷ xs) x (inr i) = let c = contained xs x i in let lt = c.1 in (suc c.0, omega arith, c.2)
-
-  pub in_left : (xs ys : List A) (x : A) → In xs x → In (xs ++ ys) x
-  in_left [] ys x i = absurd i
-  in_left (y ∷ xs) ys x (inl is) = inl is
-  in_left (y ∷ xs) ys x (inr i) = inr (in_left xs ys x i)
-
-  pub in_right : (xs ys : List A) (x : A) → In ys x → In (xs ++ ys) x
-  in_right [] ys x i = i
-  in_right (y ∷ xs) ys x i = inr (in_right xs ys x i)
+  -- ---- what holds of all elements
 
   pub all_append : (P : A → Type 0) (xs ys : List A) → AllByRecursion P xs → AllByRecursion P ys → AllByRecursion P (xs ++ ys)
   all_append P [] ys h k = k
@@ -76,9 +53,3 @@ module _ {A : Type 0} where
   pub record IsLonger (short long : List A) : Type 0 where
     pub rest : List A
     pub is : short ++ rest ≡ long
-
-module _ {A B : Type 0} where
-  pub in_flat_map : (f : A → List B) (xs : List A) (x : A) (y : B) → In xs x → In (f x) y → In (flat_map f xs) y
-  in_flat_map f [] x y i j = absurd i
-  in_flat_map f (z ∷ xs) x y (inl is) j = in_left (f z) (flat_map f xs) y (subst (λ (v : A). In (f v) y) (sym is) j)
-  in_flat_map f (z ∷ xs) x y (inr i) j = in_right (f z) (flat_map f xs) y (in_flat_map f xs x y i j)

@@ -1,7 +1,7 @@
 -- Logs keep their limits in each history that events lead to. Whatever the history, a log is what was stamped since its floor, and votes are
 -- kept at most two intervals above the stable position.
 use Rattle.std.proofs.Common.{◌≡◌, ℕ, zero, suc, ◌+◌, ◌-◌, ◌≤◌, Bool, true, false, ◌&&◌, not, cond, List, [], ◌∷◌, length, take, refl, ap, inl, inr, arith, Option, Some, None}
-use Rattle.std.specs.Prelude.{count_by, nat_lt, nat_le, if◌then◌else◌}
+use Rattle.std.specs.Prelude.{count_by, nat_lt, nat_le, ◌==◌, if◌then◌else◌}
 use Rattle.std.specs.Option.{option_or}
 use Rattle.std.proofs.lemmas.Bool.{and_parts, cases_Bool, ltb-true, leb-true}
 use Rattle.std.proofs.lemmas.List.{length-take-le}
@@ -14,13 +14,13 @@ use Rattle.mb_msg.specs.declared.transfer.StateMsg.{StateMsg}
 use Rattle.mb_msg.specs.declared.stamped.Stamped.{Stamped as StampedMessage}
 use Rattle.mb_model.specs.declared.known.Vote.{Vote}
 use Rattle.mb_model.specs.UsableLogs.{normal_limit, other_limit}
-use Rattle.mb_model.specs.Histories.{Entry, Accepted, Stamped, Jumped, Closed, Executed, Installed, DroppedParts, LostPatience, Nudged, History, Identity, stamped as all_stamped, counter_of}
+use Rattle.mb_model.specs.Histories.{Entry, Accepted, Stamped, Jumped, Closed, Executed, Installed, DroppedParts, LostPatience, Nudged, History, Identity, stamped as all_stamped, counter_of, view_of}
 use Rattle.mb_model.specs.Stable.{low_of, log_floor, floor_counter, floor_from, cut_by, is_kept, checkpoint_in}
 use Rattle.mb_model.specs.OwnLog.{own_log, log_start, is_normal, is_unspent, has_room, has_other_room}
-use Rattle.mb_model.specs.Positions.{vote_of, vote_by, open_vote_by, in_window}
+use Rattle.mb_model.specs.Positions.{vote_of, vote_by, open_vote_by, in_window, position_limit, counts_at}
 use Rattle.mb_model.proofs.Options.{or_some, if_some}
 use Rattle.mb_model.proofs.StepPotential.{start_bounded, grown_low}
-use Rattle.mb_theory.specs.WholeWorld.{self_of}
+use Rattle.mb_theory.specs.World.{self_of}
 use Rattle.mb_theory.specs.WorldSteps.{world}
 use Rattle.mb_theory.specs.Bounds.{KeepsLimits, HostsKeepLimits}
 use Rattle.mb_theory.proofs.KeptByEvents.{is_plain, IsKept, event_keeps, execution_keeps, state_keeps}
@@ -142,12 +142,14 @@ module _ {S : Type 0} (self : Identity S) where
   vote_below [] h v p x e = absurd cc
   vote_below (e ∷ d) h v p x vote =
       let new : Option Vote = option_or (vote_by self.host e h v p) (open_vote_by self (e ∷ d) e h v p) in
-      elim (or_some (vote_of self d h v p) (if in_window self (e ∷ d) p then new else None) x vote) [
+      elim (or_some (vote_of self d h v p) (if counts_at self (e ∷ d) v p then new else None) x vote) [
         | inl before ↦ omega (arith, vote_below d h v p x before, grown_low self d e)
         | inr now ↦
-            let t = if_some (in_window self (e ∷ d) p) new x now in
-            let a = and_parts (nat_lt (low_of self (e ∷ d)) p) (nat_le p (low_of self (e ∷ d) + span self.shape)) t.0 in
-            leb-true p (low_of self (e ∷ d) + span self.shape) a.1
+            let t = if_some (counts_at self (e ∷ d) v p) new x now in
+            let c = and_parts (view_of self (e ∷ d) == v) (in_window self (e ∷ d) p) t.0 in
+            let a = and_parts (nat_lt (low_of self (e ∷ d)) p) (nat_le p (low_of self (e ∷ d) + span self.shape) && nat_le p position_limit) c.1 in
+            let b = and_parts (nat_le p (low_of self (e ∷ d) + span self.shape)) (nat_le p position_limit) a.1 in
+            leb-true p (low_of self (e ∷ d) + span self.shape) b.0
       ]
 
   keeps_limits : (d : History) → InLimits d → KeepsLimits self d

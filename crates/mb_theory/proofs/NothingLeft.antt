@@ -10,14 +10,14 @@ use Rattle.mb_model.specs.Positions.{exec_of, slot_at, in_window}
 use Rattle.mb_model.specs.EnabledRules.{next_rule, IsQuiescent, execute_enabled, rule_where, if_committed, is_committed, Execute}
 use Rattle.mb_model.proofs.Options.{or_none, if_some}
 use Rattle.mb_model.proofs.StepQuiescent.{begins_quiescent, stays_quiescent}
-use Rattle.mb_theory.specs.WholeWorld.{self_of}
+use Rattle.mb_theory.specs.World.{self_of}
 use Rattle.mb_theory.specs.WorldSteps.{world}
 use Rattle.mb_theory.specs.NothingLeft.{LeavesNoRule, ExecutesAtQuorum, StampsCheckpoints, HoldsNoState, LeavesNothing, HostsLeaveNothing}
-use Rattle.mb_theory.proofs.ReadBack.{shape_fits}
 use Rattle.mb_theory.proofs.KeptByEvents.{event_keeps}
 use Rattle.mb_theory.proofs.KeptByWorlds.{world_keeps}
 use Rattle.mb_theory.proofs.Checkpointed.{begins_checkpointed, checkpoints_kept}
 use Rattle.mb_theory.proofs.PartsHeld.{IsIncomplete, begins_incomplete, incomplete_kept}
+use Rattle.mb_model.proofs.EarlyHistories.{shape_fits}
 
 -- ---- of one host: what it means that no rule is next
 

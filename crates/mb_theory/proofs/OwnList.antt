@@ -8,8 +8,8 @@ use Rattle.mb_msg.specs.declared.stamped.Stamped.TheVariants as stamped
 use Rattle.mb_parts.specs.Bares as bare
 use Rattle.mb_parts.specs.Bares.{Bare, request_digest}
 use Rattle.mb_msg.specs.Stamps.{bare_of}
-use Rattle.mb_model.specs.History.{Entry, Accepted, Stamped, Executed, History, Identity, said, counter_of}
-use Rattle.mb_model.specs.History as history
+use Rattle.mb_model.specs.Histories.{Accepted, Stamped, Executed, History, Identity, said, counter_of}
+use Rattle.mb_model.specs.Histories as history
 use Rattle.mb_theory.proofs.Counters.{at_counter}
 use Rattle.mb_theory.proofs.Legal.{Stamps, Orders, Legal}
 use Rattle.mb_theory.proofs.Searches.{said_length}
@@ -40,6 +40,7 @@ module _ {S : Type 0} (self : Identity S) (stamps : Stamps) (requests : List Req
   placed (Stamped (stamped.Commit m) ∷ d) n b l e = placed_next (stamped.Commit m) d n b l.0.1.place (placed d n b l.1) e
   placed (Stamped _ ∷ d) n b l e = absurd l.0
   placed (Executed slot ∷ d) n b l e = placed d n b l.1 e
+  placed (x ∷ d) n b l e = absurd l.0
 
 same_digest : (v w p q : ℕ) (x y : Bytes) → Some (bare.Prepare v p x) ≡ Some (bare.Prepare w q y) → x ≡ y
 same_digest v w p q x y e = cc

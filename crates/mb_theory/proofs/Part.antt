@@ -11,13 +11,15 @@ use Rattle.mb_msg.specs.declared.stamped.Stamped.TheVariants as stamped
 use Rattle.mb_msg.specs.Stamps.{bare_of, as_message}
 use Rattle.mb_parts.specs.Fits.{FitsRequest}
 use Rattle.mb_msg.specs.Spelling.{spelling}
-use Rattle.mb_model.specs.History.{Entry, Accepted, Stamped, History, Identity, said, counter_of}
-use Rattle.mb_model.specs.History as history
-use Rattle.mb_model.specs.Steps.{Letter, Progress, write, send, to_all}
+use Rattle.mb_model.specs.Histories.{Entry, Stamped, History, Identity, said, counter_of}
+use Rattle.mb_model.specs.Histories as history
+use Rattle.mb_model.specs.Sending.{Letter, Progress, write, send, to_all}
+use Rattle.mb_model.proofs.Members.{In}
+use Rattle.mb_model.proofs.EarlyHistories.{IsEarly}
 use Rattle.mb_theory.specs.World.{update, extended}
-use Rattle.mb_theory.proofs.Lists.{In, all_append}
+use Rattle.mb_theory.proofs.Lists.{all_append}
 use Rattle.mb_theory.proofs.Counters.{at_counter, at_newest}
-use Rattle.mb_theory.proofs.Legal.{Stamps, IsMade, SpellsMade, Justified, Legal}
+use Rattle.mb_theory.proofs.Legal.{Stamps, IsMade, SpellsMade, Justified, Legal, legal_early}
 use Rattle.mb_theory.proofs.Searches.{said_length}
 use Rattle.mb_theory.proofs.Invariant.{at_same, stamps_of, Run, self, Invariant, is_quiet, quiet_keeps}
 use Rattle.mb_theory.proofs.Executed.{Apart}
@@ -59,6 +61,10 @@ module _ {S : Type 0} (run : Run S) (w : Before run) where
 
   pub legal_now : (x : Progress) → Part x → LegalNow x.history
   legal_now x i = subst (λ (d : History). Legal me (now x.history) w.requests d) (at_same w.histories w.host x.history) (i.legal w.host)
+
+  -- So its history is of the first path.
+  pub early_now : (x : Progress) → Part x → IsEarly x.history
+  early_now x i = legal_early me (now x.history) w.requests x.history (legal_now x i)
 
   sent_more : (sent : List Letter) (m : Letter) → (w.pool ++ map bytes_of sent) ++ bytes_of m ∷ [] ≡ w.pool ++ map bytes_of (sent ++ m ∷ [])
   sent_more sent m = rw (map-append bytes_of sent (m ∷ []), append_assoc) refl

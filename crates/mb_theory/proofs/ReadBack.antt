@@ -1,8 +1,8 @@
 -- What a host reads of bytes that spell a message.
-use Rattle.std.proofs.Common.{◌≡◌, ℕ, ◌+◌, ◌^◌, Bool, true, false, cond, ltb, eqb, ◌++◌, length, Result, Ok, Err, sym, ap, subst, ◌∙◌, rules, lit<, lit≤}
+use Rattle.std.proofs.Common.{◌≡◌, ℕ, ◌+◌, ◌^◌, Bool, true, false, cond, ltb, eqb, ◌++◌, length, Result, Ok, Err, sym, ap, subst, ◌∙◌, lit<, lit≤}
 use Rattle.std.specs.Int.{w8}
 use Rattle.mb_base.specs.declared.shape.Shape.{Shape}
-use Rattle.mb_base.specs.Shapes.{Bytes, IsShape}
+use Rattle.mb_base.specs.Shapes.{Bytes}
 use Rattle.mb_base.specs.Spelling.{number}
 use Rattle.mb_base.specs.Reading.{Cursor, cursor, Reads, number_in}
 use Rattle.mb_base.proofs.Laws.{bind_ok, allow_ok, ok_is, within_field, wide8}
@@ -12,10 +12,6 @@ use Rattle.mb_msg.specs.declared.message.Message.TheVariants as message
 use Rattle.mb_msg.specs.Spelling.{reply_bytes, spelling}
 use Rattle.mb_msg.specs.Reading.{reply_at, behind_kind_at, message_of}
 use Rattle.mb_msg.specs.Fits.{message_limit}
-
--- a value of the type has its limits
-pub shape_fits : (s : Shape) → IsShape s
-shape_fits s = search rules
 
 passed : {A : Type 0} (b : Bool) (d : ℕ) (r : Result A ℕ) (y : A) → cond b (Err d) r ≡ Ok y → r ≡ Ok y
 passed true d r y e = absurd cc

@@ -1,6 +1,6 @@
 -- The room that the next rule asked for.
 use Rattle.std.proofs.Common.{◌≡◌, ℕ, ◌+◌, true, ◌&&◌, ◌||◌, not, subst, inl, inr, Option, Some, None}
-use Rattle.std.specs.Prelude.{◌^◌, nat_lt, nat_le, option_map}
+use Rattle.std.specs.Prelude.{nat_lt, nat_le, option_map}
 use Rattle.std.specs.List.{range_with_len}
 use Rattle.std.proofs.lemmas.Bool.{and_parts}
 use Rattle.mb_base.specs.Shapes.{client_count}
@@ -108,14 +108,13 @@ module _ {S : Type 0} (self : Identity S) where
   prepare_room : (d : History) (r : Rule) → prepare_enabled self d ≡ Some r → HasRoomFor d r
   unfolding prepare_enabled
   prepare_room d r e =
-      let t = if_some (is_open self d && (is_primary self d && (in_window self d (next_position self d) && (nat_lt (next_position self d) (2 ^ 63) && has_room self d))))
+      let t = if_some (is_open self d && (is_primary self d && (in_window self d (next_position self d) && has_room self d)))
       (option_map (rule.Prepare (next_position self d)) (unordered self d (range_with_len 0 (client_count self.shape)))) r e in
-      let a = and_parts (is_open self d) (is_primary self d && (in_window self d (next_position self d) && (nat_lt (next_position self d) (2 ^ 63) && has_room self d))) t.0 in
-      let b = and_parts (is_primary self d) (in_window self d (next_position self d) && (nat_lt (next_position self d) (2 ^ 63) && has_room self d)) a.1 in
-      let c = and_parts (in_window self d (next_position self d)) (nat_lt (next_position self d) (2 ^ 63) && has_room self d) b.1 in
-      let f = and_parts (nat_lt (next_position self d) (2 ^ 63)) (has_room self d) c.1 in
+      let a = and_parts (is_open self d) (is_primary self d && (in_window self d (next_position self d) && has_room self d)) t.0 in
+      let b = and_parts (is_primary self d) (in_window self d (next_position self d) && has_room self d) a.1 in
+      let c = and_parts (in_window self d (next_position self d)) (has_room self d) b.1 in
       let m = map_some (rule.Prepare (next_position self d)) (unordered self d (range_with_len 0 (client_count self.shape))) r t.1 in
-      subst (λ (x : Rule). HasRoomFor d x) m.2 f.1
+      subst (λ (x : Rule). HasRoomFor d x) m.2 c.1
 
   pub room_for : (d : History) (r : Rule) → next_rule self d ≡ Some r → HasRoomFor d r
   unfolding next_rule

@@ -22,13 +22,16 @@ use Rattle.mb_msg.specs.Spelling.{spelling}
 use Rattle.mb_model.specs.declared.known.KnownSlot.{KnownSlot}
 use Rattle.mb_model.specs.declared.known.LastReply.{LastReply}
 use Rattle.mb_model.specs.Service.{reply_of}
-use Rattle.mb_model.specs.History.{Entry, Stamped, History, counter_of}
-use Rattle.mb_model.specs.Slots.{state_of}
-use Rattle.mb_model.specs.Steps.{Progress, to_client, prepare, commit, reply, signed}
-use Rattle.mb_model.specs.Rules as rule
-use Rattle.mb_model.specs.Rules.{Rule, next_rule, slot_for, with_slot, with_reply, execute, carry_out, run_rules}
+use Rattle.mb_model.specs.Histories.{Entry, Stamped, History, counter_of}
+use Rattle.mb_model.specs.Execution.{state_of}
+use Rattle.mb_model.specs.Sending.{Progress, to_client, signed}
+use Rattle.mb_model.specs.Making.{prepare, commit, reply}
+use Rattle.mb_model.specs.EnabledRules as rule
+use Rattle.mb_model.specs.EnabledRules.{Rule, next_rule}
+use Rattle.mb_model.specs.CarriedOut.{slot_for, with_slot, with_reply, execute, carry_out, run_rules}
 use Rattle.mb_model.proofs.Options.{option_cases}
-use Rattle.mb_model.proofs.Enabled.{MayCommit, MayExecute, MayPrepare, next_may}
+use Rattle.mb_model.proofs.EarlyHistories.{early_view}
+use Rattle.mb_model.proofs.EarlyRules.{MayCommit, MayExecute, MayPrepare, May, next_may}
 use Rattle.mb_theory.specs.World.{extended}
 use Rattle.mb_theory.proofs.Counters.{at_counter}
 use Rattle.mb_theory.proofs.Legal.{Orders}
@@ -36,7 +39,7 @@ use Rattle.mb_theory.proofs.Growth.{orders_grows}
 use Rattle.mb_theory.proofs.Justified.{CommitRests, ExecuteRests, PrepareRests, commit_rests, execute_rests, prepare_rests}
 use Rattle.mb_theory.proofs.Invariant.{Run, entry_grows}
 use Rattle.mb_theory.proofs.Executed.{executes}
-use Rattle.mb_theory.proofs.Part.{Before, bytes_of, me, now, JustifiedNow, SpellsMadeNow, Part, legal_now, sends, stamps, own_issued}
+use Rattle.mb_theory.proofs.Part.{Before, bytes_of, me, now, JustifiedNow, SpellsMadeNow, Part, legal_now, early_now, sends, stamps, own_issued}
 
 says_prepare : (v w p : ℕ) (b : Body Request) (r : Request) → v ≡ w → b ≡ Whole r → bare.Prepare v p (body_digest request_bytes b) ≡ bare.Prepare w p (request_digest r)
 says_prepare v w p b r x y = rw (x, y) refl
@@ -123,21 +126,25 @@ module _ {S : Type 0} (run : Run S) (w : Before run) where
   unfolding execute
   execution x p r i rests = replies _ (slot_for (me run w) x.history p r) (executed_part x p r i rests)
 
+  may_now : (x : Progress) → Part run w x → (enabled : Rule) → next_rule (me run w) x.history ≡ Some enabled → May (me run w) enabled x.history
+  may_now x i enabled e = next_may (me run w) x.history (early_now run w x i) enabled e
+
   carries : (enabled : Rule) (x : Progress) → Part run w x → next_rule (me run w) x.history ≡ Some enabled → Part run w (carry_out (me run w) enabled x)
   unfolding carry_out
   carries (rule.Commit p k r) x i e =
       let d : History = x.history in
-      let may : MayCommit (me run w) p k r d = next_may (me run w) d (rule.Commit p k r) e in
+      let may : MayCommit (me run w) p k r d = may_now x i (rule.Commit p k r) e in
       let rests = commit_rests (me run w) (now run w d) w.requests d p k r (legal_now run w x i) may in
-      stamps run w x (signed (me run w) d (commit (me run w) d p k r)) i (commit_justified d _ k r rests refl refl refl refl refl refl (length-certificate _ _ _ _))
+      stamps run w x (signed (me run w) d (commit (me run w) d p k r)) i (commit_justified d _ k r rests (early_view (me run w) d (early_now run w x i)) refl refl refl refl refl (length-certificate _ _ _ _))
   carries (rule.Execute p r) x i e =
-      let may : MayExecute (me run w) p r x.history = next_may (me run w) x.history (rule.Execute p r) e in
+      let may : MayExecute (me run w) p r x.history = may_now x i (rule.Execute p r) e in
       execution x p r i (execute_rests (me run w) (now run w x.history) w.requests x.history p r (legal_now run w x i) may)
   carries (rule.Prepare p r) x i e =
       let d : History = x.history in
-      let may : MayPrepare (me run w) p r d = next_may (me run w) d (rule.Prepare p r) e in
+      let may : MayPrepare (me run w) p r d = may_now x i (rule.Prepare p r) e in
       let rests = prepare_rests (me run w) (now run w d) w.requests d p r (legal_now run w x i) may in
-      stamps run w x (signed (me run w) d (prepare (me run w) d p r)) i (prepare_justified d _ r rests refl refl refl refl (length-certificate _ _ _ _))
+      stamps run w x (signed (me run w) d (prepare (me run w) d p r)) i (prepare_justified d _ r rests (early_view (me run w) d (early_now run w x i)) refl refl refl (length-certificate _ _ _ _))
+  carries enabled x i e = absurd (may_now x i enabled e)
 
   pub runs : (n : ℕ) (x : Progress) → Part run w x → Part run w (run_rules (me run w) n x)
   unfolding run_rules

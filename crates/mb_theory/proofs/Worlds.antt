@@ -8,29 +8,33 @@ use Rattle.mb_parts.specs.declared.request.Request.{Request}
 use Rattle.mb_msg.specs.declared.message.Message.TheVariants as message
 use Rattle.mb_parts.specs.Fits.{FitsRequest}
 use Rattle.mb_model.specs.Service.{served_all}
-use Rattle.mb_model.specs.History.{History, exec_of}
-use Rattle.mb_model.specs.Slots.{state_of}
-use Rattle.mb_model.specs.Steps.{begin}
-use Rattle.mb_sched.specs.declared.schedule.WorldEvent.{WorldEvent}
-use Rattle.mb_sched.specs.declared.schedule.WorldEvent.TheVariants.{Ask, Give}
-use Rattle.mb_theory.specs.World.{World, nothing_happened, numbered, given, happens, world}
+use Rattle.mb_model.specs.Histories.{History}
+use Rattle.mb_model.specs.Positions.{exec_of}
+use Rattle.mb_model.specs.Execution.{state_of}
+use Rattle.mb_model.specs.Sending.{begin}
+use Rattle.mb_model.proofs.Members.{In}
+use Rattle.mb_sched.specs.declared.schedule.WorldEvent.{WorldEvent as BuiltEvent}
+use Rattle.mb_sched.specs.declared.schedule.WorldEvent.TheVariants as built
 use Rattle.mb_sched.specs.Limits.{EventFits, ScheduleFits}
-use Rattle.mb_theory.proofs.Lists.{In, all_append, all_at, get_there}
+use Rattle.mb_theory.specs.World.{World, nothing_happened, numbered, give_host}
+use Rattle.mb_theory.specs.WorldSteps.{with_message, happens, world}
+use Rattle.mb_theory.specs.FirstPath.{event_of}
+use Rattle.mb_theory.proofs.Lists.{all_append, all_at, get_there}
 use Rattle.mb_theory.proofs.Counters.{same_once}
 use Rattle.mb_theory.proofs.Legal.{Stamps, SpellsMade}
 use Rattle.mb_theory.proofs.Growth.{Grows, pool_grows, legal_grows}
-use Rattle.mb_theory.proofs.Invariant.{update_begins, stamps_of, Run, self, Invariant, in_line_grows}
+use Rattle.mb_theory.proofs.Invariant.{update_begins, stamps_of, Run, system, self, Invariant, in_line_grows}
 use Rattle.mb_theory.proofs.Executed.{Apart}
 use Rattle.mb_theory.proofs.Part.{Before, SpellsMadeNow, Part}
 use Rattle.mb_theory.proofs.Given.{transits}
-use Rattle.mb_theory.proofs.Asked.{AskedFine, request_of, same_asked, asked_fine}
+use Rattle.mb_theory.proofs.Asked.{makes_step, event_there, AskedFine, next_request, given_keeps, asked_fine}
 
 module _ {S : Type 0} (run : Run S) where
   abbrev pub Holds : World → Type 0
   Holds w = Invariant run w.asked w.histories w.pool w.line
 
   abbrev world_at : ℕ → World
-  world_at k = world run.machine run.initial run.schedule k
+  world_at k = world (system run) k
 
   holds_first : Holds nothing_happened
   unfolding exec_of state_of served_all
@@ -42,10 +46,10 @@ module _ {S : Type 0} (run : Run S) where
   }
 
   -- a client asks
-  holds_asks : (w : World) (c : ℕ) (op : Bytes) → Holds w → Holds (happens run.machine run.initial run.schedule w (Ask c op))
+  holds_asks : (w : World) (c : ℕ) (op : Bytes) → Holds w → Holds (happens (system run) w (event_of (built.Ask c op)))
   unfolding happens
   holds_asks w c op x =
-      let r : Request = request_of run w c op in
+      let r : Request = next_request run w c op in
       let u : Stamps = stamps_of w.histories in
       let grows : Grows u w.asked u (r ∷ w.asked) = record { stamped_more = λ g. same_once (u g); asked_more = λ q i. inr i } in
       record {
@@ -57,7 +61,7 @@ module _ {S : Type 0} (run : Run S) where
 
   -- a message is given to a host
   holds_given : (w : World) (h : ℕ) (o : Option Bytes) → h < host_count run.schedule.shape → Apart w.asked → ((r : Request) → In w.asked r → FitsRequest run.schedule.shape r)
-      → ((b : Bytes) → o ≡ Some b → (i : ℕ) × (slice_get w.pool i ≡ Some b)) → Holds w → Holds (given run.machine run.initial run.schedule h o w)
+      → ((b : Bytes) → o ≡ Some b → (i : ℕ) × (slice_get w.pool i ≡ Some b)) → Holds w → Holds (with_message (give_host (system run) h) o w)
   holds_given w h None is_host apart fitting there x = x
   holds_given w h (Some bytes) is_host apart fitting there x =
       let before : Before run = record { requests = w.asked; apart = apart; fitting = fitting; histories = w.histories; pool = w.pool; line = w.line; host = h; is_host = is_host } in
@@ -66,27 +70,28 @@ module _ {S : Type 0} (run : Run S) where
       subst (λ (f : ℕ → History). Invariant run w.asked f (w.pool ++ []) w.line) (sym (update_begins w.histories h))
       (subst (λ (p : List Bytes). Invariant run w.asked w.histories p w.line) (sym (append-nil w.pool)) x) in
       let all : AllByRecursion (SpellsMadeNow run before (w.histories h)) w.pool = subst (AllByRecursion (SpellsMadeNow run before (w.histories h))) (append-nil w.pool) begins.made in
-      transits run before (w.histories h) bytes begins (all_at _ w.pool at.0 bytes all at.1)
+      subst Holds (sym (makes_step run h bytes w)) (transits run before (w.histories h) bytes begins (all_at _ w.pool at.0 bytes all at.1))
 
   numbered_at : (pool : List Bytes) (m : ℕ) (b : Bytes) → numbered pool m ≡ Some b → (i : ℕ) × (slice_get pool i ≡ Some b)
   numbered_at pool zero b e = absurd cc
   numbered_at pool (suc m) b e = (m, e)
 
-  holds_next : (k : ℕ) (w : World) (e : WorldEvent) → EventFits run.schedule.shape e → Apart w.asked → AskedFine run k w → Holds w → Holds (happens run.machine run.initial run.schedule w e)
+  holds_next : (k : ℕ) (w : World) (e : BuiltEvent) → EventFits run.schedule.shape e → Apart w.asked → AskedFine run k w → Holds w → Holds (happens (system run) w (event_of e))
   unfolding happens
-  holds_next k w (Ask c op) fits apart a x = holds_asks w c op x
-  holds_next k w (Give m h) fits apart a x = holds_given w h (numbered w.pool m) fits apart a.fitting (numbered_at w.pool m) x
+  holds_next k w (built.Ask c op) fits apart a x = holds_asks w c op x
+  holds_next k w (built.Give m h) fits apart a x = holds_given w h (numbered w.pool m) fits apart a.fitting (numbered_at w.pool m) x
 
-  asked_before : (w : World) (e : WorldEvent) (r : Request) → In w.asked r → In (happens run.machine run.initial run.schedule w e).asked r
+  asked_before : (w : World) (e : BuiltEvent) (r : Request) → In w.asked r → In (happens (system run) w (event_of e)).asked r
   unfolding happens
-  asked_before w (Ask c op) r i = inr i
-  asked_before w (Give m h) r i = subst (λ (l : List Request). In l r) (sym (same_asked run w h (numbered w.pool m))) i
+  asked_before w (built.Ask c op) r i = inr i
+  asked_before w (built.Give m h) r i = subst (λ (l : List Request). In l r) (sym (given_keeps run w h (numbered w.pool m)).same_asked) i
 
   pub holds : (k : ℕ) → ScheduleFits run.schedule → k ≤ length run.schedule.events → Apart (world_at k).asked → Holds (world_at k)
   unfolding world
   holds zero fits le apart = holds_first
   holds (suc k) fits le apart =
       let there = get_there run.schedule.events k (omega arith) in
-      let next : Apart (happens run.machine run.initial run.schedule (world_at k) there.0).asked = rw there.1 at apart in
+      let happened = event_there run k there.0 there.1 in
+      let next : Apart (happens (system run) (world_at k) (event_of there.0)).asked = rw happened at apart in
       let before : Apart (world_at k).asked = λ q r i j e. next q r (asked_before _ there.0 q i) (asked_before _ there.0 r j) e in
-      rw there.1 (holds_next k (world_at k) there.0 (fits.events k there.0 there.1) before (asked_fine run k fits (omega arith)) (holds k fits (omega arith) before))
+      rw happened (holds_next k (world_at k) there.0 (fits.events k there.0 there.1) before (asked_fine run k fits (omega arith)) (holds k fits (omega arith) before))

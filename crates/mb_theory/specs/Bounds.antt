@@ -15,7 +15,7 @@ use Rattle.mb_model.specs.Stable.{low_of}
 use Rattle.mb_model.specs.OwnLog.{own_log, log_start, is_normal}
 use Rattle.mb_model.specs.Positions.{vote_of}
 use Rattle.mb_theory.specs.WorldEvents.{IsCorrect}
-use Rattle.mb_theory.specs.WholeWorld.{World, System, self_of}
+use Rattle.mb_theory.specs.World.{World, System, self_of}
 use Rattle.mb_theory.specs.WorldSteps.{world}
 use Rattle.mb_theory.specs.WorldRecord.{plans}
 use Rattle.mb_theory.specs.Justification.{is_sound}

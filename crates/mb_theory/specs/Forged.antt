@@ -14,7 +14,7 @@ use Rattle.mb_model.specs.Verified.{verifies}
 use Rattle.mb_model.specs.OtherTags.{wish_tag}
 use Rattle.mb_theory.specs.Inside.{claims_in, requests_in}
 use Rattle.mb_theory.specs.WorldEvents.{Schedule, is_faulty, is_faulty_client}
-use Rattle.mb_theory.specs.WholeWorld.{World}
+use Rattle.mb_theory.specs.World.{World}
 use Rattle.mb_theory.specs.WorldRecord.{issued}
 
 module _ (s : Schedule) (w : World) where

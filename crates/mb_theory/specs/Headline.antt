@@ -5,9 +5,10 @@ use Rattle.mb_base.specs.Shapes.{Bytes}
 use Rattle.mb_parts.specs.Fits.{FitsText}
 use Rattle.mb_model.specs.Service.{Machine}
 use Rattle.mb_model.specs.States.{Snapshots, service_parts}
+use Rattle.mb_model.specs.Built.{everything}
 use Rattle.mb_theory.specs.Hashed.{HashesApart}
 use Rattle.mb_theory.specs.WorldEvents.{IsCorrect, IsSchedule}
-use Rattle.mb_theory.specs.WholeWorld.{World, System, self_of}
+use Rattle.mb_theory.specs.World.{World, System, self_of}
 use Rattle.mb_theory.specs.WorldSteps.{world}
 use Rattle.mb_theory.specs.WorldRecord.{ViewsAgree}
 use Rattle.mb_theory.specs.Stops.{IsUnstopped}
@@ -48,7 +49,7 @@ module _ {S : Type 0} (system : System S) where
   abbrev pub HoldsAtEachEvent : Type 0
   HoldsAtEachEvent = (k : ℕ) → k ≤ length system.schedule.events → IsUnstopped system k → HashesApart (world system k).hashed → Promises (world system k)
 
--- For every service and every schedule with at most f faulty hosts and nothing forged, whatever is lost, repeated and reordered.
--- This is what is to be proved. It is not proved yet.
+-- For every service and every schedule with at most f faulty hosts and nothing forged, whatever is lost, repeated and reordered, where the
+-- whole protocol is built. This is what is to be proved. It is not proved yet.
 abbrev pub HostsStayOne : Type 0 → Type 0
-HostsStayOne S = (system : System S) → IsService system.machine system.snapshots system.initial → IsSchedule system.schedule → HoldsAtEachEvent system
+HostsStayOne S = (system : System S) → system.built ≡ everything → IsService system.machine system.snapshots system.initial → IsSchedule system.schedule → HoldsAtEachEvent system

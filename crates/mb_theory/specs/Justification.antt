@@ -18,7 +18,7 @@ use Rattle.mb_model.specs.States.{state_digest}
 use Rattle.mb_model.specs.Histories.{History, Executed, Installed, said}
 use Rattle.mb_theory.specs.Inside.{claims_in, floors_in}
 use Rattle.mb_theory.specs.WorldEvents.{Schedule, IsCorrect}
-use Rattle.mb_theory.specs.WholeWorld.{World, read}
+use Rattle.mb_theory.specs.World.{World, read}
 use Rattle.mb_theory.specs.WorldRecord.{issued, plans}
 
 module _ (s : Schedule) (w : World) where

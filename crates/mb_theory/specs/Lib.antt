@@ -1,9 +1,7 @@
-pub mod World
 pub mod Hashed
-pub mod Promises
 pub mod Inside
 pub mod WorldEvents
-pub mod WholeWorld
+pub mod World
 pub mod FaultyHosts
 pub mod WorldSteps
 pub mod WorldRecord
@@ -14,3 +12,4 @@ pub mod NothingLeft
 pub mod Safety
 pub mod Bounds
 pub mod Headline
+pub mod FirstPath

@@ -14,7 +14,7 @@ use Rattle.mb_model.specs.Positions.{exec_of, slot_at, slot_vote, vote_of}
 use Rattle.mb_model.specs.Execution.{missing}
 use Rattle.mb_model.specs.Making.{present_parts}
 use Rattle.mb_model.specs.EnabledRules.{change_enabled, announce_enabled, enter_enabled, open_enabled, join_enabled, commit_enabled, execute_enabled, prepare_enabled}
-use Rattle.mb_theory.specs.WholeWorld.{System, self_of}
+use Rattle.mb_theory.specs.World.{System, self_of}
 use Rattle.mb_theory.specs.WorldSteps.{world}
 
 module _ {S : Type 0} (self : Identity S) (d : History) where
@@ -45,7 +45,7 @@ module _ {S : Type 0} (self : Identity S) (d : History) where
 
   -- Where a multiple of the interval was executed, and there was room at that moment, a CHECKPOINT was stamped.
   abbrev pub StampsCheckpoints : Type 0
-  StampsCheckpoints = (later before : History) (slot : Slot) → d ≡ later ++ Executed slot ∷ before → slot.pos % interval self.shape ≡ 0
+  StampsCheckpoints = self.built.checkpoints ≡ true → (later before : History) (slot : Slot) → d ≡ later ++ Executed slot ∷ before → slot.pos % interval self.shape ≡ 0
       → has_room self (Executed slot ∷ before) ≡ true → IsCheckpointed later before slot
 
   -- Never are all parts of the stable state held: with the last of them it was installed, or they were no state and were dropped.

@@ -9,7 +9,7 @@ use Rattle.mb_model.specs.Histories.{Executed}
 use Rattle.mb_model.specs.Positions.{exec_of}
 use Rattle.mb_model.specs.Execution.{state_of}
 use Rattle.mb_theory.specs.WorldEvents.{IsCorrect, IsCorrectClient}
-use Rattle.mb_theory.specs.WholeWorld.{World, System, self_of}
+use Rattle.mb_theory.specs.World.{World, System, self_of}
 
 module _ {S : Type 0} (system : System S) (w : World) where
   -- the sequential service after the first n slots of the line

@@ -6,13 +6,12 @@ use Rattle.mb_base.specs.Shapes.{Bytes}
 use Rattle.mb_msg.specs.declared.message.Message.{Message}
 use Rattle.mb_msg.specs.declared.stamped.Stamped.{Stamped as StampedMessage}
 use Rattle.mb_msg.specs.Stamps.{as_stamped}
-use Rattle.mb_model.specs.Outcomes.{Outcome}
-use Rattle.mb_model.specs.Outcomes as outcome
+use Rattle.mb_msg.specs.declared.event.Outcome.{Outcome}
+use Rattle.mb_msg.specs.declared.event.Outcome.TheVariants as outcome
 use Rattle.mb_model.specs.Clients.{Taken}
 use Rattle.mb_model.specs.Clients as client
-use Rattle.mb_theory.specs.World.{numbered}
 use Rattle.mb_theory.specs.WorldEvents.{Name, WorldEvent, Give, Take, Raw, StampPrepare, StampCommit, StampChange, StampAs, Schedule, is_faulty, is_faulty_client, is_faulty_name, culprit}
-use Rattle.mb_theory.specs.WholeWorld.{Seen, OfHost, OfClient, Unread, World, System, read}
+use Rattle.mb_theory.specs.World.{numbered, Seen, OfHost, OfClient, Unread, World, System, read}
 use Rattle.mb_theory.specs.FaultyHosts.{prepare_with, commit_for, content, is_sendable_change}
 use Rattle.mb_theory.specs.Forged.{forged_claim, has_forged_tag}
 use Rattle.mb_theory.specs.WorldSteps.{world}

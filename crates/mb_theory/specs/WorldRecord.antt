@@ -14,7 +14,7 @@ use Rattle.mb_parts.specs.Issued.{is_issued, stamped_prefix}
 use Rattle.mb_model.specs.Committed.{PlanText, Plans}
 use Rattle.mb_model.specs.Agreement.{IsConsistentRecord, Agrees}
 use Rattle.mb_theory.specs.WorldEvents.{Schedule}
-use Rattle.mb_theory.specs.WholeWorld.{World, stamps}
+use Rattle.mb_theory.specs.World.{World, stamps}
 
 -- ---- plans by their digests
 

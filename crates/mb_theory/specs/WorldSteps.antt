@@ -5,10 +5,9 @@ use Rattle.mb_msg.specs.declared.message.Message.TheVariants as message
 use Rattle.mb_msg.specs.Spelling.{spelling}
 use Rattle.mb_msg.specs.declared.stamped.Stamped.{Stamped as StampedMessage}
 use Rattle.mb_msg.specs.Stamps.{as_stamped}
-use Rattle.mb_model.specs.Outcomes as host
-use Rattle.mb_theory.specs.World.{numbered}
+use Rattle.mb_msg.specs.declared.event.Event.TheVariants as host
 use Rattle.mb_theory.specs.WorldEvents.{WorldEvent, HostName, ClientName, Ask, Give, Take, Raw, Patience, Nudge, Sign, TagReply, TagWish, StampPrepare, StampCommit, StampCheckpoint, StampChange, StampAs, StampRaw, Schedule, is_faulty, is_faulty_client}
-use Rattle.mb_theory.specs.WholeWorld.{World, System, nothing_happened, made, request_of, client_asks, give_client, give_host, signal}
+use Rattle.mb_theory.specs.World.{numbered, World, System, nothing_happened, made, request_of, client_asks, give_client, give_host, signal}
 use Rattle.mb_theory.specs.FaultyHosts.{prepare_with, commit_for, checkpoint_with, stamp_some, reply_of_host, wish_of_host, stamp_content, stamp_bytes, content, change_after}
 
 -- Someone correct does nothing of the kind.

@@ -1,5 +1,5 @@
 -- VIEW_CHANGEs that are refused, computed on the definitions with real tags and digests. What is expected was worked out from the rules by hand.
-use Rattle.std.proofs.Common.{◌≡◌, ℕ, List, [], ◌∷◌, ◌++◌, refl, arith, Some, None}
+use Rattle.std.proofs.Common.{◌≡◌, ℕ, List, [], ◌∷◌, refl, arith, Some, None}
 use Rattle.std.specs.Prelude.{codes}
 use Rattle.mb_base.specs.Shapes.{Bytes}
 use Rattle.mb_base.specs.declared.shape.Shape.{Shape}
@@ -11,13 +11,13 @@ use Rattle.mb_msg.specs.declared.normal.Commit.{Commit}
 use Rattle.mb_msg.specs.declared.stamped.Shown.{Shown}
 use Rattle.mb_msg.specs.declared.stamped.Shown.TheVariants as shown
 use Rattle.mb_model.specs.Plans.{no_base}
-use Rattle.mb_model.specs.Outcomes as outcome
+use Rattle.mb_msg.specs.declared.event.Outcome.TheVariants as outcome
 use Rattle.mb_model.specs.Histories.{Identity}
 use Rattle.mb_model.specs.Held.{change_fault}
 use Rattle.mb_model.specs.HostStep.{transition}
 use Rattle.mb_model.proofs.Hex.{unhex}
 use Rattle.mb_model.proofs.StepOnLiterals.{host_on_literals}
-use Rattle.mb_worked.proofs.Networks.{Happening, Appears, Reaches, Waits, nothing_yet, net_after, story}
+use Rattle.mb_worked.proofs.Networks.{Appears, Reaches, Waits, nothing_yet, net_after, story}
 use Rattle.mb_worked.proofs.Samples.{four_clients, host, asked, prepare}
 
 -- a VIEW_CHANGE with no floor and nothing stable that shows these entries

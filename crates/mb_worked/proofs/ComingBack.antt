@@ -4,7 +4,7 @@ use Rattle.std.specs.Prelude.{replicate, codes}
 use Rattle.mb_base.specs.Shapes.{Bytes}
 use Rattle.mb_msg.specs.declared.message.Message.{Message}
 use Rattle.mb_msg.specs.declared.message.Message.TheVariants as message
-use Rattle.mb_model.specs.Outcomes as outcome
+use Rattle.mb_msg.specs.declared.event.Outcome.TheVariants as outcome
 use Rattle.mb_model.specs.Histories.{origin, gate}
 use Rattle.mb_model.specs.HostStep.{transition}
 use Rattle.mb_model.proofs.Hex.{unhex}

@@ -12,15 +12,15 @@ use Rattle.mb_msg.specs.declared.message.Message.TheVariants as message
 use Rattle.mb_msg.specs.Spelling.{spelling, shown_kind}
 use Rattle.mb_model.specs.Verified.{verifies}
 use Rattle.mb_model.specs.UsableLogs.{log_fault}
-use Rattle.mb_model.specs.Outcomes as outcome
+use Rattle.mb_msg.specs.declared.event.Outcome.TheVariants as outcome
 use Rattle.mb_model.specs.Clients as client
 use Rattle.mb_model.specs.Positions.{exec_of}
 use Rattle.mb_theory.specs.WorldEvents.{WorldEvent, HostName, ClientName, Ask, Give, Take, Raw, Nudge, Sign, TagReply, TagWish, StampPrepare, StampCommit, StampChange, StampAs, StampRaw}
-use Rattle.mb_theory.specs.WholeWorld.{Seen, OfHost, OfClient, Unread, Lost, World, System}
+use Rattle.mb_theory.specs.World.{Seen, OfHost, OfClient, Unread, Lost, World, System}
 use Rattle.mb_theory.specs.FaultyHosts.{log_after}
 use Rattle.mb_theory.specs.WorldSteps.{world}
 use Rattle.mb_theory.specs.Stops.{WorldStop, NotFaulty, NoSuchMessage, WrongKind, Forged, ForgedTag, refused}
-use Rattle.mb_worked.proofs.WorldsOnLiterals.{worlds_on_literals}
+use Rattle.mb_theory.proofs.WorldsOnLiterals.{worlds_on_literals}
 use Rattle.mb_worked.proofs.Worlds.{one_client, operation, system_of, all_correct, of_faulty_primary, kind_byte, stop_at}
 
 -- ---- two PREPAREs for one position

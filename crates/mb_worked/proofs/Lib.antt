@@ -11,6 +11,5 @@ pub mod TwelveRequestsData
 pub mod TwelveRequests
 mod ComingBack
 mod ChangingView
-pub mod WorldsOnLiterals
 pub mod Worlds
 mod FaultyWorlds

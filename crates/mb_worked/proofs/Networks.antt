@@ -3,8 +3,8 @@ use Rattle.std.specs.Prelude.{ℕ, ◌+◌, ◌-◌, List, [], ◌∷◌, ◌++�
 use Rattle.mb_base.specs.Shapes.{Bytes}
 use Rattle.mb_msg.specs.declared.message.Message.{Message}
 use Rattle.mb_msg.specs.Spelling.{kind_of}
-use Rattle.mb_model.specs.Outcomes.{Outcome}
-use Rattle.mb_model.specs.Outcomes as outcome
+use Rattle.mb_msg.specs.declared.event.Outcome.{Outcome}
+use Rattle.mb_msg.specs.declared.event.Event.TheVariants as event
 use Rattle.mb_model.specs.Histories.{History, Identity, view_of}
 use Rattle.mb_model.specs.Stable.{low_of}
 use Rattle.mb_model.specs.OwnLog.{own_log, log_longest}
@@ -61,9 +61,9 @@ module _ {S : Type 0} (host : ℕ → Identity S) where
   abbrev happened : Happening → Net → Net
   happened (Appears m) w = record w { pool = w.pool ++ m ∷ [] }
   happened (Reaches n h) w = reached (message_at w n) h w
-  happened (Waits h) w = left_net w h (transition (host h) (history_at w.histories h) outcome.Patience)
-  happened (Nudges h) w = left_net w h (transition (host h) (history_at w.histories h) outcome.Nudge)
-  happened (Hears h bytes) w = left_net w h (transition (host h) (history_at w.histories h) (outcome.Given bytes))
+  happened (Waits h) w = left_net w h (transition (host h) (history_at w.histories h) event.Patience)
+  happened (Nudges h) w = left_net w h (transition (host h) (history_at w.histories h) event.Nudge)
+  happened (Hears h bytes) w = left_net w h (transition (host h) (history_at w.histories h) (event.Given bytes))
 
   -- behind all of these, the first of them first
   unfoldable pub net_after : List Happening → Net → Net

@@ -1,7 +1,7 @@
 -- Requests and votes with real tags, computed outside these definitions: three hosts, of which h0 leads view 0; a checkpoint at each fourth position;
 -- a secret of 32 zero bytes. Each client asks once for the same operation.
 use Rattle.std.proofs.Common.{arith}
-use Rattle.std.specs.Prelude.{ℕ, ◌+◌, ◌-◌, ◌/◌, List, [], ◌∷◌, true, replicate, codes, slice_index_or, Result, Ok, unwrap_or, slice_get, if◌then◌else◌, ◌==◌}
+use Rattle.std.specs.Prelude.{ℕ, ◌+◌, ◌-◌, ◌/◌, List, [], ◌∷◌, true, replicate, codes, slice_index_or, Ok, unwrap_or, slice_get, if◌then◌else◌, ◌==◌}
 use Rattle.mb_base.specs.Shapes.{Bytes}
 use Rattle.mb_base.specs.declared.shape.Shape.{Shape}
 use Rattle.mb_parts.specs.declared.request.Request.{Request}
@@ -11,6 +11,7 @@ use Rattle.mb_msg.specs.declared.normal.Prepare.{Prepare}
 use Rattle.mb_msg.specs.declared.normal.Commit.{Commit}
 use Rattle.mb_model.specs.Service.{Machine}
 use Rattle.mb_model.specs.States.{Snapshots}
+use Rattle.mb_model.specs.Built.{everything}
 use Rattle.mb_model.specs.Histories.{Identity}
 use Rattle.mb_model.proofs.Hex.{unhex}
 
@@ -37,7 +38,7 @@ abbrev pub thirteen_clients : Shape
 thirteen_clients = record { f = 1; k = 4; clients = 13; faults_in = (omega arith, omega arith); interval_in = (omega arith, omega arith); clients_in = (omega arith, omega arith) }
 
 abbrev pub host : Shape → ℕ → Identity Bytes
-host s h = record { shape = s; host = h; secret = secret; machine = keeps_last; snapshots = first_part; initial = [] }
+host s h = record { built = everything; shape = s; host = h; secret = secret; machine = keeps_last; snapshots = first_part; initial = [] }
 
 -- PUT a = 1
 abbrev pub put : Bytes

@@ -23,7 +23,7 @@ use Rattle.mb_msg.specs.Plans.{plan_digest}
 use Rattle.mb_model.specs.declared.known.Vote.{Vote}
 use Rattle.mb_model.specs.Plans.{no_base}
 use Rattle.mb_model.specs.States.{digest_string}
-use Rattle.mb_model.specs.Outcomes as outcome
+use Rattle.mb_msg.specs.declared.event.Outcome.TheVariants as outcome
 use Rattle.mb_model.specs.Histories.{Accepted, Stamped, Closed, History}
 use Rattle.mb_model.specs.Stable.{low_of}
 use Rattle.mb_model.specs.OwnLog.{log_start}

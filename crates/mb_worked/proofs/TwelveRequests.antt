@@ -1,13 +1,13 @@
 -- Twelve requests that go through two of three hosts, computed on the definitions with real tags and digests: what both hold behind each of them, how stable
 -- positions rise, and how logs are cut. What is expected was worked out from the rules by hand.
-use Rattle.std.proofs.Common.{◌≡◌, ℕ, zero, suc, ◌+◌, ◌*◌, List, [], ◌∷◌, ◌++◌, refl, ap, ◌∙◌}
+use Rattle.std.proofs.Common.{◌≡◌, ℕ, zero, suc, ◌+◌, ◌*◌, List, [], ◌∷◌, refl, ap, ◌∙◌}
 use Rattle.std.specs.Prelude.{replicate, drop, codes, ◌/◌}
 use Rattle.mb_base.specs.Shapes.{Bytes}
 use Rattle.mb_msg.specs.declared.message.Body.TheVariants.{Bare as Short}
 use Rattle.mb_msg.specs.declared.message.Message.{Message}
 use Rattle.mb_msg.specs.declared.message.Message.TheVariants as message
-use Rattle.mb_model.specs.Outcomes.{Outcome}
-use Rattle.mb_model.specs.Outcomes as outcome
+use Rattle.mb_msg.specs.declared.event.Outcome.{Outcome}
+use Rattle.mb_msg.specs.declared.event.Outcome.TheVariants as outcome
 use Rattle.mb_model.specs.Histories.{Accepted, History, Identity}
 use Rattle.mb_model.specs.HostStep.{on_message}
 use Rattle.mb_model.proofs.Hex.{unhex}

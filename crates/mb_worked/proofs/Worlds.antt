@@ -17,7 +17,8 @@ use Rattle.mb_model.specs.UsableLogs.{Fault}
 use Rattle.mb_model.specs.Held.{change_fault, evidence_of}
 use Rattle.mb_model.specs.Service.{Machine, Served}
 use Rattle.mb_model.specs.States.{Snapshots}
-use Rattle.mb_model.specs.Outcomes as outcome
+use Rattle.mb_model.specs.Built.{everything}
+use Rattle.mb_msg.specs.declared.event.Outcome.TheVariants as outcome
 use Rattle.mb_model.specs.Clients as client
 use Rattle.mb_model.specs.Histories.{view_of, said, stamped as stamped_by}
 use Rattle.mb_model.specs.Stable.{low_of}
@@ -25,13 +26,13 @@ use Rattle.mb_model.specs.OwnLog.{own_log}
 use Rattle.mb_model.specs.Positions.{exec_of}
 use Rattle.mb_model.specs.Execution.{state_of}
 use Rattle.mb_theory.specs.WorldEvents.{WorldEvent, Ask, Give, Take, Patience, StampPrepare, Schedule}
-use Rattle.mb_theory.specs.WholeWorld.{OfHost, OfClient, Made, World, System, nothing_happened, self_of, request_of}
+use Rattle.mb_theory.specs.World.{OfHost, OfClient, Made, World, System, nothing_happened, self_of, request_of}
 use Rattle.mb_theory.specs.WorldSteps.{happens, world}
 use Rattle.mb_theory.specs.Stops.{WorldStop, stop_of}
 use Rattle.mb_theory.specs.WorldRecord.{issued, prefix, plans}
 use Rattle.mb_theory.specs.Justification.{is_sound}
 use Rattle.mb_theory.specs.Safety.{after_line}
-use Rattle.mb_worked.proofs.WorldsOnLiterals.{worlds_on_literals}
+use Rattle.mb_theory.proofs.WorldsOnLiterals.{worlds_on_literals}
 
 -- ---- three hosts with a service that keeps the last operation and answers with the one before
 
@@ -45,7 +46,7 @@ abbrev pub one_client : Shape
 one_client = record { f = 1; k = 4; clients = 1; faults_in = (omega arith, omega arith); interval_in = (omega arith, omega arith); clients_in = (omega arith, omega arith) }
 
 abbrev pub system_of : Schedule → System Bytes
-system_of s = record { machine = keeps_last; snapshots = keeps_parts; initial = []; schedule = s }
+system_of s = record { built = everything; machine = keeps_last; snapshots = keeps_parts; initial = []; schedule = s }
 
 abbrev pub all_correct : List WorldEvent → System Bytes
 all_correct events = system_of (record { shape = one_client; secret = replicate 32 0; faulty_hosts = replicate 3 false; faulty_clients = replicate 1 false; events = events })

@@ -6,18 +6,31 @@ use Rattle.mb_msg.specs.declared.event.Event.{Event}
 use Rattle.mb_msg.specs.declared.event.Step.{Step}
 use Rattle.mb_base.specs.Shapes.{Bytes}
 use Rattle.mb_base.specs.declared.shape.Shape.{Shape}
-use Rattle.mb_model.specs.History.{History, Identity}
-use Rattle.mb_model.specs.Transition.{transition}
+use Rattle.mb_model.specs.Histories.{History, Identity, counter_of, here}
+use Rattle.mb_model.specs.Stable.{low_of}
+use Rattle.mb_model.specs.OwnLog.{own_log, log_longest}
+use Rattle.mb_model.specs.Positions.{exec_of}
+use Rattle.mb_model.specs.HostStep.{transition}
 use Rattle.mb_sched.specs.declared.schedule.Schedule.{Schedule}
-use Rattle.minbft.specs.declared.replica.Replica.{Replica}
-use Rattle.minbft.specs.Represents.{Represents, IsStep, me}
-use Rattle.minbft.specs.Store.{Pairs, store_machine}
-use Rattle.minbft.specs.World.{self_of, update}
+use Rattle.mb_core.specs.declared.replica.Replica.{Replica}
+use Rattle.mb_core.specs.Represents.{Represents, IsStep, host_with, no_snapshots, me}
+use Rattle.mb_core.specs.Store.{Pairs, store_machine}
+use Rattle.mb_theory.specs.World.{World, update}
+use Rattle.mb_theory.proofs.Invariant.{Run}
+use Rattle.mb_theory.proofs.Asked.{nobody_faulty}
+use Rattle.minbft.specs.World.{system_of, self_of}
 use Rattle.minbft.specs.Hosts.{AllRun, RepresentsHosts, line_of_host}
-use Rattle.minbft.specs.Reports.{state_line}
+use Rattle.minbft.specs.Reports.{state_line, host_line}
+use Rattle.mb_parts.specs.declared.floor.Phase.TheVariants as phase
+use Rattle.mb_sched.specs.declared.report.HostState.{HostState}
+use Rattle.mb_model.proofs.EarlyHistories.{IsEarly, early_view, early_phase, early_low, early_log, early_longest}
 
 some_is : {X : Type 0} (x y : X) → Some x ≡ Some y → x ≡ y
 some_is x y e = cc
+
+-- the schedule with the service, as the theorem has it
+abbrev pub run_of : Schedule → Run Pairs
+run_of s = record { machine = store_machine; snapshots = no_snapshots; initial = []; schedule = s }
 
 -- what stands at a place after a write
 pub set_read : {X : Type 0} (xs : List X) (i h : ℕ) (y r : X) → slice_get (set xs i y) h ≡ Some r → ((h ≡ i) × (y ≡ r)) ⊎ ((h ≡ i → ⊥) × (slice_get xs h ≡ Some r))
@@ -78,23 +91,39 @@ one_more_runs hosts r old new = λ h q e.
 
 -- a host that was made with a schedule's shape and secret
 pub made_as : (s : Schedule) (shape : Shape) (secret : Bytes) (h n : ℕ) (r : Replica) → s.shape ≡ shape → s.secret ≡ secret → n ≡ h
-    → Represents (record { shape = shape; host = h; secret = secret; machine = store_machine; initial = [] }) r [] → Represents (self_of s n) r []
+    → Represents (host_with shape h secret) r [] → Represents (self_of s n) r []
 made_as s shape secret h n r e f g made = rw (e, f, g) made
 
 -- ---- lines
 
-line_is : (s : Schedule) (h : ℕ) (r : Replica) (d : History) → Represents (self_of s h) r d → line_of_host r ≡ record { host = h; state = Some (state_line d) }
-line_is s h r d rep =
-    let host : r.host ≡ h = ap (λ (m : Identity Pairs). m.host) rep.who in
-    rw (host, rep.exec, rep.counter) refl
+-- where a host of an early history stands
+same_line : (self : Identity Pairs) (d : History) (exec log : ℕ) → IsEarly d → exec ≡ exec_of d → log ≡ counter_of d
+    → record { view = 0; phase = phase.Open; exec = exec; low = 0; log = log; longest = log } ≡ state_line self d
+same_line self d exec log early exec_is log_is =
+    let v : (here self d).view ≡ 0 = early_view self d early in
+    let p : (here self d).phase ≡ phase.Open = early_phase self d early in
+    let w : low_of self d ≡ 0 = early_low self d early in
+    let l : length (own_log self d) ≡ log = ap length (early_log self d early) ∙ sym log_is in
+    let g : log_longest self d ≡ log = early_longest self d early ∙ sym log_is in
+    cc
 
-lines_from : (s : Schedule) (n : ℕ) (hosts : List Replica) (d : ℕ → History) → ((k h : ℕ) (r : Replica) → k ≡ n + h → slice_get hosts h ≡ Some r → Represents (self_of s k) r (d k))
-    → map line_of_host hosts ≡ map (λ h. record { host = h; state = Some (state_line (d h)) }) (range_with_len n (length hosts))
-lines_from s n [] d all = refl
-lines_from s n (r ∷ rs) d all =
-    rw (line_is s n r (d n) (all n 0 r (omega arith) refl), lines_from s (n + 1) rs d (λ k h q e at. all k (suc h) q (omega arith) at)) refl
+line_is : (s : Schedule) (h : ℕ) (r : Replica) (x : World) → Represents (self_of s h) r (x.histories h) → line_of_host r ≡ host_line (system_of s) x h
+line_is s h r x rep =
+    let self : Identity Pairs = self_of s h in
+    let d : History = x.histories h in
+    let early : IsEarly d = rep.tables.early in
+    let host : r.host ≡ h = ap (λ (m : Identity Pairs). m.host) rep.who in
+    let stands : record { view = 0; phase = phase.Open; exec = r.exec; low = 0; log = r.usig.counter; longest = r.usig.counter } ≡ state_line self d =
+    same_line self d r.exec r.usig.counter early rep.exec rep.counter in
+    rw (host, nobody_faulty (run_of s) h) (ap (λ (l : HostState). record { host = h; state = Some l }) stands)
+
+lines_from : (s : Schedule) (n : ℕ) (hosts : List Replica) (x : World) → ((k h : ℕ) (r : Replica) → k ≡ n + h → slice_get hosts h ≡ Some r → Represents (self_of s k) r (x.histories k))
+    → map line_of_host hosts ≡ map (host_line (system_of s) x) (range_with_len n (length hosts))
+lines_from s n [] x all = refl
+lines_from s n (r ∷ rs) x all =
+    rw (line_is s n r x (all n 0 r (omega arith) refl), lines_from s (n + 1) rs x (λ k h q e at. all k (suc h) q (omega arith) at)) refl
 
 -- the lines of hosts that represent their histories
-pub lines_are : (s : Schedule) (hosts : List Replica) (d : ℕ → History) → RepresentsHosts s hosts d
-    → map line_of_host hosts ≡ map (λ h. record { host = h; state = Some (state_line (d h)) }) (range_with_len 0 (length hosts))
-lines_are s hosts d all = lines_from s 0 hosts d (λ k h r e at. let same : k ≡ h = omega arith in rw same (all h r at))
+pub lines_are : (s : Schedule) (hosts : List Replica) (x : World) → RepresentsHosts s hosts x.histories
+    → map line_of_host hosts ≡ map (host_line (system_of s) x) (range_with_len 0 (length hosts))
+lines_are s hosts x all = lines_from s 0 hosts x (λ k h r e at. let same : k ≡ h = omega arith in rw same (all h r at))

@@ -17,16 +17,15 @@ use Rattle.mb_sched.specs.Words.{operation_of as bytes_of_word}
 use Rattle.mb_sched.specs.Schedules.{schedule_of, contents}
 use Rattle.mb_sched.specs.Headers.{header_by}
 use Rattle.mb_sched.specs.Report.{report_text}
-use Rattle.mb_model.proofs.OnLiterals.{steps_on_literals}
+use Rattle.mb_theory.proofs.WorldsOnLiterals.{worlds_on_literals}
 use Rattle.mb_sched.proofs.OnLiterals.{texts_on_literals}
-use Rattle.minbft.specs.Store.{key_at, operation_at, operation_of, with_value}
-use Rattle.mb_theory.specs.World.{happens as any_event, world as any_world}
-use Rattle.minbft.specs.World.{world}
+use Rattle.mb_core.specs.Store.{key_at, operation_at, operation_of, with_value}
+use Rattle.minbft.specs.World.{system_of, world}
 use Rattle.minbft.specs.Reports.{refusals, report_of}
 
 -- what an answer unfolds to run schedules and to report
 unfoldable runs_on_literals : ⊤
-unfolding steps_on_literals key_at operation_at operation_of with_value any_event any_world refusals report_of
+unfolding worlds_on_literals key_at operation_at operation_of with_value refusals report_of
 runs_on_literals = tt
 
 -- ---- words for the cases
@@ -45,7 +44,7 @@ zero_secret = "secret 0000000000000000000000000000000000000000000000000000000000
 
 -- these lines are the schedule's text, and those are its report's
 abbrev Replays : Schedule → List String → List String → Type 0
-Replays s given printed = (schedule_of (text given) ≡ Ok (contents s)) × (report_text (report_of s (world s (length s.events))) ≡ text printed)
+Replays s given printed = (schedule_of (text given) ≡ Ok (contents s)) × (report_text (report_of (system_of s) (world s (length s.events))) ≡ text printed)
 
 abbrev three_hosts : Shape
 three_hosts = record { f = 1; k = 4; clients = 1; faults_in = (omega arith, omega arith); interval_in = (omega arith, omega arith); clients_in = (omega arith, omega arith) }
@@ -106,7 +105,7 @@ put_report = record {
   clients = asks_of 0 1 ∷ [];
 }
 
-one_put : report_of put (world put 5) ≡ put_report
+one_put : report_of (system_of put) (world put 5) ≡ put_report
 unfolding runs_on_literals texts_on_literals
 one_put = refl
 
@@ -141,7 +140,7 @@ empty_report = record {
   clients = asks_of 0 0 ∷ [];
 }
 
-empty_schedule : report_of empty (world empty 0) ≡ empty_report
+empty_schedule : report_of (system_of empty) (world empty 0) ≡ empty_report
 unfolding runs_on_literals texts_on_literals
 empty_schedule = refl
 
@@ -174,7 +173,7 @@ only_commit_report = record {
   clients = asks_of 0 1 ∷ [];
 }
 
-commit_first : report_of only_commit (world only_commit 4) ≡ only_commit_report
+commit_first : report_of (system_of only_commit) (world only_commit 4) ≡ only_commit_report
 unfolding runs_on_literals texts_on_literals
 commit_first = refl
 
@@ -209,7 +208,7 @@ commit_twice_report = record {
   clients = asks_of 0 1 ∷ [];
 }
 
-repeated_commit : report_of commit_twice (world commit_twice 5) ≡ commit_twice_report
+repeated_commit : report_of (system_of commit_twice) (world commit_twice 5) ≡ commit_twice_report
 unfolding runs_on_literals texts_on_literals
 repeated_commit = refl
 
@@ -245,7 +244,7 @@ mixed_up_report = record {
   clients = asks_of 0 1 ∷ asks_of 1 1 ∷ asks_of 2 1 ∷ [];
 }
 
-out_of_order : report_of mixed_up (world mixed_up 10) ≡ mixed_up_report
+out_of_order : report_of (system_of mixed_up) (world mixed_up 10) ≡ mixed_up_report
 unfolding runs_on_literals texts_on_literals
 out_of_order = refl
 
@@ -285,7 +284,7 @@ put_in_five_report = record {
   clients = asks_of 0 1 ∷ [];
 }
 
-five_hosts : report_of put_in_five (world put_in_five 5) ≡ put_in_five_report
+five_hosts : report_of (system_of put_in_five) (world put_in_five 5) ≡ put_in_five_report
 unfolding runs_on_literals texts_on_literals
 five_hosts = refl
 
@@ -322,7 +321,7 @@ put_and_again_report = record {
   clients = asks_of 0 1 ∷ [];
 }
 
-asked_again : report_of put_and_again (world put_and_again 6) ≡ put_and_again_report
+asked_again : report_of (system_of put_and_again) (world put_and_again 6) ≡ put_and_again_report
 unfolding runs_on_literals texts_on_literals
 asked_again = refl
 

@@ -3,12 +3,12 @@ use Rattle.std.specs.Prelude.{◌≡◌, ℕ, ◌<◌, ◌≤◌, false, List, S
 use Rattle.mb_base.specs.Shapes.{client_count}
 use Rattle.mb_usig.specs.Trusted.{Signer}
 use Rattle.mb_parts.specs.declared.floor.Phase.TheVariants as phase
-use Rattle.mb_model.specs.History.{History}
+use Rattle.mb_model.specs.Histories.{History}
 use Rattle.mb_sched.specs.declared.schedule.Schedule.{Schedule}
 use Rattle.mb_sched.specs.declared.report.HostLine.{HostLine}
 use Rattle.mb_sched.specs.declared.report.ClientLine.{ClientLine}
-use Rattle.minbft.specs.declared.replica.Replica.{Replica}
-use Rattle.minbft.specs.Represents.{Represents}
+use Rattle.mb_core.specs.declared.replica.Replica.{Replica}
+use Rattle.mb_core.specs.Represents.{Represents}
 use Rattle.minbft.specs.World.{self_of}
 
 -- ---- invariants

@@ -1,11 +1,5 @@
-pub mod Store
 pub mod World
 pub mod Hosts
-pub mod Sound
-pub mod Represents
 pub mod Reports
-pub mod StoreTables
-pub mod Halting
-pub mod Due
 pub mod WorldTables
 pub mod Program

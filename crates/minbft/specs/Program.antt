@@ -15,7 +15,7 @@ use Rattle.mb_sched.specs.Schedules.{max_text, line_number, schedule_of, IsSched
 use Rattle.mb_sched.specs.Report.{report_text}
 use Rattle.minbft.specs.declared.top.Command.{Command}
 use Rattle.minbft.specs.declared.top.Command.TheVariants.{Replay, NotBuilt}
-use Rattle.minbft.specs.World.{world}
+use Rattle.minbft.specs.World.{system_of, world}
 use Rattle.minbft.specs.WorldTables.{ArePossible, IsFirstImpossible}
 use Rattle.minbft.specs.Reports.{report_of}
 
@@ -56,7 +56,7 @@ unbuilt_line_text n = codes "unbuilt line " ++ (decimal n ++ codes "\n")
 
 -- the report after all events
 abbrev pub final_report : Schedule → Bytes
-final_report s = report_text (report_of s (world s (length s.events)))
+final_report s = report_text (report_of (system_of s) (world s (length s.events)))
 
 -- what is answered to a schedule whose text is right: the status, and what is to be written
 pub data AnswersRun (s : Schedule) (status : ℕ) (out : Bytes) : Type 0 where

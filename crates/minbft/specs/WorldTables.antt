@@ -1,5 +1,5 @@
 -- What the code's world is: a world of the definitions, in which each host has a history of its own.
-use Rattle.std.specs.Prelude.{◌≡◌, ℕ, ◌-◌, ◌<◌, ◌≤◌, Bool, true, false, List, length, Option, Some, None, is_some, if◌then◌else◌, Result, Ok, Err, slice_get, slice_index}
+use Rattle.std.specs.Prelude.{◌≡◌, ℕ, ◌-◌, ◌<◌, ◌≤◌, Bool, true, false, List, [], length, Option, Some, None, is_some, if◌then◌else◌, Result, Ok, Err, slice_get, slice_index}
 use Rattle.mb_base.specs.Shapes.{Bytes, client_count}
 use Rattle.mb_sched.specs.declared.schedule.Schedule.{Schedule}
 use Rattle.mb_sched.specs.declared.schedule.WorldEvent.{WorldEvent}
@@ -12,12 +12,14 @@ use Rattle.minbft.specs.declared.replay.RunStop.TheVariants as run
 use Rattle.minbft.specs.Hosts.{RepresentsHosts, ArePens}
 use Rattle.minbft.specs.Reports.{refusals}
 use Rattle.mb_sched.specs.Limits.{EventFits}
-use Rattle.minbft.specs.World.{World as WorldState, asked_by, numbered, is_possible, world}
+use Rattle.mb_theory.specs.World.{World as WorldState, numbered}
+use Rattle.minbft.specs.World.{is_possible, world}
 
 pub record RepresentsWorld (s : Schedule) (w : World) (x : WorldState) : Type 0 where
   pub shape : w.shape ≡ s.shape
   pub pens : ArePens s w.pens.items
-  pub asked : (c : ℕ) → c < client_count s.shape → slice_index w.asked.items c ≡ asked_by x.asked c
+  pub asked : (c : ℕ) → c < client_count s.shape → slice_index w.asked.items c ≡ (x.askers c).number
+  pub accepted : (c : ℕ) → (x.askers c).accepted ≡ []  -- until clients are given replies
   pub pool : w.pool.items ≡ x.pool
   pub hosts : RepresentsHosts s w.hosts.items x.histories
   pub line : w.line.items ≡ x.line

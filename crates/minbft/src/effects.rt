@@ -2,15 +2,16 @@
 
 ghost use Rattle.std.specs.Prelude.{◌≡◌, ◌<◌, ◌++◌, ℕ, length, map, fold, IfOk, OnOk};
 ghost use Rattle.std.specs.Option.{option_to_list};
-ghost use Rattle.mb_model.specs.History.{History};
-ghost use Rattle.mb_model.specs.Transition.{transition};
+ghost use Rattle.mb_model.specs.Histories.{History};
+ghost use Rattle.mb_model.specs.HostStep.{transition};
 ghost use Rattle.minbft.specs.Hosts.{AllRun, RepresentsHosts};
-ghost use Rattle.minbft.specs.Represents.{IsStep};
+ghost use Rattle.mb_core.specs.Represents.{IsStep};
 ghost use Rattle.minbft.specs.Reports.{refusal_of};
-ghost use Rattle.minbft.specs.World.{extended, update, self_of};
+ghost use Rattle.mb_theory.specs.World.{extended, update};
+ghost use Rattle.minbft.specs.World.{self_of};
 
-use crate::replica::{Replica, Stop};
 use mb_base::{Host, Items, NoMemory};
+use mb_core::{Replica, Stop};
 use mb_msg::{Event, Outcome, Sent, Slot, Step};
 use mb_sched::{RefusedLine, Schedule, Word};
 use std::alloc::{AllocError, Global};
@@ -89,16 +90,37 @@ fn refusal(alloc: Global, event: u64, outcome: Outcome) -> Result<Option<Refused
             refused_line(alloc, event, Word::Unbuilt, &[u64::from(kind)])
         }
         Outcome::BadUi => refused_line(alloc, event, Word::BadUi, &[]),
+        Outcome::Convicted { counter } => refused_line(alloc, event, Word::Convicted, &[counter]),
         Outcome::Stale { next } => refused_line(alloc, event, Word::Stale, &[next]),
         Outcome::Ahead { next } => refused_line(alloc, event, Word::Ahead, &[next]),
+        Outcome::Illegal { rule } => {
+            refused_line(alloc, event, Word::Illegal, &[u64::from(rule)])
+        }
         Outcome::LaterView { view } => refused_line(alloc, event, Word::LaterView, &[view]),
         Outcome::BeyondWindow { low } => refused_line(alloc, event, Word::BeyondWindow, &[low]),
         Outcome::NeedBody { view, exec } => {
             refused_line(alloc, event, Word::NeedBody, &[view, exec])
         }
         Outcome::BadTag => refused_line(alloc, event, Word::BadTag, &[]),
+        Outcome::Unusable { index, reason } => refused_line(
+            alloc,
+            event,
+            Word::Unusable,
+            &[u64::from(index), u64::from(reason)],
+        ),
         Outcome::Old { last } => refused_line(alloc, event, Word::Old, &[last]),
-        Outcome::Again | Outcome::Idle | Outcome::Took => Ok(None),
+        Outcome::WrongDigest { part } => {
+            refused_line(alloc, event, Word::WrongDigest, &[u64::from(part)])
+        }
+        Outcome::BadState { part, at } => {
+            refused_line(
+                alloc,
+                event,
+                Word::BadState,
+                &[u64::from(part), u64::from(at)],
+            )
+        }
+        Outcome::Again | Outcome::Stopping | Outcome::Idle | Outcome::Took => Ok(None),
     }
 }
 

@@ -4,9 +4,8 @@ ghost use Rattle.std.specs.Prelude.{◌≡◌, ◌≤◌, length, map, IfOk};
 ghost use Rattle.std.specs.List.{range_with_len};
 ghost use Rattle.minbft.specs.Hosts.{line_of_host, line_of_client};
 
-use crate::replica::Replica;
-use crate::tables::{LOW, VIEW};
 use mb_base::{Client, Seq};
+use mb_core::Replica;
 use mb_msg::Phase;
 use mb_sched::{ClientLine, HostLine, HostState};
 use std::alloc::{AllocError, Global};
@@ -26,12 +25,12 @@ fn host_line(host: &Replica) -> HostLine
     ensures { result ≡ line_of_host host.now }
 {
     HostLine {
-        host: host.host,
+        host: host.host(),
         state: Some(HostState {
-            view: VIEW,
+            view: host.view(),
             phase: Phase::Open,
-            exec: host.exec,
-            low: LOW,
+            exec: host.exec(),
+            low: host.low(),
             log: host.log_len(),
             longest: host.log_len(),
         }),

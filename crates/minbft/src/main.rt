@@ -1,28 +1,18 @@
 //! A verified MinBFT: the program over standard input and standard output.
 #![tactic(auto)]
 
-mod accepting;
 mod adapters;
-mod checks;
 mod effects;
-mod executing;
 mod lines;
 mod replay;
-mod replica;
-mod rules;
-mod sending;
-mod store;
-mod tables;
 mod top;
 mod world;
 
 use adapters::{StdSink, StdSource};
 pub use replay::{RunStop, run};
-pub use replica::{Replica, Stop};
 use std::io::ErrorKind;
 use std::process::ExitCode;
 use std::{env, io};
-pub use store::{Pair, Store};
 pub use top::{Command, minbft};
 pub use world::{World, WorldStop};
 

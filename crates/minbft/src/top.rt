@@ -10,10 +10,10 @@ ghost use Rattle.mb_sched.specs.EventLines.{is_number};
 ghost use Rattle.mb_sched.specs.Limits.{ScheduleFits};
 ghost use Rattle.mb_sched.specs.Report.{report_text};
 ghost use Rattle.mb_sched.specs.Schedules.{max_text, IsScheduleText};
-ghost use Rattle.mb_theory.specs.Hashed.{hashed, HashesApart};
-ghost use Rattle.mb_theory.specs.Promises.{IsSafe};
-ghost use Rattle.minbft.specs.Store.{store_machine};
-ghost use Rattle.minbft.specs.World.{World as WorldState, world};
+ghost use Rattle.mb_theory.specs.Hashed.{HashesApart};
+ghost use Rattle.mb_theory.specs.Safety.{IsSafe};
+ghost use Rattle.mb_theory.specs.World.{World as WorldState};
+ghost use Rattle.minbft.specs.World.{system_of, world};
 ghost use Rattle.minbft.specs.WorldTables.{RepresentsWorld};
 ghost use Rattle.minbft.specs.Reports.{report_of};
 ghost use Rattle.minbft.specs.Program.{command_of, is_soak, is_node, usage_text, unbuilt_text, too_long_text, bad_line_text, unbuilt_line_text, AnswersRun, Answers, IsAnswered, device, Says, Replays, ReportsOn, IsComplete};
@@ -154,7 +154,7 @@ fn unbuilt_line(alloc: Global, number: u32) -> Result<Answer, NoMemory>
 
 /// The report of a world.
 fn report_on(alloc: Global, world: World) -> Result<Answer, NoMemory>
-    ensures { (s : Schedule) (x : WorldState) → RepresentsWorld s world x → IfOk result (λ a. (a.status ≡ 0) × (a.text.items ≡ report_text (report_of s x))) }
+    ensures { (s : Schedule) (x : WorldState) → RepresentsWorld s world x → IfOk result (λ a. (a.status ≡ 0) × (a.text.items ≡ report_text (report_of (system_of s) x))) }
 {
     let report = world.into_report(alloc)?;
     Ok(Answer {
@@ -258,7 +258,7 @@ pub fn minbft<S: Source, K: Sink>(
     // After each event, if no two of the strings that were hashed so far share a digest, the hosts have executed beginnings of one list.
     ensures history { command_of (map string_bytes words.now) ≡ Some Command.Replay → result ≡ 0
         → (text : Bytes) (s : Schedule) → S.left source.old ≡ Some text → IsScheduleText text s
-        → (k : ℕ) → k ≤ length s.events → HashesApart (hashed s.shape (world s k)) → IsSafe store_machine [] s (world s k) }
+        → (k : ℕ) → k ≤ length s.events → HashesApart (world s k).hashed → IsSafe (system_of s) (world s k) }
     // Each answer to a text has its cause in the text or in a device.
     ensures replay { command_of (map string_bytes words.now) ≡ Some Command.Replay
         → IfSome (S.left source.old) (λ text. Replays text result (device (S.left source.old) (S.faults source.old)) (device (S.left source.new) (S.faults source.new))

@@ -7,8 +7,8 @@ ghost use Rattle.minbft.specs.declared.world.WorldStop.TheVariants as stop;
 
 use crate::effects::{add_messages, extend_line, note_refusal, step_of};
 use crate::lines::{client_lines, host_lines};
-use crate::replica::Replica;
 use mb_base::{Client, Duplicate, Host, Items, Key, NoMemory, Seq, Shape};
+use mb_core::Replica;
 use mb_msg::{Event, Message, Request, Slot, Step, encode, signed_request};
 use mb_sched::{RefusedLine, Report, Schedule, WorldEvent};
 use mb_usig::Pen;
@@ -63,7 +63,10 @@ impl World {
     ghost use Rattle.mb_base.specs.Shapes.{client_count, host_count};
     ghost use Rattle.mb_parts.specs.Fits.{FitsText, FitsRequest};
     ghost use Rattle.minbft.specs.Reports.{report_of};
-    ghost use Rattle.minbft.specs.World.{World as WorldState, nothing_happened, numbered, request, asks, given, is_possible, happens};
+    ghost use Rattle.mb_theory.specs.FirstPath.{schedule_of};
+    ghost use Rattle.mb_theory.specs.World.{World as WorldState, nothing_happened, numbered, request_of, client_asks, give_host};
+    ghost use Rattle.mb_theory.specs.WorldSteps.{with_message};
+    ghost use Rattle.minbft.specs.World.{system_of, is_possible, happens};
     ghost use Rattle.minbft.specs.Hosts.{AllRun};
     ghost use Rattle.mb_sched.specs.Limits.{EventFits};
     ghost use Rattle.minbft.specs.WorldTables.{RepresentsWorld, WorldHalts, NamesMessage, missing_in};
@@ -149,7 +152,7 @@ impl World {
         requires client { client < client_count self.old.shape }
         requires op { FitsText op.now }
         requires few { self.old.events < 2 ^ 64 - 1 }
-        ensures stands { (s : Schedule) (x : WorldState) → RepresentsWorld s self.old x → OnOk result (RepresentsWorld s self.new (asks s (request s x client op.now) x)) }
+        ensures stands { (s : Schedule) (x : WorldState) → RepresentsWorld s self.old x → OnOk result (RepresentsWorld s self.new (client_asks (schedule_of s) client op.now x)) }
         ensures hosts { self.new.hosts ≡ self.old.hosts }
         ensures halted { self.new.halted ≡ self.old.halted }
         ensures shape { self.new.shape ≡ self.old.shape }
@@ -173,7 +176,7 @@ impl World {
         requires client { client < client_count self.now.shape }
         requires op { FitsText op.now }
         requires few { self.now.events < 2 ^ 64 - 1 }
-        ensures next { (s : Schedule) (x : WorldState) → RepresentsWorld s self.now x → IfOk result (λ r. r ≡ request s x client op.now) }
+        ensures next { (s : Schedule) (x : WorldState) → RepresentsWorld s self.now x → IfOk result (λ r. r ≡ request_of (schedule_of s) client ((x.askers client).number + 1) op.now) }
         ensures fits { IfOk result (FitsRequest self.now.shape) }
         ensures within { IfOk result (λ r. r.seq ≤ self.now.events + 1) }
     {
@@ -194,7 +197,7 @@ impl World {
         requires few { self.old.events < 2 ^ 64 - 1 }
         requires runs { AllRun self.old.hosts.items }
         requires halted { self.old.halted ≡ true }
-        ensures stands { (s : Schedule) (x : WorldState) → RepresentsWorld s self.old x → OnOk result (RepresentsWorld s self.new (given s host (numbered x.pool number) x)) }
+        ensures stands { (s : Schedule) (x : WorldState) → RepresentsWorld s self.old x → OnOk result (RepresentsWorld s self.new (with_message (give_host (system_of s) host) (numbered x.pool number) x)) }
         ensures runs { OnOk result (AllRun self.new.hosts.items) }
         ensures halted { self.new.halted ≡ self.old.halted }
         ensures shape { self.new.shape ≡ self.old.shape }
@@ -222,7 +225,7 @@ impl World {
 
     /// The report of this world.
     pub fn into_report(self, alloc: Global) -> Result<Report, NoMemory>
-        ensures { (s : Schedule) (x : WorldState) → RepresentsWorld s self x → IfOk result (λ r. r ≡ report_of s x) }
+        ensures { (s : Schedule) (x : WorldState) → RepresentsWorld s self x → IfOk result (λ r. r ≡ report_of (system_of s) x) }
     {
         Ok(Report {
             events: self.events,

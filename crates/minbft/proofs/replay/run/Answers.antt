@@ -1,7 +1,7 @@
 use Rattle.std.proofs.Common.{◌≡◌, ◌∙◌, ◌+◌, length, Some, refl, ap, arith}
 use Rattle.std.specs.List.{slice_get}
 use Rattle.std.proofs.lemmas.Option.{slice_get_read}
-use Rattle.mb_theory.specs.World.{world as any_world}
+use Rattle.mb_theory.specs.WorldSteps.{world as any_world}
 use Rattle.minbft.specs.World.{world}
 use Rattle.minbft.proofs.RunLaws.{world_more, possible_more, first_impossible}
 use Rattle.minbft.proofs.replay.run.Goals as goal

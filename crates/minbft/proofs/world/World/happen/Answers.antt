@@ -1,4 +1,4 @@
-use Rattle.mb_theory.specs.World.{happens as any_event}
+use Rattle.mb_theory.specs.WorldSteps.{happens as any_event}
 use Rattle.minbft.proofs.world.World.happen.Goals as goal
 
 pub returns-in-Ask-clause-stands : goal.returns-in-Ask-clause-stands

@@ -9,6 +9,7 @@ returns-clause-stands c = λ s e f. record {
   shape = sym e;
   pens = c.in_ok-pens.ensures.pens s e f;
   asked = λ k lt. rw c.in_ok-none_asked.ensures (nothing_asked _ k);
+  accepted = λ k. refl;
   pool = c.new.ensures.items;
   hosts = c.in_ok-hosts.ensures.stands s e f;
   line = c.new-2.ensures.items;

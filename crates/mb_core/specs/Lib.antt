@@ -1,0 +1,6 @@
+pub mod Store
+pub mod Sound
+pub mod Represents
+pub mod StoreTables
+pub mod Halting
+pub mod Due

@@ -1,0 +1,258 @@
+//! What follows in the same step: the rules in their order, again and again.
+
+ghost use Rattle.std.specs.Prelude.{◌≡◌, ◌<◌};
+ghost use Rattle.std.specs.Option.{option_and_then};
+ghost use Rattle.mb_model.specs.EnabledRules.{number_of};
+
+use crate::executing::Ordered;
+use crate::replica::Replica;
+use crate::sending::Done;
+use crate::tables::{LOW, VIEW};
+use mb_base::{Client, Duplicate, NoMemory, Pos, Seq};
+use mb_model::{KnownSlot, Vote};
+use mb_msg::Request;
+use std::alloc::Global;
+
+/// More rules than any step carries out.
+const ENOUGH: u32 = 1_000_000;
+
+/// What is to be done next.
+#[derive(Debug, PartialEq, Drop)]
+pub enum Due {
+    /// COMMIT a request that the primary ordered.
+    Commit(Ordered),
+    /// Execute the request of a position.
+    Execute { pos: Pos, request: Request },
+    /// PREPARE a pending request at a position.
+    Prepare { pos: Pos, request: Request },
+}
+
+impl Replica {
+    ghost use Rattle.std.specs.Prelude.{◌≡◌, ◌==◌, ◌&&◌, not, nat_lt, ◌^◌, ◌<◌, OnOk, IfOk, IfSome, IsTrue};
+    ghost use Rattle.std.specs.List.{range_with_len};
+    ghost use Rattle.std.specs.Option.{option_map};
+    ghost use Rattle.mb_base.specs.Shapes.{client_count, primary, span};
+    ghost use Rattle.mb_parts.specs.Fits.{FitsRequest};
+    ghost use Rattle.mb_model.specs.Histories.{History, is_primary};
+    ghost use Rattle.mb_model.specs.Positions.{in_window};
+    ghost use Rattle.mb_model.specs.Execution.{if_above, pending};
+    ghost use Rattle.mb_model.specs.Sending.{Progress};
+    ghost use Rattle.mb_model.specs.OwnLog.{has_room};
+    ghost use Rattle.mb_model.specs.EnabledRules.{next_position, commit_enabled, is_committed, execute_enabled, greatest_in_slots, window, unordered, prepare_enabled, next_rule};
+    ghost use Rattle.mb_model.specs.CarriedOut.{carry_out, run_rules, enough};
+    ghost use Rattle.mb_core.specs.Represents.{me, Represents, StandsAt};
+    ghost use Rattle.mb_core.specs.Due.{rule_of, HasDigest, Names, HasCounter, IsReady};
+
+    /// Carries out the first rule that applies, until none does.
+    pub(crate) fn run_rules(&mut self, alloc: Global, done: &mut Done) -> Result<(), NoMemory>
+        ensures kept { me self.new ≡ me self.old }
+        ensures stands { (x : Progress) → StandsAt (me self.old) self.old done.old x → OnOk result (StandsAt (me self.old) self.new done.new (run_rules (me self.old) enough x)) }
+    {
+        for _round in 0..ENOUGH {
+            let Some(due) = self.next_rule(alloc)? else {
+                return Ok(());
+            };
+            self.carry_out(alloc, due, done)?;
+        }
+        Ok(())
+    }
+
+    #[tactic(auto, unfolding(mb_model::specs::CarriedOut::carry_out))]
+    fn carry_out(&mut self, alloc: Global, due: Due, done: &mut Done) -> Result<(), NoMemory>
+        requires { IsReady self.old due }
+        ensures kept { me self.new ≡ me self.old }
+        ensures stands { (x : Progress) → StandsAt (me self.old) self.old done.old x → HasDigest due → OnOk result (StandsAt (me self.old) self.new done.new (carry_out (me self.old) (rule_of due) x)) }
+    {
+        match due {
+            Due::Commit(ordered) => self.commit(alloc, ordered, done),
+            Due::Execute { pos, request } => self.execute(alloc, pos, request, done),
+            Due::Prepare { pos, request } => self.prepare(alloc, pos, request, done),
+        }
+    }
+
+    /// The first rule that applies.
+    fn next_rule(&self, alloc: Global) -> Result<Option<Due>, NoMemory>
+        ensures named { (d : History) → Represents (me self.now) self.now d → IfOk result (λ o. Names o (next_rule (me self.now) d)) }
+        ensures ready { IfOk result (λ o. IfSome o (IsReady self.now)) }
+    {
+        if let Some(due) = self.commit_due(alloc)? {
+            return Ok(Some(due));
+        }
+        if let Some(due) = self.execute_due(alloc)? {
+            return Ok(Some(due));
+        }
+        self.prepare_due(alloc)
+    }
+
+    /// Whether this host leads its view.
+    fn is_primary(&self) -> bool
+        ensures { (d : History) → Represents (me self.now) self.now d → result ≡ is_primary (me self.now) d }
+    {
+        self.host == self.shape.primary(VIEW)
+    }
+
+    /// Whether the log has room for one more PREPARE or COMMIT.
+    fn has_room(&self) -> bool
+        ensures room { (d : History) → Represents (me self.now) self.now d → result ≡ has_room (me self.now) d }
+        ensures counter { IsTrue result → HasCounter self.now }
+    {
+        self.usig.counter() < 6 * u64::from(self.shape.k())
+    }
+
+    /// Whether this host is a backup that may vote.
+    fn may_commit(&self) -> bool
+        ensures may { (d : History) → Represents (me self.now) self.now d → result ≡ (not (is_primary (me self.now) d) && has_room (me self.now) d) }
+        ensures counter { IsTrue result → HasCounter self.now }
+    {
+        !self.is_primary() && self.has_room()
+    }
+
+    /// Whether the window and the log have room for one more PREPARE.
+    fn can_order(&self) -> bool
+        ensures can { (d : History) → Represents (me self.now) self.now d
+            → result ≡ (in_window (me self.now) d (next_position (me self.now) d) && has_room (me self.now) d) }
+        ensures counter { IsTrue result → HasCounter self.now }
+        ensures within { IsTrue result → self.now.last < span self.now.shape }
+    {
+        self.last < LOW + u64::from(self.shape.span()) && self.has_room()
+    }
+
+    /// Whether this host is the primary and may order a request.
+    fn may_prepare(&self) -> bool
+        ensures may { (d : History) → Represents (me self.now) self.now d
+            → result ≡ (is_primary (me self.now) d && (in_window (me self.now) d (next_position (me self.now) d) && has_room (me self.now) d)) }
+        ensures counter { IsTrue result → HasCounter self.now }
+        ensures within { IsTrue result → self.now.last < span self.now.shape }
+    {
+        self.is_primary() && self.can_order()
+    }
+
+    /// A backup has the PREPARE of the position behind its last vote.
+    fn commit_due(&self, alloc: Global) -> Result<Option<Due>, NoMemory>
+        ensures named { (d : History) → Represents (me self.now) self.now d → IfOk result (λ o. Names o (commit_enabled (me self.now) d)) }
+        ensures ready { IfOk result (λ o. IfSome o (IsReady self.now)) }
+    {
+        if !self.may_commit() {
+            return Ok(None);
+        }
+        let pos = self.last + 1;
+        let Some(slot) = self.tables.slot_at(pos) else {
+            return Ok(None);
+        };
+        let Some(request) = &slot.request else {
+            return Ok(None);
+        };
+        Ok(Some(Due::Commit(Ordered {
+            pos,
+            counter: slot.counter,
+            cert: slot.cert,
+            digest: slot.digest,
+            request: request.duplicate(alloc)?,
+        })))
+    }
+
+    /// f+1 votes agree with the slot behind the last executed one.
+    fn execute_due(&self, alloc: Global) -> Result<Option<Due>, NoMemory>
+        ensures named { (d : History) → Represents (me self.now) self.now d → IfOk result (λ o. Names o (execute_enabled (me self.now) d)) }
+        ensures ready { IfOk result (λ o. IfSome o (IsReady self.now)) }
+    {
+        let pos = self.exec + 1;
+        let Some(slot) = self.tables.slot_at(pos) else {
+            return Ok(None);
+        };
+        if !self.is_committed(pos, slot) {
+            return Ok(None);
+        }
+        let Some(request) = &slot.request else {
+            return Ok(None);
+        };
+        Ok(Some(Due::Execute {
+            pos,
+            request: request.duplicate(alloc)?,
+        }))
+    }
+
+    /// Whether f+1 votes agree with a slot.
+    fn is_committed(&self, pos: Pos, slot: &KnownSlot) -> bool
+        ensures { (d : History) → Represents (me self.now) self.now d → result ≡ is_committed (me self.now) d pos slot.now }
+    {
+        let vote = Vote {
+            counter: slot.counter,
+            request: slot.digest,
+        };
+        self.tables.matching(pos, &vote) >= self.shape.quorum()
+    }
+
+    /// The primary has a request that isn't ordered yet.
+    fn prepare_due(&self, alloc: Global) -> Result<Option<Due>, NoMemory>
+        ensures named { (d : History) → Represents (me self.now) self.now d → IfOk result (λ o. Names o (prepare_enabled (me self.now) d)) }
+        ensures ready { IfOk result (λ o. IfSome o (IsReady self.now)) }
+    {
+        if !self.may_prepare() {
+            return Ok(None);
+        }
+        let Some(request) = self.first_unordered() else {
+            return Ok(None);
+        };
+        Ok(Some(Due::Prepare {
+            pos: self.last + 1,
+            request: request.duplicate(alloc)?,
+        }))
+    }
+
+    /// The pending request of the first client that has one which isn't ordered yet.
+    fn first_unordered(&self) -> Option<&Request>
+        ensures first { (d : History) → Represents (me self.now) self.now d → option_map (λ r. r.now) result ≡ unordered (me self.now) d (range_with_len 0 (client_count self.now.shape)) }
+        ensures fits { IfSome result (λ r. FitsRequest self.now.shape r.now) }
+    {
+        for client in 0..self.shape.clients() {
+            if let Some(request) = self.unordered(client) {
+                return Some(request);
+            }
+        }
+        None
+    }
+
+    /// A client's pending request, where it is numbered above all its requests in the slots.
+    fn unordered(&self, client: Client) -> Option<&Request>
+        requires { client < client_count self.now.shape }
+        ensures above { (d : History) → Represents (me self.now) self.now d
+            → option_map (λ r. r.now) result ≡ if_above (greatest_in_slots (me self.now) d client (window (me self.now) d)) (pending (me self.now) d client) }
+        ensures fits { IfSome result (λ r. FitsRequest self.now.shape r.now) }
+    {
+        let Some(request) = &self.pending[usize::from(client)] else {
+            return None;
+        };
+        if self.greatest_ordered(client) < request.seq {
+            Some(request)
+        } else {
+            None
+        }
+    }
+
+    /// The greatest number of a client among the slots, 0 without one.
+    fn greatest_ordered(&self, client: Client) -> Seq
+        ensures { (d : History) → Represents (me self.now) self.now d → result ≡ greatest_in_slots (me self.now) d client (window (me self.now) d) }
+    {
+        let mut greatest = 0;
+        for slot in self.tables.slots() {
+            greatest = greatest.max(ordered_number(slot, client));
+        }
+        greatest
+    }
+}
+
+/// The number of the request of a slot, where it is this client's, and else 0.
+fn ordered_number(slot: &Option<KnownSlot>, client: Client) -> Seq
+    ensures { result ≡ number_of client (option_and_then (λ k. k.request) slot.now) }
+{
+    match slot {
+        Some(
+            KnownSlot {
+                request: Some(request),
+                ..
+            },
+        ) if request.client == client => request.seq,
+        _ => 0,
+    }
+}
