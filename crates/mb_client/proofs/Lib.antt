@@ -1,0 +1,2 @@
+pub mod CountedReplies
+pub mod AcceptedResults
