@@ -1,0 +1,12 @@
+use Rattle.std.proofs.Common.{◌≡◌, ◌++◌}
+use Rattle.std.specs.List.{AllByRecursion, flat_map}
+use Rattle.mb_kv.specs.Snapshots.{in_bucket, pair_text}
+use Rattle.mb_kv.specs.Seen.{pairs_seen, EntryFits}
+use Rattle.mb_kv.proofs.snapshot.put_bucket.Given as goal
+
+-- what was written, and the pairs that are left
+abbrev pub invariant-loop-key : goal.invariant-loop-key
+invariant-loop-key l = record {
+  written : l.text.items ++ flat_map pair_text (in_bucket l.bucket (pairs_seen l.key-iterator)) ≡ l.fn.text.items ++ flat_map pair_text (in_bucket l.bucket l.kv);
+  fit : AllByRecursion EntryFits l.key-iterator;
+}

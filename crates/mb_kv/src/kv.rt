@@ -1,0 +1,182 @@
+//! The keys and their values, and what each operation does.
+
+ghost use Rattle.std.specs.Prelude.{◌≡◌, IfOk};
+ghost use Rattle.mb_kv.specs.Snapshots.{bucket_of};
+ghost use Rattle.mb_kv.specs.Seen.{pair_seen, EntryFits};
+ghost use Rattle.mb_kv.specs.States.{PairFits};
+
+use crate::bucket::bucket_of;
+use crate::kept::{Entry, Kept};
+use crate::limits::MAX_KEYS;
+use crate::results::{ABSENT, DONE, FOUND, FULL, OTHER, plain, with_value};
+use mb_base::{Items, NoMemory};
+use std::alloc::Global;
+use std::collections::BTreeMap;
+use std::marker::Model;
+
+/// Keys with their values. Contracts see the pairs, in rising order of their keys.
+#[derive(Debug, Drop)]
+pub struct Kv {
+    pub(crate) pairs: BTreeMap<Vec<u8>, Kept>,
+}
+
+impl Model for Kv {
+    ghost use Rattle.mb_kv.specs.Pairs.{Pairs};
+    ghost use Rattle.mb_kv.specs.Seen.{pairs_seen, AreKept};
+
+    ghost Value = { Pairs };
+
+    ghost view = { λ kv. pairs_seen kv.pairs.entries };
+
+    ghost invariant = { λ kv. AreKept kv.pairs.entries };
+}
+
+/// A key of a bucket with its value, as they are kept.
+pub(crate) fn entry_of(
+    alloc: Global,
+    bucket: u8,
+    key: &[u8],
+    value: &[u8],
+) -> Result<Entry, NoMemory>
+    requires fits { PairFits (key.now, value.now) }
+    requires own { bucket ≡ bucket_of key.now }
+    ensures pair { IfOk result (λ e. pair_seen e ≡ (key.now, value.now)) }
+    ensures fits { IfOk result EntryFits }
+{
+    let value = Items::from_vec(Vec::from_slice(alloc, value)?);
+    Ok((Vec::from_slice(alloc, key)?, Kept { bucket, value }))
+}
+
+impl Kv {
+    ghost use Rattle.std.specs.Prelude.{◌≡◌, ◌≤◌, false, [], length, IfOk, IfSome, OnOk, OnErr, is_some, option_copied};
+    ghost use Rattle.mb_kv.specs.declared.limits.TheConstants.{MAX_VALUE};
+    ghost use Rattle.mb_kv.specs.Pairs.{value_of, with_value, without};
+    ghost use Rattle.mb_kv.specs.Operations.{Put, Get, Delete, Swap, after_operation, result_of, is_full_for};
+    ghost use Rattle.mb_kv.specs.Seen.{pair_seen, EntryFits};
+    ghost use Rattle.mb_kv.specs.States.{PairFits};
+
+    /// No keys.
+    pub fn new(alloc: Global) -> Kv
+        ensures { result ≡ [] }
+    {
+        Kv {
+            pairs: BTreeMap::new(alloc),
+        }
+    }
+
+    fn value_of(&self, key: &[u8]) -> Option<&[u8]>
+        ensures value { option_copied result ≡ value_of self.now key.now }
+        ensures short { IfSome result (λ value. length value.now ≤ MAX_VALUE) }
+    {
+        match self.pairs.get(key) {
+            Some(kept) => Some(kept.value.as_slice()),
+            None => None,
+        }
+    }
+
+    fn has(&self, key: &[u8]) -> bool
+        ensures { result ≡ is_some (value_of self.now key.now) }
+    {
+        self.value_of(key).is_some()
+    }
+
+    /// Whether the key is new and there is no room for one more.
+    fn is_full_for(&self, key: &[u8]) -> bool
+        ensures { result ≡ is_full_for self.now key.now }
+    {
+        self.len() >= MAX_KEYS && !self.has(key)
+    }
+
+    fn len(&self) -> usize
+        ensures { result ≡ length self.now }
+    {
+        self.pairs.len()
+    }
+
+    /// Keeps a value under its key, in the place of the old one if there is one.
+    pub(crate) fn keep(&mut self, entry: Entry) -> Result<(), NoMemory>
+        requires fits { EntryFits entry }
+        requires room { is_full_for self.old (pair_seen entry).0 ≡ false }
+        ensures state { OnOk result (self.new ≡ with_value self.old (pair_seen entry).0 (pair_seen entry).1) }
+        ensures kept { OnErr result (self.new ≡ self.old) }
+    {
+        let (key, kept) = entry;
+        self.pairs.insert(key, kept)?;
+        Ok(())
+    }
+
+    fn remove(&mut self, key: &[u8])
+        ensures { self.new ≡ without self.old key.now }
+    {
+        self.pairs.remove(key);
+    }
+
+    pub(crate) fn put(
+        &mut self,
+        alloc: Global,
+        key: &[u8],
+        value: &[u8],
+    ) -> Result<Items<u8>, NoMemory>
+        requires { PairFits (key.now, value.now) }
+        ensures answer { IfOk result (λ r. r ≡ result_of (Put key.now value.now) self.old) }
+        ensures state { OnOk result (self.new ≡ after_operation (Put key.now value.now) self.old) }
+        ensures short { IfOk result (λ r. length r ≤ 1) }
+        ensures kept { OnErr result (self.new ≡ self.old) }
+    {
+        if self.is_full_for(key) {
+            return plain(alloc, FULL);
+        }
+        let done = plain(alloc, DONE)?;
+        self.keep(entry_of(alloc, bucket_of(key), key, value)?)?;
+        Ok(done)
+    }
+
+    pub(crate) fn get(&self, alloc: Global, key: &[u8]) -> Result<Items<u8>, NoMemory>
+        ensures answer { IfOk result (λ r. r ≡ result_of (Get key.now) self.now) }
+        ensures short { IfOk result (λ r. length r ≤ 515) }
+    {
+        match self.value_of(key) {
+            Some(value) => with_value(alloc, FOUND, value),
+            None => plain(alloc, ABSENT),
+        }
+    }
+
+    pub(crate) fn delete(&mut self, alloc: Global, key: &[u8]) -> Result<Items<u8>, NoMemory>
+        ensures answer { IfOk result (λ r. r ≡ result_of (Delete key.now) self.old) }
+        ensures state { OnOk result (self.new ≡ after_operation (Delete key.now) self.old) }
+        ensures short { IfOk result (λ r. length r ≤ 1) }
+        ensures kept { OnErr result (self.new ≡ self.old) }
+    {
+        if !self.has(key) {
+            return plain(alloc, ABSENT);
+        }
+        let done = plain(alloc, DONE)?;
+        self.remove(key);
+        Ok(done)
+    }
+
+    /// Puts the new value in the place of the old one.
+    pub(crate) fn swap(
+        &mut self,
+        alloc: Global,
+        key: &[u8],
+        old: &[u8],
+        new: &[u8],
+    ) -> Result<Items<u8>, NoMemory>
+        requires { PairFits (key.now, new.now) }
+        ensures answer { IfOk result (λ r. r ≡ result_of (Swap key.now old.now new.now) self.old) }
+        ensures state { OnOk result (self.new ≡ after_operation (Swap key.now old.now new.now) self.old) }
+        ensures short { IfOk result (λ r. length r ≤ 515) }
+        ensures kept { OnErr result (self.new ≡ self.old) }
+    {
+        match self.value_of(key) {
+            None => plain(alloc, ABSENT),
+            Some(value) if value != old => with_value(alloc, OTHER, value),
+            Some(_) => {
+                let done = plain(alloc, DONE)?;
+                self.keep(entry_of(alloc, bucket_of(key), key, new)?)?;
+                Ok(done)
+            }
+        }
+    }
+}

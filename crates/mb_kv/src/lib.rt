@@ -1,0 +1,18 @@
+//! The service that the hosts keep: keys with values.
+#![tactic(auto)]
+
+mod bucket;
+mod kept;
+mod kv;
+mod limits;
+mod operation;
+mod results;
+mod service;
+mod snapshot;
+mod unread;
+
+pub use kv::Kv;
+pub use limits::{MAX_KEY, MAX_KEYS, MAX_VALUE};
+
+#[cfg(test)]
+mod tests;

@@ -1,0 +1,57 @@
+//! The keys and their values as a service.
+
+use crate::kv::Kv;
+use crate::operation::{Operation, read_operation};
+use crate::results::{BAD, plain};
+use crate::snapshot::{read_parts, restored_of, write_part};
+use mb_base::{Items, NoMemory};
+use mb_service::{Restore, Service};
+use std::alloc::Global;
+
+impl Service for Kv {
+    ghost use Rattle.mb_kv.specs.Operations.{after, answer};
+    ghost use Rattle.mb_kv.specs.Snapshots.{part_of, restored};
+    ghost use Rattle.mb_kv.specs.States.{IsState};
+    ghost use Rattle.mb_kv.specs.Laws.SnapshotLaws.{parts_give_the_state, one_list_of_parts};
+
+    ghost is_state = { IsState };
+
+    ghost after = { after };
+
+    ghost answer = { answer };
+
+    ghost part_of = { part_of };
+
+    ghost restored = { restored };
+
+    ghost parts_give_the_state = { parts_give_the_state };
+
+    ghost one_list_of_parts = { one_list_of_parts };
+
+    fn known(&self) {
+        // Its contract says that the keys rise.
+        let _count = self.pairs.len();
+    }
+
+    fn apply(&mut self, alloc: Global, op: &[u8]) -> Result<Items<u8>, NoMemory> {
+        match read_operation(op) {
+            Operation::Put { key, value } => self.put(alloc, key, value),
+            Operation::Get { key } => self.get(alloc, key),
+            Operation::Delete { key } => self.delete(alloc, key),
+            Operation::Swap { key, old, new } => self.swap(alloc, key, old, new),
+            Operation::Bad => plain(alloc, BAD),
+        }
+    }
+
+    fn snapshot(&self, alloc: Global, part: u8) -> Result<Items<u8>, NoMemory> {
+        // A state has few pairs, and they are short.
+        self.known();
+        write_part(alloc, self, part)
+    }
+
+    fn restore(&mut self, alloc: Global, parts: &[Items<u8>]) -> Result<(), Restore> {
+        let entries = read_parts(alloc, parts)?;
+        *self = restored_of(alloc, entries)?;
+        Ok(())
+    }
+}

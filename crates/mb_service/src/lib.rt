@@ -1,0 +1,8 @@
+//! What a service is that hosts keep: a function of its operations, whose state can be given as parts and taken back from them.
+#![tactic(auto)]
+
+mod restore;
+mod service;
+
+pub use restore::Restore;
+pub use service::{MAX_PART, MAX_RESULT, PARTS, Service};
