@@ -24,6 +24,7 @@ module _ {S : Type 0} (run : Run S) where
       record {
         place = y.place;
         fresh = y.fresh;
+        client = (a.fitting slot.request y.orders.was_asked).client;
         tag = a.tagged slot.request y.orders.was_asked;
         asked = λ correct. contained w.asked slot.request y.orders.was_asked;
         by = (y.by, (y.is_host, nobody_faulty run y.by), contained (w.histories y.by) (Executed slot) y.there);

@@ -30,7 +30,7 @@ pub record KeepsLimits {S : Type 0} (self : Identity S) (d : History) : Type 0 w
   pub since : log_start self d + length (own_log self d) ≡ counter_of d
   pub counted : (g view pos : ℕ) (x : Vote) → vote_of self d g view pos ≡ Some x → pos ≤ low_of self d + span self.shape
 
--- After any events the log of each host keeps its limits, whoever is faulty and whatever is forged.
+-- After any events the log of each correct host keeps its limits, whoever is faulty and whatever is forged.
 abbrev pub HostsKeepLimits : Type 0 → Type 0
 HostsKeepLimits S = (system : System S) (k h : ℕ) → KeepsLimits (self_of system h) ((world system k).histories h)
 

@@ -1,4 +1,4 @@
--- What hosts have done after each event: all that their rules ask.
+-- What correct hosts have done after each event: all that their rules ask.
 use Rattle.std.specs.Prelude.{◌≡◌, ℕ, ◌+◌, ◌%◌, true, [], ◌∷◌, ◌++◌, Some, None}
 use Rattle.mb_base.specs.Shapes.{HasQuorum, interval}
 use Rattle.mb_parts.specs.declared.request.Request.{Request}
@@ -43,7 +43,7 @@ module _ {S : Type 0} (self : Identity S) (d : History) where
     pub position : message.pos ≡ slot.pos
     pub digest : message.state ≡ state_digest (present_parts self (Executed slot ∷ before)) slot.pos
 
-  -- Where a multiple of the interval was executed, and there was room at that moment, a CHECKPOINT was stamped.
+  -- Where CHECKPOINTs are built: when a multiple of the interval was executed, and there was room at that moment, one was stamped.
   abbrev pub StampsCheckpoints : Type 0
   StampsCheckpoints = self.built.checkpoints ≡ true → (later before : History) (slot : Slot) → d ≡ later ++ Executed slot ∷ before → slot.pos % interval self.shape ≡ 0
       → has_room self (Executed slot ∷ before) ≡ true → IsCheckpointed later before slot

@@ -18,10 +18,11 @@ module _ {S : Type 0} (system : System S) (w : World) where
 
   -- ---- one list
 
-  -- a slot of the line: its place, its mark, the tag of its request, that its client asked for it, and that a correct host executed it
+  -- a slot of the line: its place, its mark, its client, the tag of its request, that a client which is correct asked for it, and that a correct host executed it
   pub record IsLineSlot (q : ℕ) (slot : Slot) : Type 0 where
     pub place : slot.pos ≡ q + 1
     pub fresh : slot.fresh ≡ is_fresh (after_line q) slot.request
+    pub client : slot.request.client < client_count system.schedule.shape
     pub tag : slot.request.tag ≡ request_tag system.schedule.secret slot.request.client slot.request.seq slot.request.op
     pub asked : IsCorrectClient system.schedule slot.request.client → Contains w.asked slot.request
     pub by : (h : ℕ) × IsCorrect system.schedule h × Contains (w.histories h) (Executed slot)
