@@ -1,5 +1,5 @@
 -- A field that is read is the field that was written, and what was written is read again.
-use Rattle.std.proofs.Common.{◌≡◌, ℕ, zero, suc, ◌+◌, ◌-◌, ◌%◌, ◌^◌, ◌<◌, ◌≤◌, Bool, true, false, cond, ltb, leb, eqb, ◌&&◌, List, [], ◌∷◌, ◌++◌, length, map, get_or, take, drop, Option, Some, None, Result, Ok, Err, refl, sym, ap, subst, ◌∙◌, append_assoc, arith, inl, inr, add-zero, lit<, lit≤}
+use Rattle.std.proofs.Common.{◌≡◌, ℕ, zero, suc, ◌+◌, ◌-◌, ◌%◌, ◌^◌, ◌<◌, ◌≤◌, Bool, true, false, cond, ltb, leb, eqb, ◌&&◌, ◌⊎◌, List, [], ◌∷◌, ◌++◌, length, map, get_or, take, drop, Option, Some, None, Result, Ok, Err, refl, sym, ap, subst, ◌∙◌, append_assoc, arith, inl, inr, add-zero, lit<, lit≤}
 use Rattle.std.specs.Prelude.{IfSome}
 use Rattle.std.specs.Int.{Width, w8, w16, w32, w64, byte_len, from_be_bytes, to_be_bytes}
 use Rattle.std.specs.List.{flat_map, AllByRecursion}
@@ -9,7 +9,7 @@ use Rattle.std.proofs.lemmas.List.Concat.{flat_map-cons}
 use Rattle.std.proofs.lemmas.Nat.{be_bytes_2, be_bytes_4, be_bytes_8, from_be_bytes-to_be_bytes_2, from_be_bytes-to_be_bytes_4, from_be_bytes-to_be_bytes_8}
 use Rattle.mb_base.specs.Spelling.{number, text, text16, listed, optional, Rises}
 pub use Rattle.mb_base.specs.Spelling.{IsBytes}
-use Rattle.mb_base.specs.Reading.{◌>>=◌, Cursor, cursor, onward, Reads, bytes_at, number_at, number_in, checked_at, multiple_in, is_other, number_without, text_in, text16_at, pair_at, then_at, map_at, nothing_at, optional_at, repeat_at, list_in, rising_at}
+use Rattle.mb_base.specs.Reading.{◌>>=◌, Cursor, cursor, onward, Reads, bytes_at, number_at, number_in, checked_at, multiple_in, is_other, number_without, text_in, text16_at, pair_at, then_at, map_at, nothing_at, optional_at, repeat_at, list_in, rising_at, bounded_one, bounded_at}
 
 pub IsBytes-drop : (n : ℕ) (bytes : List ℕ) → IsBytes bytes → IsBytes (drop n bytes)
 IsBytes-drop n bytes h i = rw get_or-drop (h (n + i))
@@ -26,6 +26,11 @@ pub bind_ok : {A B : Type 0} (r : Result A ℕ) (f : A → Result B ℕ) (y : B)
 bind_ok (Ok x) f y e = (x, refl, e)
 bind_ok (Err d) f y e = absurd cc
 
+-- the step that failed is the first or the second
+pub bind_err : {A B : Type 0} (r : Result A ℕ) (f : A → Result B ℕ) (at : ℕ) → (r >>= f) ≡ Err at → (r ≡ Err at) ⊎ ((x : A) × (r ≡ Ok x) × (f x ≡ Err at))
+bind_err (Ok x) f at e = inr (x, refl, e)
+bind_err (Err d) f at e = let same : d ≡ at = cc in inl (ap Err same)
+
 -- a test that did not fail
 pub guard_ok : {A : Type 0} (b : Bool) (d : ℕ) (x y : A) → cond b (Err d) (Ok x) ≡ Ok y → (b ≡ false) × (x ≡ y)
 guard_ok true d x y e = absurd cc
@@ -34,6 +39,15 @@ guard_ok false d x y e = (refl, cc)
 pub allow_ok : {A : Type 0} (b : Bool) (d : ℕ) (x y : A) → cond b (Ok x) (Err d) ≡ Ok y → (b ≡ true) × (x ≡ y)
 allow_ok true d x y e = (refl, cc)
 allow_ok false d x y e = absurd cc
+
+-- a test that failed
+pub guard_err : {A : Type 0} (b : Bool) (d at : ℕ) (x : A) → cond b (Err d) (Ok x) ≡ Err at → d ≡ at
+guard_err true d at x e = cc
+guard_err false d at x e = absurd cc
+
+pub allow_err : {A : Type 0} (b : Bool) (d at : ℕ) (x : A) → cond b (Ok x) (Err d) ≡ Err at → d ≡ at
+allow_err true d at x e = absurd cc
+allow_err false d at x e = cc
 
 abbrev done : {A : Type 0} → A → Result A ℕ
 done x = Ok x
@@ -466,4 +480,48 @@ module _ {A : Type 0} (f : ℕ → Cursor → Reads A) (tf : A → List ℕ) (nu
   rising_field n least = record {
     takes = λ s xs t fits e. rising_takes n least s xs t fits e;
     again = λ xs at rest h. subst (λ (k : ℕ). rising_at f number_of k least (cursor at (flat_map tf xs ++ rest)) ≡ Ok (xs, cursor (at + length (flat_map tf xs)) rest)) h.0 (rising_again least xs at rest h.1.0 h.1.1);
+  }
+
+-- n times the same, with a bound on the bytes of all
+module _ {A : Type 0} (f : Cursor → Reads A) (tf : A → List ℕ) (P : A → Type 0) (hf : IsField f tf P) (most : ℕ) where
+  -- so many, each of which fits, and their bytes fit behind so many
+  abbrev pub Bounded : ℕ → ℕ → List A → Type 0
+  Bounded n used xs = (length xs ≡ n) × (AllByRecursion P xs × (used + length (flat_map tf xs) ≤ most))
+
+  one_field : (used : ℕ) → IsField (bounded_one tf most f used) tf (λ x. P x × (used + length (tf x) ≤ most))
+  one_field used =
+      iff_field _ _ _ _ (λ x h. (h.0, leb-true _ _ h.1)) (λ x h. (h.0, le-leb _ _ h.1)) (
+      checked_field (λ x. leb (used + length (tf x)) most) f tf P hf)
+
+  bounded_takes : (n used : ℕ) (s : Cursor) (xs : List A) (t : Cursor) → used ≤ most → IsBytes s.rest → bounded_at tf most f n used s ≡ Ok (xs, t) → Takes s (flat_map tf xs) t × Bounded n used xs
+  unfolding bounded_at
+  bounded_takes zero used s xs t le fits e =
+      subst (λ (y : List A × Cursor). Takes s (flat_map tf y.0) y.1 × Bounded 0 used y.0) (ok_is ([], s) (xs, t) e) (record { parts = refl; place = omega arith; rest_fits = fits }, (refl, (tt, omega (arith, le))))
+  bounded_takes (suc n) used s xs t le fits e =
+      let a = bind_ok (bounded_one tf most f used s) (λ first. bounded_at tf most f n (used + length (tf first.0)) first.1 >>= λ others. Ok (first.0 ∷ others.0, others.1)) (xs, t) e in
+      let b = bind_ok (bounded_at tf most f n (used + length (tf a.0.0)) a.0.1) (λ others. Ok (a.0.0 ∷ others.0, others.1)) (xs, t) a.2 in
+      let first = (one_field used).takes s a.0.0 a.0.1 fits a.1 in
+      let second = bounded_takes n (used + length (tf a.0.0)) a.0.1 b.0.0 b.0.1 first.1.1 first.0.rest_fits b.1 in
+      let both = Takes-then s (tf a.0.0) a.0.1 (flat_map tf b.0.0) b.0.1 first.0 second.0 in
+      let sum : used + length (flat_map tf (a.0.0 ∷ b.0.0)) ≤ most = omega (arith, second.1.1.1, ap length (flat_map-cons tf a.0.0 b.0.0), length-append (tf a.0.0) (flat_map tf b.0.0)) in
+      subst (λ (y : List A × Cursor). Takes s (flat_map tf y.0) y.1 × Bounded (suc n) used y.0) (ok_is (a.0.0 ∷ b.0.0, b.0.1) (xs, t) b.2)
+      (rw flat_map-cons both, (ap suc second.1.0, ((first.1.0, second.1.1.0), sum)))
+
+  bounded_again : (used : ℕ) (xs : List A) (at : ℕ) (rest : List ℕ) → AllByRecursion P xs → used + length (flat_map tf xs) ≤ most
+      → bounded_at tf most f (length xs) used (cursor at (flat_map tf xs ++ rest)) ≡ Ok (xs, cursor (at + length (flat_map tf xs)) rest)
+  unfolding bounded_at
+  bounded_again used [] at rest fits le = rw add-zero refl
+  bounded_again used (x ∷ xs) at rest fits le =
+      let regrouped : flat_map tf (x ∷ xs) ++ rest ≡ tf x ++ (flat_map tf xs ++ rest) = ap (λ (r : List ℕ). r ++ rest) (flat_map-cons tf x xs) ∙ append_assoc (tf x) (flat_map tf xs) rest in
+      let both : length (flat_map tf (x ∷ xs)) ≡ length (tf x) + length (flat_map tf xs) = ap length (flat_map-cons tf x xs) ∙ length-append (tf x) (flat_map tf xs) in
+      let place : (at + length (tf x)) + length (flat_map tf xs) ≡ at + length (flat_map tf (x ∷ xs)) = omega (arith, both) in
+      let here : used + length (tf x) ≤ most = omega (arith, le, both) in
+      let behind : (used + length (tf x)) + length (flat_map tf xs) ≤ most = omega (arith, le, both) in
+      ap (λ (r : List ℕ). bounded_at tf most f (suc (length xs)) used (cursor at r)) regrouped
+      ∙ rw ((one_field used).again x at (flat_map tf xs ++ rest) (fits.0, here), bounded_again (used + length (tf x)) xs (at + length (tf x)) rest fits.1 behind) (ap (λ (k : ℕ). Ok (x ∷ xs, cursor k rest)) place)
+
+  pub bounded_field : (n used : ℕ) → used ≤ most → IsField (bounded_at tf most f n used) (flat_map tf) (Bounded n used)
+  bounded_field n used le = record {
+    takes = λ s xs t fits e. bounded_takes n used s xs t le fits e;
+    again = λ xs at rest h. subst (λ (k : ℕ). bounded_at tf most f k used (cursor at (flat_map tf xs ++ rest)) ≡ Ok (xs, cursor (at + length (flat_map tf xs)) rest)) h.0 (bounded_again used xs at rest h.1.0 h.1.1);
   }

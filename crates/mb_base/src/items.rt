@@ -47,12 +47,14 @@ impl<T> Items<T> {
         self.vec
     }
 
+    /// The items as a slice.
     pub fn as_slice(&self) -> &[T]
         ensures { result.now ≡ self.now }
     {
         self.vec.as_slice()
     }
 
+    /// How many items there are.
     pub fn len(&self) -> usize
         ensures { result ≡ length self.now }
     {

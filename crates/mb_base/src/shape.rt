@@ -27,12 +27,16 @@ impl Shape {
     ghost use Rattle.std.specs.Prelude.{◌≡◌, ◌≤◌};
     ghost use Rattle.mb_base.specs.Shapes.{max_faults, interval, client_count, host_count, quorum, span, primary, Makes};
 
+    /// The most hosts that may be faulty.
     pub const MAX_F: u8 = 3;
 
+    /// The fewest positions from one checkpoint to the next.
     pub const MIN_K: u8 = 4;
 
+    /// The most positions from one checkpoint to the next.
     pub const MAX_K: u8 = 32;
 
+    /// The most clients.
     pub const MAX_CLIENTS: u8 = 64;
 
     /// A shape of these numbers. `BadShape` names the first of them that is outside its limits.

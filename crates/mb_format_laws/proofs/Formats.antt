@@ -7,18 +7,12 @@ use Rattle.mb_base.proofs.Laws.{number_field, bytes_field, wide8, wide16, wide32
 use Rattle.mb_parts.specs.Fits.{FitsBare}
 use Rattle.mb_parts.specs.Bares.{bare_bytes}
 use Rattle.mb_parts.proofs.BareLaws.{bare_injective}
-use Rattle.sha2.proofs.Facts256.{length-sha256}
-use Rattle.mb_parts.specs.Fits.{IsDigest}
-use Rattle.mb_base.specs.Shapes.{Bytes}
-use Rattle.mb_msg.specs.declared.message.Body.{Body}
-use Rattle.mb_msg.specs.declared.message.Body.TheVariants.{Whole, Bare as ByDigest}
 use Rattle.mb_msg.specs.declared.stamped.Shown.{Shown}
 use Rattle.mb_msg.specs.declared.stamped.Shown.TheVariants as shown
 use Rattle.mb_msg.specs.declared.stamped.Stamped.{Stamped}
-use Rattle.mb_msg.specs.Bodies.{FitsBody, body_digest}
 use Rattle.mb_msg.specs.Fits.{FitsShown, FitsStamped}
 use Rattle.mb_msg.specs.Stamps.{bare_of, bare_of_shown}
-use Rattle.mb_msg.proofs.Injective.{bare_fits}
+use Rattle.mb_msg.proofs.Injective.{digest_fits, bare_fits}
 use Rattle.mb_format_laws.specs.Laws.{FieldsAreReadBack, CertificatesSayAll, MarksFollow}
 
 pub fields_back : FieldsAreReadBack
@@ -29,10 +23,6 @@ fields_back = record {
   eight_bytes = λ n at rest lt. (number_field w64 (2 ^ 64) wide64).again n at rest lt;
   bytes = λ bytes at rest. (bytes_field _).again bytes at rest refl;
 }
-
-digest_fits : {B : Type 0} (P : B → Type 0) (bytes : B → Bytes) (b : Body B) → FitsBody P b → IsDigest (body_digest bytes b)
-digest_fits P bytes (Whole b) f = length-sha256 (bytes b)
-digest_fits P bytes (ByDigest d) f = f
 
 -- what a shown message says that fits
 shown_fits : (s : Shape) (m : Shown) → FitsShown s m → FitsBare s (bare_of_shown m)

@@ -1,10 +1,13 @@
 //! What no contract says of the byte formats: that they are those of other programs, and that no call gives up where memory is left.
 
 mod certified;
+mod distinct;
 mod limits;
+mod lines;
 mod made_elsewhere;
 mod parts;
 mod samples;
+mod stamped;
 
 use mb_base::Shape;
 use mb_msg::{Message, Undecoded, decode, encode, fits};

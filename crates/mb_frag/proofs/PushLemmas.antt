@@ -7,7 +7,8 @@ use Rattle.mb_base.specs.Shapes.{Bytes}
 use Rattle.mb_frag.specs.declared.pushed.Pushed.{Pushed}
 use Rattle.mb_frag.specs.declared.pushed.Pushed.TheVariants.{NotYet, Whole}
 use Rattle.mb_frag.specs.declared.stage.Stage.TheVariants.{Begun}
-use Rattle.mb_frag.specs.declared.limits.TheConstants.{PIECE, MESSAGE_LIMIT}
+use Rattle.mb_base.specs.declared.limits.TheConstants.{MESSAGE_LIMIT}
+use Rattle.mb_frag.specs.declared.limits.TheConstants.{PIECE}
 use Rattle.mb_frag.specs.Pieces.{Piece}
 use Rattle.mb_frag.specs.Cutting.{piece_count, part, header_of, piece_text, pieces_of}
 use Rattle.mb_frag.specs.Reading.{piece_of}

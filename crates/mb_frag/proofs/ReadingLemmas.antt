@@ -7,26 +7,11 @@ use Rattle.std.proofs.lemmas.Nat.{be_bytes_4, from_be_bytes-to_be_bytes_4}
 use Rattle.mb_base.specs.Shapes.{Bytes}
 use Rattle.mb_base.specs.Spelling.{number}
 use Rattle.mb_base.specs.Reading.{◌>>=◌, Cursor, cursor, onward, Reads, number_at, number_in, then_at, map_at}
-use Rattle.mb_base.proofs.Laws.{bind_ok, guard_ok, allow_ok, ok_is, Takes, IsField, IsWide, wide8, wide16, number_field, ranged_field, pair_field, then_field, map_field, iff_field, number_length}
+use Rattle.mb_base.proofs.Laws.{bind_ok, bind_err, guard_ok, guard_err, allow_ok, allow_err, ok_is, Takes, IsField, IsWide, wide8, wide16, number_field, ranged_field, pair_field, then_field, map_field, iff_field, number_length}
 use Rattle.mb_frag.specs.declared.piece.Header.{Header}
 use Rattle.mb_frag.specs.declared.limits.TheConstants.{PIECE, MAX_COUNT}
 use Rattle.mb_frag.specs.Pieces.{header_text, datagram_of}
 use Rattle.mb_frag.specs.Reading.{count_at, header_of_fields, header_at, least_bytes, piece_at, piece_of}
-
--- ---- where a step fails
-
--- the step that failed is the first or the second
-pub bind_err : {A B : Type 0} (r : Result A ℕ) (f : A → Result B ℕ) (at : ℕ) → (r >>= f) ≡ Err at → (r ≡ Err at) ⊎ ((x : A) × (r ≡ Ok x) × (f x ≡ Err at))
-bind_err (Ok x) f at e = inr (x, refl, e)
-bind_err (Err d) f at e = let same : d ≡ at = cc in inl (ap Err same)
-
-guard_err : {A : Type 0} (b : Bool) (d at : ℕ) (x : A) → cond b (Err d) (Ok x) ≡ Err at → d ≡ at
-guard_err true d at x e = cc
-guard_err false d at x e = absurd cc
-
-allow_err : {A : Type 0} (b : Bool) (d at : ℕ) (x : A) → cond b (Ok x) (Err d) ≡ Err at → d ≡ at
-allow_err true d at x e = absurd cc
-allow_err false d at x e = cc
 
 -- ---- how far a field goes
 

@@ -4,9 +4,9 @@ ghost use Rattle.std.specs.Prelude.{◌≡◌, ◌*◌, ◌≤◌, ◌<◌, drop
 ghost use Rattle.std.specs.List.{flat_map};
 ghost use Rattle.mb_frag.specs.Cutting.{part, pieces_of};
 
-use crate::limits::{HEADER_LEN, MESSAGE_LIMIT, PIECE};
+use crate::limits::{HEADER_LEN, PIECE};
 use crate::piece::Header;
-use mb_base::{Items, NoMemory};
+use mb_base::{Items, MESSAGE_LIMIT, NoMemory};
 use std::alloc::Global;
 
 /// The bytes of one of the pieces of a message.

@@ -11,7 +11,8 @@ mod stage;
 
 pub use cutting::cut;
 pub use laws::{messages_come_whole_and_in_order, pieces_give_the_message};
-pub use limits::{HEADER_LEN, MAX_COUNT, MESSAGE_LIMIT, PIECE};
+pub use limits::{HEADER_LEN, MAX_COUNT, PIECE};
+pub use mb_base::MESSAGE_LIMIT;
 pub use pushed::Pushed;
 pub use reassembler::Reassembler;
 

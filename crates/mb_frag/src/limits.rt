@@ -1,4 +1,6 @@
-//! How long messages and their pieces are.
+//! How long the pieces of messages are.
+
+use mb_base::MESSAGE_LIMIT;
 
 /// The bytes of a datagram before those of the message.
 pub const HEADER_LEN: usize = 9;
@@ -9,5 +11,5 @@ pub const PIECE: usize = 32_768;
 /// The most pieces of a message.
 pub const MAX_COUNT: u16 = 128;
 
-/// The most bytes of a message: as many as its pieces have room for.
-pub const MESSAGE_LIMIT: usize = MAX_COUNT as usize * PIECE;
+// The pieces of a message have room for the longest one.
+const _: () = prove!(MAX_COUNT as usize * PIECE == MESSAGE_LIMIT);

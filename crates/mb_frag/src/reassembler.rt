@@ -1,10 +1,10 @@
 //! Putting the pieces of a message together.
 
-use crate::limits::{MESSAGE_LIMIT, PIECE};
+use crate::limits::PIECE;
 use crate::piece::Piece;
 use crate::pushed::Pushed;
 use crate::stage::Stage;
-use mb_base::NoMemory;
+use mb_base::{MESSAGE_LIMIT, NoMemory};
 use std::alloc::Global;
 use std::marker::Model;
 
@@ -17,7 +17,7 @@ pub struct Reassembler {
 
 impl Model for Reassembler {
     ghost use Rattle.std.specs.Prelude.{◌≤◌, length, vec_capacity};
-    ghost use Rattle.mb_frag.specs.declared.limits.TheConstants.{MESSAGE_LIMIT};
+    ghost use Rattle.mb_base.specs.declared.limits.TheConstants.{MESSAGE_LIMIT};
     ghost use Rattle.mb_frag.specs.Held.{Held};
     ghost use Rattle.mb_frag.specs.Stages.{StageFits};
 

@@ -1,12 +1,11 @@
 -- Bodies in two forms: what is read is spelled so and fits, and what fits and is spelled so is read.
-use Rattle.std.proofs.Common.{◌≡◌, ℕ, zero, suc, ◌+◌, ◌^◌, ◌<◌, ◌≤◌, ◌++◌, Bool, true, false, eqb, length, refl, arith, lit<, lit≤}
+use Rattle.std.proofs.Common.{◌≡◌, ℕ, ◌^◌, ◌<◌, eqb, length, refl, arith, lit<, lit≤}
 use Rattle.std.proofs.lemmas.Bool.{eqb-true, eqb-false}
 use Rattle.std.specs.Int.{w8}
 use Rattle.mb_base.specs.Shapes.{Bytes}
 use Rattle.mb_base.specs.Spelling.{number}
 use Rattle.mb_base.specs.Reading.{Cursor, Reads}
 use Rattle.mb_base.proofs.Laws.{IsField, iff_field, cond_field, made_field, below_field, ranged_field, wide8}
-use Rattle.mb_parts.specs.Reading.{digest_at}
 use Rattle.mb_parts.proofs.Fields.{digest_field}
 use Rattle.mb_msg.specs.declared.message.Body.{Body}
 use Rattle.mb_msg.specs.declared.message.Body.TheVariants.{Whole, Bare as Short}

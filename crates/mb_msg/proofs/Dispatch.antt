@@ -1,29 +1,24 @@
 -- Reading by the kind, and writing it again: the entries of a VIEW_CHANGE, VIEW_CHANGE and NEW_VIEW, stamped messages, LOG.
-use Rattle.std.proofs.Common.{◌≡◌, ◌≢◌, ℕ, zero, suc, ◌+◌, ◌-◌, ◌*◌, ◌^◌, ◌<◌, ◌≤◌, ◌++◌, Bool, true, false, eqb, cond, not, ◌&&◌, List, [], Option, Some, None, Ok, Err, length, map, refl, sym, ap, subst, ◌∙◌, arith, append_assoc, lit<, lit≤}
-use Rattle.std.specs.Prelude.{IfSome}
-use Rattle.std.proofs.lemmas.Bool.{eqb-true, eqb-false, eq-eqb}
+use Rattle.std.proofs.Common.{◌≡◌, ◌≢◌, ℕ, ◌+◌, ◌^◌, ◌≤◌, ◌++◌, Bool, true, false, eqb, cond, not, ◌&&◌, Option, None, Ok, length, refl, sym, ap, subst, ◌∙◌, arith, append_assoc, lit<, lit≤}
+use Rattle.std.proofs.lemmas.Bool.{eqb-true, eqb-false}
 use Rattle.std.specs.Int.{w8, w16, w64}
-use Rattle.std.specs.List.{flat_map, AllByRecursion}
 use Rattle.mb_base.specs.declared.shape.Shape.{Shape}
-use Rattle.mb_base.specs.Shapes.{Bytes, IsShape, quorum, interval}
-use Rattle.mb_base.specs.Spelling.{number, listed, optional, IsBytes}
-use Rattle.mb_base.specs.Reading.{Cursor, cursor, Reads, number_in, is_other, map_at, ◌>>=◌}
-use Rattle.mb_base.proofs.Laws.{IsField, Takes, Takes-then, bind_ok, ok_is, iff_field, like_field, cond_field, checked_field, pair_field, then_field, made_field, ranged_field, optional_field, list_field, wide8, wide16}
-use Rattle.mb_parts.specs.Fits.{AreMembers, FitsUi, FitsStable, FitsFloorCert, FitsEvidence}
-use Rattle.mb_parts.specs.Spelling.{ui_bytes, stable_bytes, floor_cert_bytes, evidence_bytes}
-use Rattle.mb_parts.specs.Reading.{ui_from}
+use Rattle.mb_base.specs.Shapes.{Bytes, IsShape, quorum}
+use Rattle.mb_base.specs.Spelling.{number, IsBytes}
+use Rattle.mb_base.specs.Reading.{Cursor, cursor, Reads, map_at}
+use Rattle.mb_base.proofs.Laws.{IsField, Takes, bind_ok, ok_is, iff_field, checked_field, pair_field, then_field, made_field, ranged_field, optional_field, list_field, wide8, wide16}
+use Rattle.mb_parts.specs.Spelling.{ui_bytes}
 use Rattle.mb_parts.proofs.Fields.{IsMember, host_field, position_field, base_field, end_field, digest_field, ui_from_field, ui_field, members_field, any_stable_field, floor_cert_field, any_evidence_field}
-use Rattle.mb_msg.specs.declared.message.Body.{Body}
 use Rattle.mb_msg.specs.declared.stamped.Shown.{Shown}
 use Rattle.mb_msg.specs.declared.stamped.Shown.TheVariants as shown
 use Rattle.mb_msg.specs.declared.stamped.Stamped.{Stamped}
 use Rattle.mb_msg.specs.declared.stamped.Stamped.TheVariants as stamped
 use Rattle.mb_msg.specs.declared.change.ViewChange.{ViewChange}
-use Rattle.mb_msg.specs.Bodies.{form_of, body_bytes, FitsBody}
+use Rattle.mb_msg.specs.Bodies.{form_of, body_bytes}
 use Rattle.mb_msg.specs.Spelling.{shown_kind, behind_shown_kind, shown_bytes, stamped_kind, behind_stamped_kind, stamped_bytes, plan_bytes, change_body_bytes, view_change_bytes, member_bytes, new_view_body_bytes, new_view_bytes, log_bytes}
 use Rattle.mb_msg.specs.Fits.{shown_limit, FitsShown, FitsStamped, FitsChangeBody, FitsViewChange, FitsMember, FitsNewViewBody, FitsNewView, FitsLog}
 use Rattle.mb_msg.specs.Reading.{is_stamped_kind, stamped_kind_at, behind_shown_kind_at, second, shown_at, change_body_of_fields, change_body_at, view_change_of_fields, view_change_from, member_at, new_view_body_of, new_view_body_at, new_view_of_fields, new_view_at, behind_stamped_kind_at, stamped_at, log_of_fields, log_at}
-use Rattle.mb_msg.proofs.Bodies.{form_field, FormFits, body_field, form_below}
+use Rattle.mb_msg.proofs.Bodies.{form_field, body_field, form_below}
 use Rattle.mb_msg.proofs.KindFields.{prepare_field, commit_field, checkpoint_field, bare_checkpoint_field, bare_view_change_field, bare_new_view_field, enter_field, open_field, join_field}
 
 -- ---- the half of a field's law that reading needs

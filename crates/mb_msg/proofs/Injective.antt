@@ -1,16 +1,16 @@
 -- Different values that fit are spelled differently; and what a certificate covers says all of the message, up to the digest of a body.
-use Rattle.std.proofs.Common.{◌≡◌, ℕ, ◌^◌, ◌<◌, ◌++◌, length, Ok, refl, ap, append_assoc}
+use Rattle.std.proofs.Common.{◌≡◌, ◌++◌, Ok, refl, append_assoc}
 use Rattle.sha2.proofs.Facts256.{length-sha256}
 use Rattle.mb_base.specs.declared.shape.Shape.{Shape}
 use Rattle.mb_base.specs.Shapes.{Bytes, IsShape}
 use Rattle.mb_base.proofs.Laws.{field_injective}
 use Rattle.mb_parts.specs.declared.request.Request.{Request}
-use Rattle.mb_parts.specs.declared.floor.Mark.{Mark}
-use Rattle.mb_parts.specs.Fits.{IsDigest, FitsRequest, FitsBare}
-use Rattle.mb_parts.specs.Spelling.{request_bytes}
+use Rattle.mb_parts.specs.declared.batch.Batch.{Batch}
+use Rattle.mb_parts.specs.Fits.{IsDigest, FitsRequest, FitsBatch, FitsBare}
+use Rattle.mb_parts.specs.Spelling.{request_bytes, batch_bytes}
 use Rattle.mb_parts.specs.Bares.{bare_bytes}
-use Rattle.mb_parts.specs.Reading.{request_at}
-use Rattle.mb_parts.proofs.Fields.{request_field}
+use Rattle.mb_parts.specs.Reading.{request_at, batch_at}
+use Rattle.mb_parts.proofs.Fields.{request_field, batch_field}
 use Rattle.mb_parts.proofs.BareLaws.{bare_injective}
 use Rattle.mb_msg.specs.declared.message.Body.{Body}
 use Rattle.mb_msg.specs.declared.message.Body.TheVariants.{Whole, Bare as Short}
@@ -22,11 +22,14 @@ use Rattle.mb_msg.specs.Fits.{FitsStamped, Fits}
 use Rattle.mb_msg.specs.Reading.{message_of}
 use Rattle.mb_msg.specs.Signed.{request_text}
 use Rattle.mb_msg.specs.Spelling.{spelling}
-use Rattle.mb_msg.specs.Stamps.{bare_of, ui_of, mark_of, mark_of_bare}
+use Rattle.mb_msg.specs.Stamps.{bare_of, ui_of, mark_of}
 use Rattle.mb_msg.proofs.Messages.{message_again}
 
 pub request_injective : (s : Shape) → IsShape s → (x y : Request) → FitsRequest s x → FitsRequest s y → request_bytes x ≡ request_bytes y → x ≡ y
 request_injective s h = field_injective (request_at s) request_bytes (FitsRequest s) (request_field s h)
+
+pub batch_injective : (s : Shape) → IsShape s → (x y : Batch) → FitsBatch s x → FitsBatch s y → batch_bytes x ≡ batch_bytes y → x ≡ y
+batch_injective s h = field_injective (batch_at s) batch_bytes (FitsBatch s) (batch_field s h)
 
 pub spelling_injective : (s : Shape) → IsShape s → (x y : Message) → Fits s x → Fits s y → spelling x ≡ spelling y → x ≡ y
 spelling_injective s h x y fx fy e =
@@ -39,7 +42,8 @@ pub request_is_signed : (r : Request) → request_bytes r ≡ request_text r.cli
 unfolding request_bytes
 request_is_signed r = simp append_assoc
 
-digest_fits : {B : Type 0} (P : B → Type 0) (bytes : B → Bytes) (b : Body B) → FitsBody P b → IsDigest (body_digest bytes b)
+-- the digest of a body that fits, in either form
+pub digest_fits : {B : Type 0} (P : B → Type 0) (bytes : B → Bytes) (b : Body B) → FitsBody P b → IsDigest (body_digest bytes b)
 digest_fits P bytes (Whole b) f = length-sha256 (bytes b)
 digest_fits P bytes (Short d) f = f
 

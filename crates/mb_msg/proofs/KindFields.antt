@@ -1,32 +1,22 @@
 -- The kinds of messages, behind their kind byte: what is read is spelled so and fits, and what fits and is spelled so is read.
-use Rattle.std.proofs.Common.{◌≡◌, ℕ, zero, suc, ◌+◌, ◌-◌, ◌*◌, ◌^◌, ◌<◌, ◌≤◌, ◌++◌, Bool, true, false, eqb, List, Option, Some, None, length, map, refl, sym, ap, subst, arith, append_assoc, lit<, lit≤}
-use Rattle.std.specs.Prelude.{IfSome}
-use Rattle.std.proofs.lemmas.Bool.{eqb-true, eqb-false}
-use Rattle.std.specs.Int.{w8, w16, w32, w64}
-use Rattle.std.specs.List.{flat_map, AllByRecursion}
+use Rattle.std.proofs.Common.{◌≡◌, ℕ, ◌+◌, ◌-◌, ◌^◌, ◌<◌, ◌≤◌, ◌++◌, List, length, refl, ap, subst, arith, append_assoc, lit<, lit≤}
+use Rattle.std.specs.Int.{w8, w32, w64}
+use Rattle.std.specs.List.{AllByRecursion}
 use Rattle.mb_base.specs.declared.shape.Shape.{Shape}
-use Rattle.mb_base.specs.declared.names.Ui.{Ui}
-use Rattle.mb_base.specs.Shapes.{Bytes, IsShape, host_count, quorum, interval}
-use Rattle.mb_base.specs.Spelling.{number, text, listed, optional}
-use Rattle.mb_base.specs.Reading.{Cursor, Reads, number_in}
-use Rattle.mb_base.proofs.Laws.{IsField, iff_field, like_field, cond_field, pair_field, then_field, made_field, ranged_field, text_field, text16_field, nothing_field, optional_field, repeat_field, list_field, wide8, wide16, wide32}
+use Rattle.mb_base.specs.Shapes.{Bytes, IsShape, host_count}
+use Rattle.mb_base.specs.Spelling.{number, text, listed}
+use Rattle.mb_base.proofs.Laws.{IsField, iff_field, pair_field, then_field, made_field, ranged_field, text_field, text16_field, repeat_field, list_field, wide8, wide32}
 use Rattle.mb_parts.specs.declared.certificates.Evidence.{Evidence}
-use Rattle.mb_parts.specs.Fits.{FitsRequest, FitsUi, FitsStable, FitsFloorCert, FitsEvidence, FitsStatePart}
-use Rattle.mb_parts.specs.Spelling.{ui_bytes, request_bytes, stable_bytes, floor_cert_bytes, evidence_bytes}
+use Rattle.mb_parts.specs.Fits.{FitsStable, FitsEvidence, FitsStatePart}
+use Rattle.mb_parts.specs.Spelling.{ui_bytes, batch_bytes, stable_bytes, evidence_bytes}
 use Rattle.mb_parts.specs.Bares.{if_there}
 use Rattle.mb_parts.specs.Reading.{stable_in, state_part_at}
-use Rattle.mb_parts.proofs.Fields.{IsMember, host_field, client_field, counter_field, place_field, position_field, base_field, point_field, end_field, digest_field, ui_from_field, ui_field, request_field, floors_field, members_field, stable_field, any_stable_field, floor_cert_field, any_evidence_field, joined_field}
-use Rattle.mb_msg.specs.declared.message.Body.{Body}
-use Rattle.mb_msg.specs.declared.normal.Floors.{Floors}
-use Rattle.mb_msg.specs.declared.change.ChangeBody.{ChangeBody}
-use Rattle.mb_msg.specs.declared.change.ViewChange.{ViewChange}
-use Rattle.mb_msg.specs.declared.change.NewViewBody.{NewViewBody}
-use Rattle.mb_msg.specs.declared.change.OpenBody.{OpenBody}
-use Rattle.mb_msg.specs.Bodies.{form_of, body_bytes, FitsBody}
-use Rattle.mb_msg.specs.Spelling.{prepare_bytes, commit_bytes, reply_bytes, floors_body_bytes, checkpoint_bytes, bare_checkpoint_bytes, wish_bytes, bare_view_change_bytes, plan_bytes, bare_new_view_bytes, enter_bytes, open_body_bytes, open_bytes, join_bytes, shown_bytes, change_body_bytes, view_change_bytes, member_bytes, new_view_body_bytes, new_view_bytes, resend_bytes, fetch_bytes, state_bytes}
-use Rattle.mb_msg.specs.Fits.{shown_limit, FitsPrepare, FitsCommit, FitsReply, FitsFloorsBody, FitsCheckpoint, FitsBareCheckpoint, FitsWish, FitsBareViewChange, FitsBareNewView, FitsEnter, FitsOpenParts, FitsOpenBody, FitsOpen, FitsJoin, FitsResend, FitsFetch, FitsState}
+use Rattle.mb_parts.proofs.Fields.{host_field, client_field, counter_field, place_field, position_field, base_field, point_field, end_field, digest_field, ui_field, batch_field, floors_field, stable_field, any_evidence_field, joined_field}
+use Rattle.mb_msg.specs.Bodies.{form_of, body_bytes}
+use Rattle.mb_msg.specs.Spelling.{prepare_bytes, commit_bytes, reply_bytes, floors_body_bytes, checkpoint_bytes, bare_checkpoint_bytes, wish_bytes, bare_view_change_bytes, bare_new_view_bytes, enter_bytes, open_body_bytes, open_bytes, join_bytes, resend_bytes, fetch_bytes, state_bytes}
+use Rattle.mb_msg.specs.Fits.{FitsPrepare, FitsCommit, FitsReply, FitsFloorsBody, FitsCheckpoint, FitsBareCheckpoint, FitsWish, FitsBareViewChange, FitsBareNewView, FitsEnter, FitsOpenBody, FitsOpen, FitsJoin, FitsResend, FitsFetch, FitsState}
 use Rattle.mb_msg.specs.Reading.{prepare_of_fields, prepare_at, commit_of_fields, commit_at, reply_of_fields, reply_at, floors_body_of, floors_body_at, checkpoint_of_fields, checkpoint_at, bare_checkpoint_of_fields, bare_checkpoint_at, wish_of_fields, wish_at, bare_view_change_of_fields, bare_view_change_at, bare_new_view_of_fields, bare_new_view_at, enter_of_fields, enter_at, open_body_of_fields, open_body_at, open_of_fields, open_at, join_of_fields, join_at, resend_of_fields, resend_at, fetch_of_fields, fetch_at, state_of_fields, state_parts_at, state_at}
-use Rattle.mb_msg.proofs.Bodies.{form_field, bare_form_field, FormFits, body_field, form_below}
+use Rattle.mb_msg.proofs.Bodies.{form_field, bare_form_field, body_field, form_below}
 
 module _ (s : Shape) (h : IsShape s) where
   -- ---- a view that goes its way
@@ -35,27 +25,27 @@ module _ (s : Shape) (h : IsShape s) where
   unfolding prepare_at prepare_bytes
   prepare_field =
       made_field prepare_of_fields _ _ _ prepare_bytes (FitsPrepare s)
-      (λ p f. ap (λ k. number w8 k ++ (number w64 p.1.0 ++ (number w64 p.1.1.0 ++ (body_bytes request_bytes p.1.1.1.0 ++ ui_bytes p.1.1.1.1)))) f.1.1.1.0.0)
+      (λ p f. ap (λ k. number w8 k ++ (number w64 p.1.0 ++ (number w64 p.1.1.0 ++ (body_bytes batch_bytes p.1.1.1.0 ++ ui_bytes p.1.1.1.1)))) f.1.1.1.0.0)
       (λ p f. record { view = f.1.0; pos = f.1.1.0; body = f.1.1.1.0.1; ui = f.1.1.1.1 })
       (λ m f. ((form_of m.body, (m.view, (m.pos, (m.body, m.ui)))), refl, (form_below m.body, (f.view, (f.pos, ((refl, f.body), f.ui)))))) (
-      then_field _ _ _ _ (λ form p. number w64 p.0 ++ (number w64 p.1.0 ++ (body_bytes request_bytes p.1.1.0 ++ ui_bytes p.1.1.1))) _ form_field (λ form small.
+      then_field _ _ _ _ (λ form p. number w64 p.0 ++ (number w64 p.1.0 ++ (body_bytes batch_bytes p.1.1.0 ++ ui_bytes p.1.1.1))) _ form_field (λ form small.
       pair_field _ _ _ _ _ _ place_field (
       pair_field _ _ _ _ _ _ position_field (
-      pair_field _ _ _ _ _ _ (body_field _ _ _ (request_field s h) form small) (ui_field s h)))))
+      pair_field _ _ _ _ _ _ (body_field _ _ _ (batch_field s h) form small) (ui_field s h)))))
 
   pub commit_field : IsField (commit_at s) commit_bytes (FitsCommit s)
   unfolding commit_at commit_bytes
   commit_field =
       made_field commit_of_fields _ _ _ commit_bytes (FitsCommit s)
-      (λ p f. ap (λ k. number w8 k ++ (number w64 p.1.0 ++ (number w64 p.1.1.0 ++ (number w64 p.1.1.1.0 ++ (p.1.1.1.1.0 ++ (body_bytes request_bytes p.1.1.1.1.1.0 ++ ui_bytes p.1.1.1.1.1.1)))))) f.1.1.1.1.1.0.0)
+      (λ p f. ap (λ k. number w8 k ++ (number w64 p.1.0 ++ (number w64 p.1.1.0 ++ (number w64 p.1.1.1.0 ++ (p.1.1.1.1.0 ++ (body_bytes batch_bytes p.1.1.1.1.1.0 ++ ui_bytes p.1.1.1.1.1.1)))))) f.1.1.1.1.1.0.0)
       (λ p f. record { view = f.1.0; pos = f.1.1.0; counter = f.1.1.1.0; cert = f.1.1.1.1.0; body = f.1.1.1.1.1.0.1; ui = f.1.1.1.1.1.1 })
       (λ m f. ((form_of m.body, (m.view, (m.pos, (m.counter, (m.cert, (m.body, m.ui)))))), refl, (form_below m.body, (f.view, (f.pos, (f.counter, (f.cert, ((refl, f.body), f.ui)))))))) (
-      then_field _ _ _ _ (λ form p. number w64 p.0 ++ (number w64 p.1.0 ++ (number w64 p.1.1.0 ++ (p.1.1.1.0 ++ (body_bytes request_bytes p.1.1.1.1.0 ++ ui_bytes p.1.1.1.1.1))))) _ form_field (λ form small.
+      then_field _ _ _ _ (λ form p. number w64 p.0 ++ (number w64 p.1.0 ++ (number w64 p.1.1.0 ++ (p.1.1.1.0 ++ (body_bytes batch_bytes p.1.1.1.1.0 ++ ui_bytes p.1.1.1.1.1))))) _ form_field (λ form small.
       pair_field _ _ _ _ _ _ place_field (
       pair_field _ _ _ _ _ _ position_field (
       pair_field _ _ _ _ _ _ counter_field (
       pair_field _ _ _ _ _ _ digest_field (
-      pair_field _ _ _ _ _ _ (body_field _ _ _ (request_field s h) form small) (ui_field s h)))))))
+      pair_field _ _ _ _ _ _ (body_field _ _ _ (batch_field s h) form small) (ui_field s h)))))))
 
   pub reply_field : IsField (reply_at s) reply_bytes (FitsReply s)
   unfolding reply_at reply_bytes
@@ -160,8 +150,8 @@ module _ (s : Shape) (h : IsShape s) where
       made_field open_body_of_fields _ _ _ open_body_bytes (FitsOpenBody s e)
       (λ p f. refl)
       (λ p f. ((f.0.0, f.1.1), (f.0.1, f.1.0)))
-      (λ b f. ((b.stable, b.requests), refl, ((f.0.0, f.1.0), (f.1.1, f.0.1)))) (
-      pair_field _ _ _ _ _ _ (stable_at_field e.base ok.base.0) (repeat_field (e.end - e.base) _ _ _ (request_field s h)))
+      (λ b f. ((b.stable, b.batches), refl, ((f.0.0, f.1.0), (f.1.1, f.0.1)))) (
+      pair_field _ _ _ _ _ _ (stable_at_field e.base ok.base.0) (repeat_field (e.end - e.base) _ _ _ (batch_field s h)))
 
   pub open_field : IsField (open_at s) open_bytes (FitsOpen s)
   unfolding open_at open_bytes

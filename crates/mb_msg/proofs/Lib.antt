@@ -7,3 +7,4 @@ pub mod Sizes
 pub mod Injective
 pub mod OnLiterals
 pub mod Malformed
+pub mod AsStamped

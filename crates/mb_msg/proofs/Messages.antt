@@ -1,29 +1,29 @@
 -- Whole messages: what is read is spelled so and fits, and what fits and is spelled so is read.
-use Rattle.std.proofs.Common.{◌≡◌, ◌≢◌, ℕ, zero, suc, ◌+◌, ◌-◌, ◌^◌, ◌<◌, ◌≤◌, Bool, true, false, cond, ltb, eqb, not, ◌&&◌, List, [], ◌++◌, length, Result, Ok, Err, refl, sym, ap, subst, ◌∙◌, arith, lit<, lit≤}
+use Rattle.std.proofs.Common.{◌≡◌, ◌≢◌, ℕ, ◌+◌, ◌^◌, ◌<◌, ◌≤◌, Bool, true, false, cond, ltb, eqb, List, [], ◌++◌, length, Result, Ok, Err, refl, sym, ap, subst, ◌∙◌, arith, lit<, lit≤}
 use Rattle.std.specs.Prelude.{IfOk}
 use Rattle.std.specs.Int.{w8}
 use Rattle.std.proofs.lemmas.Bool.{eqb-true, eqb-false, ne_eqb, le-ltb, ltb-false}
-use Rattle.std.proofs.lemmas.List.{append-nil, nil_from_length, length-append}
+use Rattle.std.proofs.lemmas.List.{append-nil, nil_from_length}
+use Rattle.mb_base.specs.declared.limits.TheConstants.{MESSAGE_LIMIT}
 use Rattle.mb_base.specs.declared.shape.Shape.{Shape}
 use Rattle.mb_base.specs.Shapes.{Bytes, IsShape}
 use Rattle.mb_base.specs.Spelling.{number, IsBytes}
-use Rattle.mb_base.specs.Reading.{Cursor, cursor, Reads, number_in, map_at}
+use Rattle.mb_base.specs.Reading.{Cursor, cursor, number_in, map_at}
 use Rattle.mb_base.proofs.Laws.{IsField, Takes, bind_ok, ok_is, allow_ok, made_field, within_field, wide8}
 use Rattle.mb_parts.specs.declared.fault.Undecoded.{Undecoded}
 use Rattle.mb_parts.specs.Decoded.{DecodesWhole}
 use Rattle.mb_parts.specs.Reading.{digest_at}
 use Rattle.mb_parts.proofs.Fields.{digest_field, request_field}
-use Rattle.mb_msg.specs.declared.normal.Stop.{Stop}
 use Rattle.mb_msg.specs.declared.stamped.Stamped.{Stamped}
 use Rattle.mb_msg.specs.declared.stamped.Stamped.TheVariants as stamped
 use Rattle.mb_msg.specs.declared.message.Message.{Message}
 use Rattle.mb_msg.specs.declared.message.Message.TheVariants as message
 use Rattle.mb_msg.specs.Spelling.{kind_of, behind_kind, stamped_kind, behind_stamped_kind, spelling}
 use Rattle.mb_msg.specs.Stamps.{as_message}
-use Rattle.mb_msg.specs.Fits.{message_limit, FitsStamped, FitsStop, FitsFields, Fits}
+use Rattle.mb_msg.specs.Fits.{FitsStamped, FitsStop, FitsFields, Fits}
 use Rattle.mb_msg.specs.Reading.{is_stamped_kind, stop_of, behind_stamped_kind_at, behind_kind_at, message_of}
 use Rattle.mb_msg.proofs.KindFields.{reply_field, wish_field, resend_field, fetch_field, state_field}
-use Rattle.mb_msg.proofs.Dispatch.{Yields, made_yields, cond_yields, made_again, stamped_yields, stamped_again, stamped_kind_ok, log_field}
+use Rattle.mb_msg.proofs.Dispatch.{Yields, made_yields, cond_yields, made_again, stamped_yields, stamped_again, log_field}
 
 kind_within : (m : Message) → (1 ≤ kind_of m) × (kind_of m < 17)
 kind_within (message.Request m) = (lit≤ tt, lit< tt)
@@ -140,8 +140,8 @@ passed false d r y e = (refl, e)
 pub message_takes : (s : Shape) → IsShape s → (bytes : Bytes) (m : Message) → IsBytes bytes → message_of s bytes ≡ Ok m → Fits s m × (bytes ≡ spelling m)
 unfolding message_of spelling
 message_takes s shape bytes m fits e =
-    let read = passed (ltb message_limit (length bytes)) _ _ m e in
-    let few : length bytes ≤ message_limit = ltb-false _ _ read.0 in
+    let read = passed (ltb MESSAGE_LIMIT (length bytes)) _ _ m e in
+    let few : length bytes ≤ MESSAGE_LIMIT = ltb-false _ _ read.0 in
     let a = bind_ok (number_in w8 1 16 (cursor 0 bytes)) _ m read.1 in
     let b = bind_ok (behind_kind_at s a.0.0 a.0.1) _ m a.2 in
     let g = allow_ok (eqb (length b.0.1.rest) 0) b.0.1.at b.0.0 m b.2 in
@@ -150,13 +150,13 @@ message_takes s shape bytes m fits e =
     let nothing : b.0.1.rest ≡ [] = nil_from_length b.0.1.rest (eqb-true _ _ g.0) in
     let rest : a.0.1.rest ≡ behind_kind b.0.0 = p.0.parts ∙ ap (λ (x : List ℕ). behind_kind b.0.0 ++ x) nothing ∙ append-nil (behind_kind b.0.0) in
     let whole : bytes ≡ number w8 (kind_of b.0.0) ++ behind_kind b.0.0 = k.0.parts ∙ ap (λ (x : List ℕ). number w8 a.0.0 ++ x) rest ∙ ap (λ (n : ℕ). number w8 n ++ behind_kind b.0.0) (sym p.1.0) in
-    subst (λ (v : Message). Fits s v × (bytes ≡ number w8 (kind_of v) ++ behind_kind v)) g.1 (record { fields = p.1.1; size = subst (λ (u : Bytes). length u ≤ message_limit) whole few }, whole)
+    subst (λ (v : Message). Fits s v × (bytes ≡ number w8 (kind_of v) ++ behind_kind v)) g.1 (record { fields = p.1.1; size = subst (λ (u : Bytes). length u ≤ MESSAGE_LIMIT) whole few }, whole)
 
 -- what fits and is spelled so is read
 pub message_again : (s : Shape) → IsShape s → (m : Message) → Fits s m → message_of s (spelling m) ≡ Ok m
 unfolding message_of spelling
 message_again s shape m f =
-    let short : ltb message_limit (length (number w8 (kind_of m) ++ behind_kind m)) ≡ false = le-ltb _ _ f.size in
+    let short : ltb MESSAGE_LIMIT (length (number w8 (kind_of m) ++ behind_kind m)) ≡ false = le-ltb _ _ f.size in
     let text = behind_kind m in
     let at = 0 + length (number w8 (kind_of m)) in
     let kind = (within_field w8 (2 ^ 8) 1 17 (lit≤ tt) (lit≤ tt) wide8).again (kind_of m) 0 text (kind_within m) in

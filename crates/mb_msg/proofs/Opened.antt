@@ -1,8 +1,11 @@
 -- Bodies that fit more fit less.
+use Rattle.std.specs.Prelude.{List, [], ◌∷◌}
+use Rattle.std.specs.List.{AllByRecursion}
 use Rattle.mb_base.specs.declared.shape.Shape.{Shape}
 use Rattle.mb_parts.specs.declared.certificates.Evidence.{Evidence}
 use Rattle.mb_parts.specs.declared.request.Request.{Request}
-use Rattle.mb_parts.specs.Fits.{FitsText, FitsRequest}
+use Rattle.mb_parts.specs.declared.batch.Batch.{Batch}
+use Rattle.mb_parts.specs.Fits.{FitsText, FitsRequest, FitsBatch, CanDigest}
 use Rattle.mb_msg.specs.declared.message.Body.{Body}
 use Rattle.mb_msg.specs.declared.message.Body.TheVariants.{Whole, Bare as Short}
 use Rattle.mb_msg.specs.declared.change.OpenBody.{OpenBody}
@@ -13,7 +16,14 @@ pub opened_parts : (s : Shape) (e : Evidence) (b : Body OpenBody) → FitsBody (
 opened_parts s e (Whole b) f = f.0
 opened_parts s e (Short d) f = f
 
--- A request that fits is short enough to be spelled.
-pub body_has_text : (s : Shape) (b : Body Request) → FitsBody (FitsRequest s) b → FitsBody (λ r. FitsText r.op) b
-body_has_text s (Whole r) f = f.op
-body_has_text s (Short d) f = f
+requests_have_text : (s : Shape) (rs : List Request) → AllByRecursion (FitsRequest s) rs → AllByRecursion (λ r. FitsText r.op) rs
+requests_have_text s [] f = tt
+requests_have_text s (r ∷ rs) f = (f.0.op, requests_have_text s rs f.1)
+
+-- A batch that fits is short enough to be spelled.
+pub has_digest : (s : Shape) (b : Batch) → FitsBatch s b → CanDigest b
+has_digest s b f = (f.count, requests_have_text s b.requests f.requests)
+
+pub body_has_digest : (s : Shape) (b : Body Batch) → FitsBody (FitsBatch s) b → FitsBody CanDigest b
+body_has_digest s (Whole b) f = has_digest s b f
+body_has_digest s (Short d) f = f

@@ -1,12 +1,11 @@
 -- The values that the grammar of messages has.
-use Rattle.std.specs.Prelude.{◌≡◌, ℕ, ◌+◌, ◌*◌, ◌-◌, ◌^◌, ◌≤◌, ◌<◌, length, Option, Some, None, IfSome}
+use Rattle.std.specs.Prelude.{◌≡◌, ℕ, ◌+◌, ◌*◌, ◌-◌, ◌≤◌, ◌<◌, length, IfSome}
 use Rattle.std.specs.List.{AllByRecursion}
-use Rattle.mb_base.specs.Shapes.{Bytes, host_count, client_count, quorum, interval}
+use Rattle.mb_base.specs.Shapes.{host_count, client_count, quorum, interval}
+use Rattle.mb_base.specs.declared.limits.TheConstants.{MESSAGE_LIMIT}
 use Rattle.mb_base.specs.declared.shape.Shape.{Shape}
-use Rattle.mb_parts.specs.declared.request.Request.{Request}
 use Rattle.mb_parts.specs.declared.certificates.Evidence.{Evidence}
-use Rattle.mb_parts.specs.Fits.{IsCounter, IsPosition, IsDigest, IsBase, IsEnd, FitsText, FitsStatePart, AreMembers, FitsRequest, FitsUi, FitsFloors, FitsStable, FitsFloorCert, FitsEvidence, FitsJoined}
-use Rattle.mb_msg.specs.declared.message.Body.TheVariants.{Whole, Bare as Short}
+use Rattle.mb_parts.specs.Fits.{IsCounter, IsPlace, IsPosition, IsDigest, IsBase, IsEnd, FitsText, FitsStatePart, AreMembers, FitsRequest, FitsBatch, FitsUi, FitsFloors, FitsStable, FitsFloorCert, FitsEvidence, FitsJoined}
 use Rattle.mb_msg.specs.declared.normal.Prepare.{Prepare}
 use Rattle.mb_msg.specs.declared.normal.Commit.{Commit}
 use Rattle.mb_msg.specs.declared.normal.Reply.{Reply}
@@ -38,10 +37,6 @@ use Rattle.mb_msg.specs.declared.message.Message.TheVariants as message
 use Rattle.mb_msg.specs.Bodies.{form_of, FitsBody}
 use Rattle.mb_msg.specs.Spelling.{spelling}
 
--- the most bytes of a message
-abbrev pub message_limit : ℕ
-message_limit = 4194304
-
 -- the most entries that a VIEW_CHANGE shows
 abbrev pub shown_limit : Shape → ℕ
 shown_limit s = 6 * interval s + 768
@@ -49,24 +44,24 @@ shown_limit s = 6 * interval s + 768
 -- ---- a view that goes its way
 
 pub record FitsPrepare (s : Shape) (m : Prepare) : Type 0 where
-  pub view : m.view < 2 ^ 63
+  pub view : IsPlace m.view
   pub pos : IsPosition m.pos
-  pub body : FitsBody (FitsRequest s) m.body
+  pub body : FitsBody (FitsBatch s) m.body
   pub ui : FitsUi s m.ui
 
 pub record FitsCommit (s : Shape) (m : Commit) : Type 0 where
-  pub view : m.view < 2 ^ 63
+  pub view : IsPlace m.view
   pub pos : IsPosition m.pos
   pub counter : IsCounter m.counter
   pub cert : IsDigest m.cert
-  pub body : FitsBody (FitsRequest s) m.body
+  pub body : FitsBody (FitsBatch s) m.body
   pub ui : FitsUi s m.ui
 
 pub record FitsReply (s : Shape) (m : Reply) : Type 0 where
   pub host : m.host < host_count s
   pub client : m.client < client_count s
   pub seq : IsCounter m.seq
-  pub pos : m.pos < 2 ^ 63
+  pub pos : IsPlace m.pos
   pub result : FitsText m.result
   pub tag : IsDigest m.tag
 
@@ -112,11 +107,11 @@ pub record FitsEnter (s : Shape) (m : Enter) : Type 0 where
   pub ui : FitsUi s m.ui
 
 abbrev pub FitsOpenParts : Shape → OpenBody → Type 0
-FitsOpenParts s b = FitsStable s b.stable × AllByRecursion (FitsRequest s) b.requests
+FitsOpenParts s b = FitsStable s b.stable × AllByRecursion (FitsBatch s) b.batches
 
--- the base's certificate, and a request for each position from there to the end
+-- the base's certificate, and a batch for each position from there to the end
 abbrev pub FitsOpenBody : Shape → Evidence → OpenBody → Type 0
-FitsOpenBody s e b = FitsOpenParts s b × ((b.stable.pos ≡ e.base) × (length b.requests ≡ e.end - e.base))
+FitsOpenBody s e b = FitsOpenParts s b × ((b.stable.pos ≡ e.base) × (length b.batches ≡ e.end - e.base))
 
 pub record FitsOpen (s : Shape) (m : Open) : Type 0 where
   pub evidence : FitsEvidence s m.evidence
@@ -124,7 +119,7 @@ pub record FitsOpen (s : Shape) (m : Open) : Type 0 where
   pub ui : FitsUi s m.ui
 
 pub record FitsJoin (s : Shape) (m : Join) : Type 0 where
-  pub view : m.view < 2 ^ 63
+  pub view : IsPlace m.view
   pub evidence : FitsJoined s m.view m.evidence
   pub stable : FitsStable s m.stable
   pub above : 1 ≤ m.stable.pos
@@ -181,7 +176,7 @@ FitsStamped s (stamped.Join m) = FitsJoin s m
 
 pub record FitsResend (s : Shape) (m : Resend) : Type 0 where
   pub host : m.host < host_count s
-  pub low : m.low < 2 ^ 63
+  pub low : IsPlace m.low
   pub count : length m.nexts ≡ host_count s
   pub nexts : AllByRecursion IsCounter m.nexts
 
@@ -234,4 +229,4 @@ FitsFields s (message.Stop m) = FitsStop m
 
 pub record Fits (s : Shape) (m : Message) : Type 0 where
   pub fields : FitsFields s m
-  pub size : length (spelling m) ≤ message_limit
+  pub size : length (spelling m) ≤ MESSAGE_LIMIT

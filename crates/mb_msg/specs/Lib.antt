@@ -3,6 +3,6 @@ pub mod Fits
 pub mod Spelling
 pub mod Reading
 pub mod Stamps
-pub mod Contents
 pub mod Signed
 pub mod Plans
+pub mod AsStamped

@@ -1,16 +1,18 @@
 -- Reading a message from left to right, with the offset of the first field that is short or has a value that isn't allowed.
-use Rattle.std.specs.Prelude.{ℕ, ◌+◌, ◌-◌, ◌*◌, ◌^◌, Bool, ◌&&◌, not, length, nat_lt, ◌==◌, if◌then◌else◌, List, Option, Some, None, Result, Ok, Err}
-use Rattle.std.specs.Int.{w8, w16, w64}
-use Rattle.mb_base.specs.Shapes.{Bytes, host_count, quorum, interval}
-use Rattle.mb_base.specs.Reading.{Cursor, cursor, Reads, ◌>>=◌, number_in, checked_at, text16_at, pair_at, then_at, map_at, nothing_at, optional_at, repeat_at, list_in, rising_at}
+use Rattle.std.specs.Prelude.{ℕ, ◌-◌, Bool, ◌&&◌, not, length, nat_lt, ◌==◌, if◌then◌else◌, List, Option, None, Result, Ok, Err}
+use Rattle.std.specs.Int.{w8, w16}
+use Rattle.mb_base.specs.Shapes.{Bytes, host_count, quorum}
+use Rattle.mb_base.specs.Reading.{Cursor, cursor, Reads, ◌>>=◌, number_in, checked_at, text16_at, pair_at, then_at, map_at, optional_at, repeat_at, list_in, rising_at}
+use Rattle.mb_base.specs.declared.limits.TheConstants.{MESSAGE_LIMIT}
 use Rattle.mb_base.specs.declared.shape.Shape.{Shape}
 use Rattle.mb_base.specs.declared.names.Ui.{Ui}
-use Rattle.mb_parts.specs.declared.request.Request.{Request}
+use Rattle.mb_parts.specs.declared.limits.TheConstants.{MAX_PLACE}
+use Rattle.mb_parts.specs.declared.batch.Batch.{Batch}
 use Rattle.mb_parts.specs.declared.floor.Floor.{Floor}
 use Rattle.mb_parts.specs.declared.certificates.StableCert.{StableCert}
 use Rattle.mb_parts.specs.declared.certificates.FloorCert.{FloorCert}
 use Rattle.mb_parts.specs.declared.certificates.Evidence.{Evidence}
-use Rattle.mb_parts.specs.Reading.{host_at, client_at, counter_at, place_at, position_at, base_at, point_at, end_at, digest_at, state_part_at, ui_from, ui_at, request_at, floors_at, stable_in, stable_at, floor_cert_at, evidence_at, evidence_of_view}
+use Rattle.mb_parts.specs.Reading.{host_at, client_at, counter_at, place_at, position_at, base_at, point_at, end_at, digest_at, state_part_at, ui_from, ui_at, request_at, batch_at, floors_at, stable_in, stable_at, floor_cert_at, evidence_at, evidence_of_view}
 use Rattle.mb_msg.specs.declared.message.Body.{Body}
 use Rattle.mb_msg.specs.declared.normal.Prepare.{Prepare}
 use Rattle.mb_msg.specs.declared.normal.Commit.{Commit}
@@ -41,22 +43,22 @@ use Rattle.mb_msg.specs.declared.stamped.Stamped.TheVariants as stamped
 use Rattle.mb_msg.specs.declared.message.Message.{Message}
 use Rattle.mb_msg.specs.declared.message.Message.TheVariants as message
 use Rattle.mb_msg.specs.Bodies.{form_at, bare_form_at, body_at}
-use Rattle.mb_msg.specs.Fits.{message_limit, shown_limit}
+use Rattle.mb_msg.specs.Fits.{shown_limit}
 use Rattle.mb_msg.specs.Stamps.{as_message}
 
 -- ---- a view that goes its way; each kind behind its kind byte
 
-abbrev pub prepare_of_fields : ℕ × (ℕ × (ℕ × (Body Request × Ui))) → Prepare
+abbrev pub prepare_of_fields : ℕ × (ℕ × (ℕ × (Body Batch × Ui))) → Prepare
 prepare_of_fields p = record { view = p.1.0; pos = p.1.1.0; body = p.1.1.1.0; ui = p.1.1.1.1 }
 
 unfoldable pub prepare_at : Shape → Cursor → Reads Prepare
-prepare_at s = map_at prepare_of_fields (then_at form_at (λ form. pair_at place_at (pair_at position_at (pair_at (body_at (request_at s) form) (ui_at s)))))
+prepare_at s = map_at prepare_of_fields (then_at form_at (λ form. pair_at place_at (pair_at position_at (pair_at (body_at (batch_at s) form) (ui_at s)))))
 
-abbrev pub commit_of_fields : ℕ × (ℕ × (ℕ × (ℕ × (Bytes × (Body Request × Ui))))) → Commit
+abbrev pub commit_of_fields : ℕ × (ℕ × (ℕ × (ℕ × (Bytes × (Body Batch × Ui))))) → Commit
 commit_of_fields p = record { view = p.1.0; pos = p.1.1.0; counter = p.1.1.1.0; cert = p.1.1.1.1.0; body = p.1.1.1.1.1.0; ui = p.1.1.1.1.1.1 }
 
 unfoldable pub commit_at : Shape → Cursor → Reads Commit
-commit_at s = map_at commit_of_fields (then_at form_at (λ form. pair_at place_at (pair_at position_at (pair_at counter_at (pair_at digest_at (pair_at (body_at (request_at s) form) (ui_at s)))))))
+commit_at s = map_at commit_of_fields (then_at form_at (λ form. pair_at place_at (pair_at position_at (pair_at counter_at (pair_at digest_at (pair_at (body_at (batch_at s) form) (ui_at s)))))))
 
 abbrev pub reply_of_fields : ℕ × (ℕ × (ℕ × (ℕ × (Bytes × Bytes)))) → Reply
 reply_of_fields p = record { host = p.0; client = p.1.0; seq = p.1.1.0; pos = p.1.1.1.0; result = p.1.1.1.1.0; tag = p.1.1.1.1.1 }
@@ -108,12 +110,12 @@ enter_of_fields p = record { view = p.1.0; counter = p.1.1.0; plan = p.1.1.1.0; 
 unfoldable pub enter_at : Shape → Cursor → Reads Enter
 enter_at s = map_at enter_of_fields (pair_at bare_form_at (pair_at position_at (pair_at counter_at (pair_at digest_at (ui_at s)))))
 
-abbrev pub open_body_of_fields : StableCert × List Request → OpenBody
-open_body_of_fields p = record { stable = p.0; requests = p.1 }
+abbrev pub open_body_of_fields : StableCert × List Batch → OpenBody
+open_body_of_fields p = record { stable = p.0; batches = p.1 }
 
--- the base's certificate, and a request for each position from there to the end
+-- the base's certificate, and a batch for each position from there to the end
 unfoldable pub open_body_at : Shape → Evidence → Cursor → Reads OpenBody
-open_body_at s e = map_at open_body_of_fields (pair_at (stable_in s e.base e.base) (repeat_at (request_at s) (e.end - e.base)))
+open_body_at s e = map_at open_body_of_fields (pair_at (stable_in s e.base e.base) (repeat_at (batch_at s) (e.end - e.base)))
 
 abbrev pub open_of_fields : ℕ × (Evidence × (Body OpenBody × Ui)) → Open
 open_of_fields p = record { evidence = p.1.0; body = p.1.1.0; ui = p.1.1.1 }
@@ -125,7 +127,7 @@ abbrev pub join_of_fields : ℕ × (ℕ × (Option Evidence × (StableCert × Ui
 join_of_fields p = record { view = p.1.0; evidence = p.1.1.0; stable = p.1.1.1.0; ui = p.1.1.1.1 }
 
 unfoldable pub join_at : Shape → Cursor → Reads Join
-join_at s = map_at join_of_fields (pair_at bare_form_at (then_at place_at (λ view. pair_at (evidence_of_view s view) (pair_at (stable_in s 1 (2 ^ 63 - 1)) (ui_at s)))))
+join_at s = map_at join_of_fields (pair_at bare_form_at (then_at place_at (λ view. pair_at (evidence_of_view s view) (pair_at (stable_in s 1 MAX_PLACE) (ui_at s)))))
 
 -- the kinds that are stamped: 2, 3, 5, and 7 to 11
 abbrev pub is_stamped_kind : ℕ → Bool
@@ -252,7 +254,7 @@ behind_kind_at s kind =
 
 -- all of the bytes: the offset of the first surplus byte, or the limit where the input is longer
 unfoldable pub message_of : Shape → Bytes → Result Message ℕ
-message_of s bytes = if nat_lt message_limit (length bytes) then Err message_limit else whole (cursor 0 bytes) where
+message_of s bytes = if nat_lt MESSAGE_LIMIT (length bytes) then Err MESSAGE_LIMIT else whole (cursor 0 bytes) where
   ended : Message × Cursor → Result Message ℕ
   ended m = if length m.1.rest == 0 then Ok m.0 else Err m.1.at
 

@@ -4,13 +4,14 @@ ghost use Rattle.std.specs.Prelude.{◌≡◌, ◌++◌, ◌≤◌, ◌<◌, ◌
 ghost use Rattle.std.specs.Option.{option_map};
 ghost use Rattle.std.specs.List.{AllByRecursion};
 ghost use Rattle.mb_parts.specs.Bares.{bare_bytes, Prepare as BarePrepare, Commit as BareCommit, Checkpoint as BareCheckpoint, ViewChange as BareViewChange, NewView as BareNewView, Enter as BareEnter, Open as BareOpen, Join as BareJoin};
-ghost use Rattle.mb_parts.specs.Fits.{FitsText, FitsEvidence, FitsStable, FitsRequest};
-ghost use Rattle.mb_parts.specs.Spelling.{request_bytes};
+ghost use Rattle.mb_parts.specs.Fits.{FitsText, FitsEvidence, FitsStable, FitsBatch, CanDigest};
+ghost use Rattle.mb_parts.specs.Spelling.{batch_bytes};
 ghost use Rattle.mb_msg.specs.Bodies.{body_digest, FitsBody};
 ghost use Rattle.mb_msg.specs.Fits.{FitsFields, FitsStamped, FitsShown, FitsCheckpoint, FitsViewChange, FitsNewView, FitsOpen, FitsJoin};
 ghost use Rattle.mb_msg.specs.Spelling.{floors_body_bytes, change_body_bytes, new_view_body_bytes, open_body_bytes};
 ghost use Rattle.mb_msg.specs.Signed.{request_text, reply_text, covered};
-ghost use Rattle.mb_msg.specs.Stamps.{as_stamped, bare_of as says, bare_of_shown as shown_says, ui_of, ui_of_shown};
+ghost use Rattle.mb_msg.specs.AsStamped.{stamped_digest};
+ghost use Rattle.mb_msg.specs.Stamps.{as_stamped, with_ui, bare_of as says, bare_of_shown as shown_says, ui_of, ui_of_shown};
 
 use crate::change::{Enter, Join, NewView, Open, ViewChange};
 use crate::kinds::{CHECKPOINT, COMMIT, ENTER, JOIN, NEW_VIEW, OPEN, PREPARE, VIEW_CHANGE};
@@ -22,7 +23,7 @@ use mb_base::{
     Client, Counter, Digest, NoMemory, Pos, Seq, Shape, Ui, View, put_bytes, put_u8, put_u16,
     put_u64,
 };
-use mb_parts::{Part, Request};
+use mb_parts::{Batch, Part};
 use std::alloc::Global;
 
 /// Client, number, and the length of the operation, in bytes.
@@ -31,7 +32,7 @@ const REQUEST_HEAD: usize = 1 + 8 + 2;
 /// Client, number, position, and the length of the result, in bytes.
 const REPLY_HEAD: usize = 1 + 8 + 8 + 2;
 
-/// Kind, view, position, and the digest of the request, in bytes.
+/// Kind, view, position, and the digest of the batch, in bytes.
 const PREPARE_BARE: usize = 1 + 8 + 8 + 32;
 
 /// The same, with the counter and the certificate of the PREPARE.
@@ -76,20 +77,21 @@ pub fn signed_reply(
     Ok(text)
 }
 
-impl Body<Request> {
-    /// The digest of the request, in either form, without memory. The operation of a whole one has at most 1,024 bytes.
-    pub fn request_digest(&self) -> Digest
-        requires { FitsBody (λ r. FitsText r.op) self.now }
-        ensures { result ≡ body_digest request_bytes self.now }
+impl Body<Batch> {
+    /// The digest of the batch, in either form, without memory. A whole one has 1 to 16 requests, each with an operation of at most
+    /// 1,024 bytes.
+    pub fn batch_digest(&self) -> Digest
+        requires { FitsBody CanDigest self.now }
+        ensures { result ≡ body_digest batch_bytes self.now }
     {
         match self {
-            Body::Whole(request) => request.digest(),
+            Body::Whole(batch) => batch.digest(),
             Body::Bare(digest) => *digest,
         }
     }
 }
 
-/// What the certificate of a PREPARE covers. `digest` is that of its request.
+/// What the certificate of a PREPARE covers. `digest` is that of its batch.
 #[tactic(auto, unfolding(mb_parts::specs::Bares::bare_bytes))]
 pub fn prepare_bare(
     alloc: Global,
@@ -108,7 +110,7 @@ pub fn prepare_bare(
 }
 
 /// What the certificate of a COMMIT covers. `counter` and `cert` are those of the PREPARE that it votes for,
-/// and `digest` is that of its request.
+/// and `digest` is that of its batch.
 #[tactic(auto, unfolding(mb_parts::specs::Bares::bare_bytes))]
 pub fn commit_bare(
     alloc: Global,
@@ -230,18 +232,18 @@ fn join_bare(alloc: Global, shape: &Shape, join: &Join) -> Result<Vec<u8>, NoMem
 impl Prepare {
     /// What the message's certificate covers.
     pub fn bare(&self, alloc: Global) -> Result<Vec<u8>, NoMemory>
-        requires { FitsBody (λ r. FitsText r.op) self.now.body }
-        ensures { IfOk result (λ v. v.items ≡ bare_bytes (BarePrepare self.now.view self.now.pos (body_digest request_bytes self.now.body))) }
+        requires { FitsBody CanDigest self.now.body }
+        ensures { IfOk result (λ v. v.items ≡ bare_bytes (BarePrepare self.now.view self.now.pos (body_digest batch_bytes self.now.body))) }
     {
-        prepare_bare(alloc, self.view, self.pos, &self.body.request_digest())
+        prepare_bare(alloc, self.view, self.pos, &self.body.batch_digest())
     }
 }
 
 impl Commit {
     /// What the message's certificate covers.
     pub fn bare(&self, alloc: Global) -> Result<Vec<u8>, NoMemory>
-        requires { FitsBody (λ r. FitsText r.op) self.now.body }
-        ensures { IfOk result (λ v. v.items ≡ bare_bytes (BareCommit self.now.view self.now.pos self.now.counter self.now.cert (body_digest request_bytes self.now.body))) }
+        requires { FitsBody CanDigest self.now.body }
+        ensures { IfOk result (λ v. v.items ≡ bare_bytes (BareCommit self.now.view self.now.pos self.now.counter self.now.cert (body_digest batch_bytes self.now.body))) }
     {
         commit_bare(
             alloc,
@@ -249,16 +251,16 @@ impl Commit {
             self.pos,
             self.counter,
             &self.cert,
-            &self.body.request_digest(),
+            &self.body.batch_digest(),
         )
     }
 
     /// What the certificate of the PREPARE that the message votes for covers.
     pub fn named_bare(&self, alloc: Global) -> Result<Vec<u8>, NoMemory>
-        requires { FitsBody (λ r. FitsText r.op) self.now.body }
-        ensures { IfOk result (λ v. v.items ≡ bare_bytes (BarePrepare self.now.view self.now.pos (body_digest request_bytes self.now.body))) }
+        requires { FitsBody CanDigest self.now.body }
+        ensures { IfOk result (λ v. v.items ≡ bare_bytes (BarePrepare self.now.view self.now.pos (body_digest batch_bytes self.now.body))) }
     {
-        let digest = self.body.request_digest();
+        let digest = self.body.batch_digest();
         prepare_bare(alloc, self.view, self.pos, &digest)
     }
 }
@@ -274,7 +276,8 @@ impl Checkpoint {
 }
 
 impl ViewChange {
-    fn bare(&self, alloc: Global, shape: &Shape) -> Result<Vec<u8>, NoMemory>
+    /// What the message's certificate covers. Each field has an allowed value.
+    pub fn bare(&self, alloc: Global, shape: &Shape) -> Result<Vec<u8>, NoMemory>
         requires { FitsViewChange shape.now self.now }
         ensures { IfOk result (λ v. v.items ≡ bare_bytes (BareViewChange self.now.view (body_digest change_body_bytes self.now.body))) }
     {
@@ -305,8 +308,63 @@ impl Open {
 }
 
 impl Stamped {
+    /// The digest of the message's body, in either form; 32 zero bytes for the kinds that have none. Each field has an allowed value.
+    #[tactic(auto, using(crate::proofs::Opened::body_has_digest, crate::proofs::Opened::opened_parts))]
+    pub fn body_digest(&self, alloc: Global, shape: &Shape) -> Result<Digest, NoMemory>
+        requires { FitsStamped shape.now self.now }
+        ensures { IfOk result (λ d. d ≡ stamped_digest self.now) }
+    {
+        match self {
+            Stamped::Prepare(m) => Ok(m.body.batch_digest()),
+            Stamped::Commit(m) => Ok(m.body.batch_digest()),
+            Stamped::Checkpoint(m) => m.body.digest(alloc, shape),
+            Stamped::ViewChange(m) => m.body.digest(alloc, shape),
+            Stamped::NewView(m) => m.body.digest(alloc, shape),
+            Stamped::Open(m) => m.body.digest(alloc, shape),
+            Stamped::Enter(_) | Stamped::Join(_) => Ok([0; 32]),
+        }
+    }
+
+    /// What the message's certificate covers, where the digest of its body is known already. Each field has an allowed value.
+    pub fn bare_with(
+        &self,
+        alloc: Global,
+        shape: &Shape,
+        body: &Digest,
+    ) -> Result<Vec<u8>, NoMemory>
+        requires { FitsStamped shape.now self.now × (body.now ≡ stamped_digest self.now) }
+        ensures { IfOk result (λ v. v.items ≡ bare_bytes (says self.now)) }
+    {
+        match self {
+            Stamped::Prepare(m) => prepare_bare(alloc, m.view, m.pos, body),
+            Stamped::Commit(m) => commit_bare(alloc, m.view, m.pos, m.counter, &m.cert, body),
+            Stamped::Checkpoint(m) => checkpoint_bare(alloc, m.pos, &m.state, body),
+            Stamped::ViewChange(m) => view_change_bare(alloc, m.view, body),
+            Stamped::NewView(m) => { new_view_bare(alloc, m.view, m.base, m.end, &m.plan, body) }
+            Stamped::Enter(m) => enter_bare(alloc, m),
+            Stamped::Open(m) => open_bare(alloc, shape, m, body),
+            Stamped::Join(m) => join_bare(alloc, shape, m),
+        }
+    }
+
+    /// The same message under another identifier.
+    pub fn with_ui(self, ui: Ui) -> Stamped
+        ensures { result ≡ with_ui ui self }
+    {
+        match self {
+            Stamped::Prepare(m) => Stamped::Prepare(Prepare { ui, ..m }),
+            Stamped::Commit(m) => Stamped::Commit(Commit { ui, ..m }),
+            Stamped::Checkpoint(m) => Stamped::Checkpoint(Checkpoint { ui, ..m }),
+            Stamped::ViewChange(m) => Stamped::ViewChange(ViewChange { ui, ..m }),
+            Stamped::NewView(m) => Stamped::NewView(NewView { ui, ..m }),
+            Stamped::Enter(m) => Stamped::Enter(Enter { ui, ..m }),
+            Stamped::Open(m) => Stamped::Open(Open { ui, ..m }),
+            Stamped::Join(m) => Stamped::Join(Join { ui, ..m }),
+        }
+    }
+
     /// What the message's certificate covers. Each field has an allowed value.
-    #[tactic(auto, using(crate::proofs::Opened::body_has_text))]
+    #[tactic(auto, using(crate::proofs::Opened::body_has_digest))]
     pub fn bare(&self, alloc: Global, shape: &Shape) -> Result<Vec<u8>, NoMemory>
         requires { FitsStamped shape.now self.now }
         ensures { IfOk result (λ v. v.items ≡ bare_bytes (says self.now)) }
@@ -342,7 +400,7 @@ impl Stamped {
 
 impl Shown {
     /// What the message's certificate covers. Each field has an allowed value.
-    #[tactic(auto, using(crate::proofs::Opened::body_has_text))]
+    #[tactic(auto, using(crate::proofs::Opened::body_has_digest))]
     pub fn bare(&self, alloc: Global, shape: &Shape) -> Result<Vec<u8>, NoMemory>
         requires { FitsShown shape.now self.now }
         ensures { IfOk result (λ v. v.items ≡ bare_bytes (shown_says self.now)) }
@@ -377,7 +435,7 @@ impl Shown {
 }
 
 /// What the certificate of a message covers: None exactly for the kinds that are not stamped. Each field has an allowed value.
-#[tactic(auto, using(crate::proofs::Opened::body_has_text))]
+#[tactic(auto, using(crate::proofs::Opened::body_has_digest))]
 pub fn bare_of(alloc: Global, shape: &Shape, message: &Message) -> Result<Option<Vec<u8>>, NoMemory>
     requires { FitsFields shape.now message.now }
     ensures { IfOk result (λ o. option_map (λ v. v.items) o ≡ covered message.now) }

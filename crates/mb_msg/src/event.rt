@@ -73,12 +73,18 @@ pub struct Sent {
     pub bytes: Items<u8>,
 }
 
-/// A request at its place in the one list. It is fresh where its number was above its client's last one, and else it changed nothing.
+/// A request of a slot. It is fresh where its number was above its client's last one, and else it changed nothing.
+#[derive(Debug, PartialEq, Drop)]
+pub struct Placed {
+    pub request: Request,
+    pub fresh: bool,
+}
+
+/// The requests of a batch at its place in the one list.
 #[derive(Debug, PartialEq, Drop)]
 pub struct Slot {
     pub pos: Pos,
-    pub request: Request,
-    pub fresh: bool,
+    pub requests: Items<Placed>,
 }
 
 /// What one event brought about at a host: messages in the order in which they were made, and slots in the order in which they were executed.
@@ -87,4 +93,6 @@ pub struct Step {
     pub outcome: Outcome,
     pub sent: Items<Sent>,
     pub executed: Items<Slot>,
+    /// The position of the state that was taken over, if one was.
+    pub adopted: Option<Pos>,
 }

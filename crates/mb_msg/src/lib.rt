@@ -5,10 +5,10 @@ mod body;
 mod change;
 mod change_bytes;
 mod checkpoints;
+mod copies;
 mod digests;
 mod event;
 mod kinds;
-mod limits;
 mod marks;
 mod message;
 mod normal;
@@ -27,15 +27,16 @@ pub use change::{
     Plan, ReqViewChange, ViewChange,
 };
 pub use digests::{bare_of, commit_bare, prepare_bare, signed_reply, signed_request};
-pub use event::{Event, Outcome, Sent, Slot, Step, To};
-pub use limits::{MAX_POS, MAX_VIEW, MESSAGE_LIMIT, TEXT_LIMIT};
+pub use event::{Event, Outcome, Placed, Sent, Slot, Step, To};
 pub use marks::mark_of;
+pub use mb_base::MESSAGE_LIMIT;
 pub use mb_parts::{
-    Evidence, EvidenceMember, Floor, FloorCert, FloorMember, Mark, Phase, Request, StableCert,
-    StableMember, Undecoded,
+    Batch, Evidence, EvidenceMember, Floor, FloorCert, FloorMember, MAX_POS, MAX_VIEW, Mark, Phase,
+    Request, StableCert, StableMember, TEXT_LIMIT, Undecoded,
 };
 pub use message::{Body, Message};
 pub use normal::{BareCheckpoint, Checkpoint, Commit, Floors, Prepare, Reply, Stop};
+pub use plan::digest_of_plan;
 pub use stamped::{Shown, Stamped};
 pub use transfer::{Fetch, Log, Resend, StateMsg};
-pub use whole::{decode, encode, fields_fit, fits};
+pub use whole::{decode, encode, encode_stamped, fields_fit, fits};

@@ -6,7 +6,7 @@ ghost use Rattle.mb_base.specs.Fields.{place_of};
 ghost use Rattle.mb_parts.specs.Bares.{if_there};
 ghost use Rattle.mb_parts.specs.Counted.{counted};
 ghost use Rattle.mb_parts.specs.Decoded.{Decodes};
-ghost use Rattle.mb_parts.specs.Fits.{FitsRequest, FitsStable, FitsEvidence, FitsJoined};
+ghost use Rattle.mb_parts.specs.Fits.{FitsStable, FitsEvidence, FitsJoined};
 ghost use Rattle.mb_parts.specs.Reading.{stable_in, evidence_in, evidence_of_view};
 ghost use Rattle.mb_msg.specs.Bodies.{FitsBody, body_at};
 ghost use Rattle.mb_msg.specs.Fits.{FitsWish, FitsEnter, FitsOpenParts, FitsOpenBody, FitsOpen, FitsJoin};
@@ -117,23 +117,23 @@ impl Part for OpenBody {
     ghost valid = { FitsOpenParts };
 
     fn fits(&self, shape: &Shape) -> bool {
-        self.stable.fits(shape) && all_fit(shape, self.requests.as_slice())
+        self.stable.fits(shape) && all_fit(shape, self.batches.as_slice())
     }
 
     #[tactic(auto, using(mb_parts::proofs::CountedBytes::counted_behind), unfolding(crate::specs::Spelling::open_body_bytes))]
     fn count(&self, shape: &Shape, so_far: usize) -> usize {
         let so_far = self.stable.count(shape, so_far);
-        count_all(shape, so_far, self.requests.as_slice())
+        count_all(shape, so_far, self.batches.as_slice())
     }
 
     #[tactic(auto, unfolding(crate::specs::Spelling::open_body_bytes))]
     fn put(&self, shape: &Shape, out: &mut Vec<u8>) -> Result<(), NoMemory> {
         self.stable.put(shape, out)?;
-        put_all(shape, self.requests.as_slice(), out)
+        put_all(shape, self.batches.as_slice(), out)
     }
 }
 
-/// The base's certificate, and a request for each position from there to the end.
+/// The base's certificate, and a batch for each position from there to the end.
 #[tactic(auto, unfolding(crate::specs::Reading::open_body_at))]
 fn read_open_body(
     alloc: Global,
@@ -145,8 +145,8 @@ fn read_open_body(
     ensures { Decodes result fields.new (open_body_at shape.now evidence.now (place_of fields.old)) }
 {
     let stable = read_stable_in(alloc, shape, evidence.base, evidence.base, fields)?;
-    let requests = read_parts(alloc, shape, evidence.end - evidence.base, fields)?;
-    Ok(OpenBody { stable, requests })
+    let batches = read_parts(alloc, shape, evidence.end - evidence.base, fields)?;
+    Ok(OpenBody { stable, batches })
 }
 
 #[tactic(auto, unfolding(crate::specs::Bodies::body_at))]
@@ -169,9 +169,9 @@ fn read_opened(
 /// Whether a whole body carries on what the evidence says, by its base and its count.
 fn is_of(evidence: &Evidence, body: &OpenBody) -> bool
     requires { evidence.now.base ≤ evidence.now.end }
-    ensures { IsTrue result ↔ ((body.now.stable.pos ≡ evidence.now.base) × (length body.now.requests ≡ evidence.now.end - evidence.now.base)) }
+    ensures { IsTrue result ↔ ((body.now.stable.pos ≡ evidence.now.base) × (length body.now.batches ≡ evidence.now.end - evidence.now.base)) }
 {
-    body.stable.pos == evidence.base && body.requests.len() as u64 == evidence.end - evidence.base
+    body.stable.pos == evidence.base && body.batches.len() as u64 == evidence.end - evidence.base
 }
 
 fn opened_fits(shape: &Shape, evidence: &Evidence, body: &Body<OpenBody>) -> bool

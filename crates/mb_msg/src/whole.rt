@@ -4,20 +4,20 @@ ghost use Rattle.std.specs.Prelude.{◌≡◌, ◌↔◌, ◌++◌, ◌≤◌, l
 ghost use Rattle.mb_base.specs.Fields.{place_of};
 ghost use Rattle.mb_parts.specs.Decoded.{Decodes, DecodesWhole};
 ghost use Rattle.mb_msg.specs.declared.message.Message.{Message};
-ghost use Rattle.mb_msg.specs.Fits.{message_limit, FitsFields, Fits};
+ghost use Rattle.mb_msg.specs.Fits.{FitsStamped, FitsFields, Fits};
 ghost use Rattle.mb_msg.specs.Spelling.{spelling};
+ghost use Rattle.mb_msg.specs.AsStamped.{GivesStamped};
 ghost use Rattle.mb_msg.specs.Stamps.{as_message};
 ghost use Rattle.mb_msg.specs.Reading.{behind_kind_at, message_of};
 
 use crate::change::ReqViewChange;
 use crate::kinds::{FETCH, LOG, REPLY, REQ_VIEW_CHANGE, REQUEST, RESEND, STATE, STOP};
-use crate::limits::MESSAGE_LIMIT;
 use crate::message::Message;
 use crate::normal::{Reply, Stop};
 use crate::stamped::Stamped;
 use crate::stamped_bytes::read_stamped;
 use crate::transfer::{Fetch, Log, Resend, StateMsg};
-use mb_base::{Fields, NoMemory, Shape, put_u8};
+use mb_base::{Fields, MESSAGE_LIMIT, NoMemory, Shape, put_u8};
 use mb_parts::{Part, Readable, Request, Undecoded, count_u8, read_digest};
 use std::alloc::Global;
 
@@ -189,6 +189,36 @@ pub fn encode(alloc: Global, shape: &Shape, message: &Message) -> Result<Vec<u8>
     message_bytes(alloc, shape, message)
 }
 
+/// The bytes of a stamped message, which are those of the message that it is. Each field has an allowed value.
+#[tactic(auto, using(crate::proofs::AsStamped::spelled_as_stamped))]
+pub fn encode_stamped(alloc: Global, shape: &Shape, message: &Stamped) -> Result<Vec<u8>, NoMemory>
+    requires { FitsStamped shape.now message.now }
+    ensures { IfOk result (λ v. v.items ≡ spelling (as_message message.now)) }
+{
+    let mut out = Vec::with_capacity(alloc, message.count(shape, 0))?;
+    message.put(shape, &mut out)?;
+    Ok(out)
+}
+
+impl Message {
+    /// The same as a stamped message, or the message itself where it is of a kind that is not stamped.
+    pub fn into_stamped(self) -> Result<Stamped, Message>
+        ensures { GivesStamped self result }
+    {
+        match self {
+            Message::Prepare(m) => Ok(Stamped::Prepare(m)),
+            Message::Commit(m) => Ok(Stamped::Commit(m)),
+            Message::Checkpoint(m) => Ok(Stamped::Checkpoint(m)),
+            Message::ViewChange(m) => Ok(Stamped::ViewChange(m)),
+            Message::NewView(m) => Ok(Stamped::NewView(m)),
+            Message::Enter(m) => Ok(Stamped::Enter(m)),
+            Message::Open(m) => Ok(Stamped::Open(m)),
+            Message::Join(m) => Ok(Stamped::Join(m)),
+            other => Err(other),
+        }
+    }
+}
+
 /// Whether each field of the message has an allowed value.
 pub fn fields_fit(shape: &Shape, message: &Message) -> bool
     ensures { IsTrue result ↔ FitsFields shape.now message.now }
@@ -200,7 +230,7 @@ pub fn fields_fit(shape: &Shape, message: &Message) -> bool
 #[tactic(auto, using(mb_parts::proofs::CountedBytes::counted_within, mb_parts::proofs::CountedBytes::within_counted))]
 fn is_short(shape: &Shape, message: &Message) -> bool
     requires { FitsFields shape.now message.now }
-    ensures { IsTrue result ↔ (length (spelling message.now) ≤ message_limit) }
+    ensures { IsTrue result ↔ (length (spelling message.now) ≤ MESSAGE_LIMIT) }
 {
     message.count(shape, 0) <= MESSAGE_LIMIT
 }

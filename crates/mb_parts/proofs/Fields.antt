@@ -1,5 +1,5 @@
 -- The parts of messages: what is read is spelled so and fits, and what fits and is spelled so is read.
-use Rattle.std.proofs.Common.{◌≡◌, ℕ, zero, suc, ◌+◌, ◌-◌, ◌^◌, ◌<◌, ◌≤◌, ◌++◌, min, true, replicate, List, [], Option, Some, None, refl, sym, ap, subst, arith, lit<, lit≤, inl, inr, append_assoc}
+use Rattle.std.proofs.Common.{◌≡◌, ℕ, zero, suc, ◌+◌, ◌-◌, ◌^◌, ◌<◌, ◌≤◌, ◌++◌, length, min, true, replicate, List, [], Option, Some, None, refl, sym, ap, subst, arith, lit<, lit≤, inl, inr, append_assoc}
 use Rattle.std.specs.Prelude.{⊤}
 use Rattle.std.proofs.Common.{eqb}
 use Rattle.std.proofs.lemmas.Bool.{cases_lt, eqb-true, eqb-false}
@@ -11,16 +11,16 @@ use Rattle.mb_base.specs.declared.shape.Shape.{Shape}
 use Rattle.mb_base.specs.Shapes.{Bytes, IsShape, host_count, client_count, max_faults, quorum, interval, span, primary}
 use Rattle.mb_base.specs.Spelling.{number}
 use Rattle.mb_base.specs.Reading.{Cursor, Reads, is_other, rising_at}
-use Rattle.mb_base.proofs.Laws.{IsField, iff_field, like_field, cond_field, pair_field, then_field, made_field, bytes_field, ranged_field, within_field, below_field, multiple_field, without_field, nothing_field, text16_field, optional_field, repeat_field, rising_field, wide8, wide64}
+use Rattle.mb_base.proofs.Laws.{IsField, iff_field, like_field, cond_field, pair_field, then_field, made_field, bytes_field, ranged_field, within_field, below_field, multiple_field, without_field, nothing_field, text16_field, optional_field, repeat_field, rising_field, Bounded, bounded_field, wide8, wide64}
 use Rattle.mb_parts.specs.declared.floor.Phase.{Phase}
 use Rattle.mb_parts.specs.declared.floor.Phase.TheVariants as phase
 use Rattle.mb_parts.specs.declared.certificates.StableMember.{StableMember}
 use Rattle.mb_parts.specs.declared.certificates.EvidenceMember.{EvidenceMember}
-use Rattle.mb_parts.specs.Fits.{IsCounter, IsPosition, IsDigest, IsBase, IsEnd, AreMembers, FitsRequest, FitsUi, FitsFloor, FitsFloors, FitsStableMember, FitsHeld, FitsStable, FitsFloorMember, FitsFloorCert, FitsEvidenceMember, FitsBackup, FitsEvidence, FitsJoined}
-use Rattle.mb_parts.specs.Spelling.{ui_bytes, request_bytes, phase_number, floor_bytes, floors_bytes, stable_member_bytes, held_bytes, stable_bytes, floor_member_bytes, floor_cert_bytes, evidence_member_bytes, evidence_bytes}
+use Rattle.mb_parts.specs.Fits.{IsCounter, IsPosition, IsDigest, IsBase, IsEnd, AreMembers, FitsRequest, FitsBatch, FitsUi, FitsFloor, FitsFloors, FitsStableMember, FitsHeld, FitsStable, FitsFloorMember, FitsFloorCert, FitsEvidenceMember, FitsBackup, FitsEvidence, FitsJoined}
+use Rattle.mb_parts.specs.Spelling.{ui_bytes, request_bytes, batch_bytes, phase_number, floor_bytes, floors_bytes, stable_member_bytes, held_bytes, stable_bytes, floor_member_bytes, floor_cert_bytes, evidence_member_bytes, evidence_bytes}
 use Rattle.mb_parts.specs.declared.certificates.Evidence.{Evidence}
 use Rattle.mb_parts.specs.Bares.{if_there}
-use Rattle.mb_parts.specs.Reading.{host_at, member_host_at, client_at, counter_at, place_at, position_at, base_at, point_at, end_at, digest_at, ui_of_fields, ui_from, request_of_fields, request_at, phase_of, phase_at, floor_of_fields, floor_at, floors_at, stable_member_of_fields, stable_member_at, held_at, stable_of_fields, stable_in, floor_member_of_fields, floor_member_at, floor_cert_of_fields, floor_cert_at, evidence_member_of_fields, evidence_member_at, backups_at, evidence_of_fields, evidence_behind, evidence_in, evidence_of_view}
+use Rattle.mb_parts.specs.Reading.{host_at, member_host_at, client_at, counter_at, place_at, position_at, base_at, point_at, end_at, digest_at, ui_of_fields, ui_from, request_of_fields, request_at, batch_of_fields, batch_at, phase_of, phase_at, floor_of_fields, floor_at, floors_at, stable_member_of_fields, stable_member_at, held_at, stable_of_fields, stable_in, floor_member_of_fields, floor_member_at, floor_cert_of_fields, floor_cert_at, evidence_member_of_fields, evidence_member_at, backups_at, evidence_of_fields, evidence_behind, evidence_in, evidence_of_view}
 
 -- ---- numbers
 
@@ -135,6 +135,16 @@ module _ (s : Shape) (h : IsShape s) where
       pair_field _ _ _ _ _ _ (client_field s h) (
       pair_field _ _ _ _ _ _ counter_field (
       pair_field _ _ _ _ _ _ (text16_field 1024 (lit< tt)) digest_field)))
+
+  pub batch_field : IsField (batch_at s) batch_bytes (FitsBatch s)
+  unfolding batch_at batch_bytes
+  batch_field =
+      made_field batch_of_fields _ _ _ batch_bytes (FitsBatch s)
+      (λ p f. ap (λ (n : ℕ). number w8 n ++ flat_map request_bytes p.1) f.1.0)
+      (λ p f. record { count = (omega (arith, f.0.0, f.1.0), omega (arith, f.0.1, f.1.0)); requests = f.1.1.0; size = omega (arith, f.1.1.1) })
+      (λ b f. ((length b.requests, b.requests), refl, (f.count, (refl, (f.requests, omega (arith, f.size)))))) (
+      then_field _ _ _ _ (λ n. flat_map request_bytes) (λ n. Bounded (request_at s) request_bytes (FitsRequest s) request_field 2048 n 0)
+      (ranged_field w8 (2 ^ 8) 1 16 (lit< tt) wide8) (λ n f. bounded_field (request_at s) request_bytes (FitsRequest s) request_field 2048 n 0 (lit≤ tt)))
 
   pub floors_field : IsField (floors_at s) floors_bytes (FitsFloors s)
   floors_field = repeat_field (host_count s) _ _ _ (optional_field _ _ _ floor_field)

@@ -1,12 +1,14 @@
 -- The values that the parts of messages may have.
 use Rattle.std.specs.Prelude.{◌≡◌, true, ℕ, zero, suc, ◌+◌, ◌%◌, ◌^◌, ◌≤◌, ◌<◌, length, map, replicate, List, [], Option, Some, None, IfSome}
-use Rattle.std.specs.List.{AllByRecursion}
+use Rattle.std.specs.List.{flat_map, AllByRecursion}
 use Rattle.mb_base.specs.Shapes.{Bytes, host_count, client_count, max_faults, quorum, interval, span, primary}
 use Rattle.mb_base.specs.Spelling.{Rises}
 use Rattle.mb_base.specs.Reading.{is_other}
 use Rattle.mb_base.specs.declared.shape.Shape.{Shape}
 use Rattle.mb_base.specs.declared.names.Ui.{Ui}
 use Rattle.mb_parts.specs.declared.request.Request.{Request}
+use Rattle.mb_parts.specs.declared.batch.Batch.{Batch}
+use Rattle.mb_parts.specs.Spelling.{request_bytes}
 use Rattle.mb_parts.specs.declared.floor.Floor.{Floor}
 use Rattle.mb_parts.specs.declared.certificates.StableMember.{StableMember}
 use Rattle.mb_parts.specs.declared.certificates.StableCert.{StableCert}
@@ -21,9 +23,13 @@ use Rattle.mb_parts.specs.Bares as bare
 abbrev pub IsCounter : ℕ → Type 0
 IsCounter n = (1 ≤ n) × (n < 2 ^ 64)
 
+-- views, and positions that may be 0
+abbrev pub IsPlace : ℕ → Type 0
+IsPlace n = n < 2 ^ 63
+
 -- positions, and views above 0
 abbrev pub IsPosition : ℕ → Type 0
-IsPosition n = (1 ≤ n) × (n < 2 ^ 63)
+IsPosition n = (1 ≤ n) × IsPlace n
 
 -- a digest or a certificate
 abbrev pub IsDigest : Bytes → Type 0
@@ -39,11 +45,11 @@ FitsStatePart part = length part < 2 ^ 32
 
 -- 0 or the position of a checkpoint
 abbrev pub IsBase : Shape → ℕ → Type 0
-IsBase s n = (n < 2 ^ 63) × (n % interval s ≡ 0)
+IsBase s n = IsPlace n × (n % interval s ≡ 0)
 
 -- a view that begins at a base ends at most two checkpoint intervals above it
 abbrev pub IsEnd : Shape → ℕ → ℕ → Type 0
-IsEnd s base n = (base ≤ n) × ((n ≤ base + span s) × (n < 2 ^ 63))
+IsEnd s base n = (base ≤ n) × ((n ≤ base + span s) × IsPlace n)
 
 -- so many members, of rising hosts
 abbrev pub AreMembers : {A : Type 0} → (A → ℕ) → (A → Type 0) → ℕ → List A → Type 0
@@ -55,6 +61,16 @@ pub record FitsRequest (s : Shape) (r : Request) : Type 0 where
   pub op : FitsText r.op
   pub tag : IsDigest r.tag
 
+-- The count is not among the bytes that are limited.
+pub record FitsBatch (s : Shape) (b : Batch) : Type 0 where
+  pub count : (1 ≤ length b.requests) × (length b.requests ≤ 16)
+  pub requests : AllByRecursion (FitsRequest s) b.requests
+  pub size : length (flat_map request_bytes b.requests) ≤ 2048
+
+-- a batch whose digest can be taken
+abbrev pub CanDigest : Batch → Type 0
+CanDigest b = ((1 ≤ length b.requests) × (length b.requests ≤ 16)) × AllByRecursion (λ r. FitsText r.op) b.requests
+
 pub record FitsUi (s : Shape) (u : Ui) : Type 0 where
   pub host : u.host < host_count s
   pub counter : IsCounter u.counter
@@ -62,10 +78,10 @@ pub record FitsUi (s : Shape) (u : Ui) : Type 0 where
 
 pub record FitsFloor (f : Floor) : Type 0 where
   pub counter : IsCounter f.counter
-  pub view : f.view < 2 ^ 63
-  pub last : f.last < 2 ^ 63
-  pub top : f.top < 2 ^ 63
-  pub point : f.point < 2 ^ 63
+  pub view : IsPlace f.view
+  pub last : IsPlace f.last
+  pub top : IsPlace f.top
+  pub point : IsPlace f.point
 
 -- a floor, or none, of each host
 abbrev pub FitsFloors : Shape → List (Option Floor) → Type 0
@@ -123,11 +139,11 @@ FitsJoined s view (Some e) = FitsEvidence s e × (e.view ≡ view)
 
 -- what a stamped message says, without its identifier, has allowed values
 abbrev pub FitsBare : Shape → Bare → Type 0
-FitsBare s (bare.Prepare view pos digest) = (view < 2 ^ 63) × (IsPosition pos × IsDigest digest)
-FitsBare s (bare.Commit view pos counter cert digest) = (view < 2 ^ 63) × (IsPosition pos × (IsCounter counter × (IsDigest cert × IsDigest digest)))
+FitsBare s (bare.Prepare view pos digest) = IsPlace view × (IsPosition pos × IsDigest digest)
+FitsBare s (bare.Commit view pos counter cert digest) = IsPlace view × (IsPosition pos × (IsCounter counter × (IsDigest cert × IsDigest digest)))
 FitsBare s (bare.Checkpoint pos state digest) = IsPosition pos × (IsDigest state × IsDigest digest)
 FitsBare s (bare.ViewChange view digest) = IsPosition view × IsDigest digest
 FitsBare s (bare.NewView view base end plan digest) = IsPosition view × (IsBase s base × (IsEnd s base end × (IsDigest plan × IsDigest digest)))
 FitsBare s (bare.Enter view counter plan) = IsPosition view × (IsCounter counter × IsDigest plan)
 FitsBare s (bare.Open evidence digest) = FitsEvidence s evidence × IsDigest digest
-FitsBare s (bare.Join view evidence stable) = (view < 2 ^ 63) × (FitsJoined s view evidence × (FitsStable s stable × (1 ≤ stable.pos)))
+FitsBare s (bare.Join view evidence stable) = IsPlace view × (FitsJoined s view evidence × (FitsStable s stable × (1 ≤ stable.pos)))

@@ -2,10 +2,13 @@
 use Rattle.std.specs.Prelude.{ℕ, ◌+◌, ◌-◌, ◌^◌, min, replicate, ◌==◌, if◌then◌else◌, List, [], Option, Some, None}
 use Rattle.std.specs.Int.{w8, w32, w64}
 use Rattle.mb_base.specs.Shapes.{Bytes, host_count, client_count, max_faults, quorum, interval, span, primary}
-use Rattle.mb_base.specs.Reading.{Cursor, Reads, number_in, number_without, multiple_in, bytes_at, text_in, text16_at, pair_at, then_at, map_at, nothing_at, optional_at, repeat_at, rising_at}
+use Rattle.mb_base.specs.Reading.{Cursor, Reads, number_in, number_without, multiple_in, bytes_at, text_in, text16_at, pair_at, then_at, map_at, nothing_at, optional_at, repeat_at, rising_at, bounded_at}
 use Rattle.mb_base.specs.declared.shape.Shape.{Shape}
 use Rattle.mb_base.specs.declared.names.Ui.{Ui}
+use Rattle.mb_parts.specs.declared.limits.TheConstants.{MAX_PLACE}
 use Rattle.mb_parts.specs.declared.request.Request.{Request}
+use Rattle.mb_parts.specs.declared.batch.Batch.{Batch}
+use Rattle.mb_parts.specs.Spelling.{request_bytes}
 use Rattle.mb_parts.specs.declared.floor.Phase.{Phase}
 use Rattle.mb_parts.specs.declared.floor.Phase.TheVariants as phase
 use Rattle.mb_parts.specs.declared.floor.Floor.{Floor}
@@ -34,23 +37,23 @@ counter_at = number_in w64 1 (2 ^ 64 - 1)
 
 -- views, and positions that may be 0
 abbrev pub place_at : Cursor → Reads ℕ
-place_at = number_in w64 0 (2 ^ 63 - 1)
+place_at = number_in w64 0 MAX_PLACE
 
 -- positions, and views above 0
 abbrev pub position_at : Cursor → Reads ℕ
-position_at = number_in w64 1 (2 ^ 63 - 1)
+position_at = number_in w64 1 MAX_PLACE
 
 -- 0 or a multiple of the checkpoint interval
 abbrev pub base_at : Shape → Cursor → Reads ℕ
-base_at s = multiple_in (interval s) 0 (2 ^ 63 - 1)
+base_at s = multiple_in (interval s) 0 MAX_PLACE
 
 -- a multiple of the checkpoint interval above 0
 abbrev pub point_at : Shape → Cursor → Reads ℕ
-point_at s = multiple_in (interval s) 1 (2 ^ 63 - 1)
+point_at s = multiple_in (interval s) 1 MAX_PLACE
 
 -- where a view ends that begins at a base
 abbrev pub end_at : Shape → ℕ → Cursor → Reads ℕ
-end_at s base = number_in w64 base (min (base + span s) (2 ^ 63 - 1))
+end_at s base = number_in w64 base (min (base + span s) MAX_PLACE)
 
 abbrev pub digest_at : Cursor → Reads Bytes
 digest_at = bytes_at 32
@@ -76,6 +79,13 @@ request_of_fields p = record { client = p.0; seq = p.1.0; op = p.1.1.0; tag = p.
 
 unfoldable pub request_at : Shape → Cursor → Reads Request
 request_at s = map_at request_of_fields (pair_at (client_at s) (pair_at counter_at (pair_at (text16_at 1024) digest_at)))
+
+abbrev pub batch_of_fields : ℕ × List Request → Batch
+batch_of_fields p = record { requests = p.1 }
+
+-- A request is read whole, and then the bytes of all up to it may be too many: its first byte is at fault.
+unfoldable pub batch_at : Shape → Cursor → Reads Batch
+batch_at s = map_at batch_of_fields (then_at (number_in w8 1 16) (λ count. bounded_at request_bytes 2048 (request_at s) count 0))
 
 abbrev pub phase_of : ℕ → Phase
 phase_of n = if n == 0 then phase.Changing else (if n == 1 then phase.Entered else phase.Open)
@@ -115,7 +125,7 @@ unfoldable pub stable_in : Shape → ℕ → ℕ → Cursor → Reads StableCert
 stable_in s low high = map_at stable_of_fields (then_at (multiple_in (interval s) low high) (held_at s))
 
 abbrev pub stable_at : Shape → Cursor → Reads StableCert
-stable_at s = stable_in s 0 (2 ^ 63 - 1)
+stable_at s = stable_in s 0 MAX_PLACE
 
 abbrev pub floor_member_of_fields : ℕ × (ℕ × (List (Option Floor) × Bytes)) → FloorMember
 floor_member_of_fields p = record { host = p.0; counter = p.1.0; floors = p.1.1.0; cert = p.1.1.1 }
@@ -160,7 +170,7 @@ unfoldable pub evidence_in : Shape → ℕ → ℕ → Cursor → Reads Evidence
 evidence_in s low high = map_at evidence_of_fields (then_at (number_in w64 low high) (λ view. then_at (base_at s) (evidence_behind s view)))
 
 abbrev pub evidence_at : Shape → Cursor → Reads Evidence
-evidence_at s = evidence_in s 1 (2 ^ 63 - 1)
+evidence_at s = evidence_in s 1 MAX_PLACE
 
 -- View 0 has no evidence, and each other view its own.
 abbrev pub evidence_of_view : Shape → ℕ → Cursor → Reads (Option Evidence)

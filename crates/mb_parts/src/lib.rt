@@ -1,7 +1,9 @@
 //! The parts of messages, their bytes, and how they are read and written.
 #![tactic(auto)]
 
+mod batch;
 mod certificates;
+mod copies;
 mod counting;
 mod evidence;
 mod fault;
@@ -16,6 +18,7 @@ mod request;
 mod stable;
 mod writing;
 
+pub use batch::Batch;
 pub use certificates::{
     Evidence, EvidenceMember, FloorCert, FloorMember, StableCert, StableMember,
 };
@@ -24,7 +27,7 @@ pub use evidence::read_evidence_in;
 pub use fault::Undecoded;
 pub use floor::{Floor, Mark, Phase};
 pub use laws::{certificates_carry_over, ordered_lists_go_on_from_floors, prefixes_are_consistent};
-pub use limits::{MAX_POS, MAX_VIEW, TEXT_LIMIT};
+pub use limits::{MAX_BATCH, MAX_PLACE, MAX_POS, MAX_REQUESTS, MAX_VIEW, TEXT_LIMIT};
 pub use numbers::{
     is_base, is_counter, is_end, is_place, is_position, read_base, read_client, read_counter,
     read_digest, read_end, read_host, read_place, read_point, read_position, read_text, text_fits,
@@ -33,7 +36,9 @@ pub use part::{
     Member, Part, Readable, all_fit, are_members, count_all, count_listed, put_all, put_listed,
     read_listed, read_members, read_parts, rise,
 };
-pub use reading::{read_evidence, read_floor, read_floor_cert, read_request, read_stable};
+pub use reading::{
+    read_batch, read_evidence, read_floor, read_floor_cert, read_request, read_stable,
+};
 pub use request::{Request, count_text, put_text, read_ui_from};
 pub use stable::{floors_fit, read_floors, read_stable_in};
-pub use writing::{put_evidence, put_floor, put_floor_cert, put_request, put_stable};
+pub use writing::{put_batch, put_evidence, put_floor, put_floor_cert, put_request, put_stable};

@@ -5,8 +5,17 @@ use mb_base::{Pos, View};
 /// The most bytes of an operation or a result.
 pub const TEXT_LIMIT: u16 = 1024;
 
+/// The greatest view and the greatest position, so far below 2^64 that a window more does not wrap.
+pub const MAX_PLACE: u64 = (1 << 63) - 1;
+
 /// The greatest view.
-pub const MAX_VIEW: View = (1 << 63) - 1;
+pub const MAX_VIEW: View = MAX_PLACE;
 
 /// The greatest position.
-pub const MAX_POS: Pos = (1 << 63) - 1;
+pub const MAX_POS: Pos = MAX_PLACE;
+
+/// The most requests of a batch.
+pub const MAX_REQUESTS: u8 = 16;
+
+/// The most bytes that the requests of a batch have together, without their count.
+pub const MAX_BATCH: usize = 2048;

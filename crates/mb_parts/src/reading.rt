@@ -8,10 +8,11 @@ ghost use Rattle.mb_base.specs.Spelling.{optional};
 ghost use Rattle.mb_base.specs.Reading.{optional_at};
 ghost use Rattle.mb_base.specs.Fields.{place_of};
 ghost use Rattle.mb_parts.specs.Decoded.{Decodes, Spelled, ReadsAgain, StaysWithoutMemory};
-ghost use Rattle.mb_parts.specs.Fits.{FitsRequest, FitsStable, FitsFloor, FitsFloorCert, FitsEvidence};
-ghost use Rattle.mb_parts.specs.Spelling.{request_bytes, stable_bytes, floor_bytes, floor_cert_bytes, evidence_bytes};
-ghost use Rattle.mb_parts.specs.Reading.{request_at, stable_at, floor_at, floor_cert_at, evidence_at};
+ghost use Rattle.mb_parts.specs.Fits.{FitsRequest, FitsBatch, FitsStable, FitsFloor, FitsFloorCert, FitsEvidence};
+ghost use Rattle.mb_parts.specs.Spelling.{request_bytes, batch_bytes, stable_bytes, floor_bytes, floor_cert_bytes, evidence_bytes};
+ghost use Rattle.mb_parts.specs.Reading.{request_at, batch_at, stable_at, floor_at, floor_cert_at, evidence_at};
 
+use crate::batch::Batch;
 use crate::certificates::{Evidence, FloorCert, StableCert};
 use crate::fault::Undecoded;
 use crate::floor::Floor;
@@ -46,6 +47,16 @@ pub fn read_request(
     ensures exact { Decodes result fields.new (request_at shape.now (place_of fields.old)) }
     ensures found { Spelled request_bytes (FitsRequest shape.now) result fields.old fields.new }
     ensures only { ReadsAgain request_bytes (FitsRequest shape.now) result fields.old fields.new }
+    ensures kept { StaysWithoutMemory result fields.old fields.new }
+{
+    read_or_stay(alloc, shape, fields)
+}
+
+/// The batch at the place of the fields.
+pub fn read_batch(alloc: Global, shape: &Shape, fields: &mut Fields<'_>) -> Result<Batch, Undecoded>
+    ensures exact { Decodes result fields.new (batch_at shape.now (place_of fields.old)) }
+    ensures found { Spelled batch_bytes (FitsBatch shape.now) result fields.old fields.new }
+    ensures only { ReadsAgain batch_bytes (FitsBatch shape.now) result fields.old fields.new }
     ensures kept { StaysWithoutMemory result fields.old fields.new }
 {
     read_or_stay(alloc, shape, fields)

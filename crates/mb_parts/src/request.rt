@@ -1,6 +1,6 @@
 //! A client's request, and the identifier of a stamped message.
 
-ghost use Rattle.std.specs.Prelude.{◌≡◌, ◌↔◌, ◌<◌, ◌++◌, ◌^◌, ℕ, List, Option, None, IfOk, IsTrue, OnOk};
+ghost use Rattle.std.specs.Prelude.{◌≡◌, ◌↔◌, ◌<◌, ◌≤◌, ◌++◌, ◌^◌, ℕ, length, List, Option, None, IfOk, IsTrue, OnOk};
 ghost use Rattle.std.specs.Int.{w8};
 ghost use Rattle.mb_base.specs.Shapes.{host_count};
 ghost use Rattle.mb_base.specs.Spelling.{number, text16};
@@ -22,7 +22,7 @@ use mb_base::{
     Client, Digest, Duplicate, Fields, Host, Items, NoMemory, Seq, Shape, Ui, put_bytes, put_u8,
     put_u16, put_u64,
 };
-use sha2::{Digest as _, Sha256};
+use sha2::{Digest as Hasher, Sha256};
 use std::alloc::{AllocError, Global};
 
 /// A client's request, with the tag under the key that the client shares with the hosts' trusted parts.
@@ -109,24 +109,42 @@ impl Readable for Request {
 }
 
 #[tactic(auto, unfolding(mb_base::specs::Spelling::number))]
-fn byte(value: u8) -> [u8; 1]
+pub(crate) fn byte(value: u8) -> [u8; 1]
     ensures { result ≡ number w8 value }
 {
     [value]
 }
 
 impl Request {
+    /// How many bytes it has. The operation has at most 1,024 bytes.
+    #[tactic(auto, unfolding(crate::specs::Spelling::request_bytes, mb_base::specs::Spelling::number))]
+    pub fn size(&self) -> usize
+        requires { FitsText self.now.op }
+        ensures bytes { result ≡ length (request_bytes self.now) }
+        ensures most { result ≤ 1067 }
+    {
+        1 + 8 + 2 + self.op.len() + 32
+    }
+
+    /// Feeds a hasher with its bytes. The operation has at most 1,024 bytes.
+    pub(crate) fn feed<H: Hasher>(&self, hasher: &mut H)
+        requires { FitsText self.now.op }
+        ensures { (m : List ℕ) → H.holds hasher.old m → H.holds hasher.new (m ++ request_bytes self.now) }
+    {
+        hasher.update(byte(self.client));
+        hasher.update(self.seq.to_be_bytes());
+        hasher.update((self.op.len() as u16).to_be_bytes());
+        hasher.update(self.op.as_slice());
+        hasher.update(self.tag);
+    }
+
     /// The SHA-256 digest (FIPS 180-4) of the request's bytes, the tag among them. The operation has at most 1,024 bytes.
     pub fn digest(&self) -> Digest
         requires { FitsText self.now.op }
         ensures { result ≡ request_digest self.now }
     {
         let mut hasher = Sha256::new();
-        hasher.update(byte(self.client));
-        hasher.update(self.seq.to_be_bytes());
-        hasher.update((self.op.len() as u16).to_be_bytes());
-        hasher.update(self.op.as_slice());
-        hasher.update(self.tag);
+        self.feed(&mut hasher);
         hasher.finalize()
     }
 }

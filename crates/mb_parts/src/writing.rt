@@ -2,9 +2,10 @@
 
 ghost use Rattle.std.specs.Prelude.{◌≡◌, ◌++◌, IfSome, OnOk, OnErr};
 ghost use Rattle.mb_base.specs.Spelling.{optional};
-ghost use Rattle.mb_parts.specs.Fits.{FitsRequest, FitsStable, FitsFloor, FitsFloorCert, FitsEvidence};
-ghost use Rattle.mb_parts.specs.Spelling.{request_bytes, stable_bytes, floor_bytes, floor_cert_bytes, evidence_bytes};
+ghost use Rattle.mb_parts.specs.Fits.{FitsRequest, FitsBatch, FitsStable, FitsFloor, FitsFloorCert, FitsEvidence};
+ghost use Rattle.mb_parts.specs.Spelling.{request_bytes, batch_bytes, stable_bytes, floor_bytes, floor_cert_bytes, evidence_bytes};
 
+use crate::batch::Batch;
 use crate::certificates::{Evidence, FloorCert, StableCert};
 use crate::floor::Floor;
 use crate::part::Part;
@@ -28,6 +29,7 @@ fn put_whole<T: Part>(
     put_bytes(out, &text)
 }
 
+/// Writes a request that fits, behind what is there.
 pub fn put_request(
     alloc: Global,
     shape: &Shape,
@@ -41,6 +43,21 @@ pub fn put_request(
     put_whole(alloc, shape, part, out)
 }
 
+/// Writes a batch that fits, behind what is there.
+pub fn put_batch(
+    alloc: Global,
+    shape: &Shape,
+    part: &Batch,
+    out: &mut Vec<u8>,
+) -> Result<(), NoMemory>
+    requires { FitsBatch shape.now part.now }
+    ensures ok { OnOk result (out.new.items ≡ out.old.items ++ batch_bytes part.now) }
+    ensures err { OnErr result (out.new.items ≡ out.old.items) }
+{
+    put_whole(alloc, shape, part, out)
+}
+
+/// Writes a stable certificate that fits, behind what is there.
 pub fn put_stable(
     alloc: Global,
     shape: &Shape,
@@ -54,6 +71,7 @@ pub fn put_stable(
     put_whole(alloc, shape, part, out)
 }
 
+/// Writes a floor certificate, or that there is none, behind what is there.
 pub fn put_floor_cert(
     alloc: Global,
     shape: &Shape,
@@ -67,6 +85,7 @@ pub fn put_floor_cert(
     put_whole(alloc, shape, part, out)
 }
 
+/// Writes evidence that fits, behind what is there.
 pub fn put_evidence(
     alloc: Global,
     shape: &Shape,
@@ -80,6 +99,7 @@ pub fn put_evidence(
     put_whole(alloc, shape, part, out)
 }
 
+/// Writes a floor, or that there is none, behind what is there.
 pub fn put_floor(
     alloc: Global,
     shape: &Shape,

@@ -1,8 +1,7 @@
 //! How fast messages are written and read.
 //!
-//! With the word `measure` it prints a line for each of three messages: its bytes, and of writing it and of reading it
-//! the megabytes a second and the nanoseconds that once takes. These differ from run to run, so without that word it
-//! says no more than how it is used.
+//! With the word `measure` it prints three lines for each of three messages: its bytes, and the nanoseconds that writing it once
+//! and reading it once take. These differ from run to run, so without that word it says no more than how it is used.
 #![tactic(auto)]
 
 mod messages;
@@ -10,6 +9,7 @@ mod timing;
 
 use mb_base::Shape;
 use mb_msg::Message;
+use std::alloc::AllocError;
 use std::io::ErrorKind;
 use std::process::ExitCode;
 use std::{env, io};
@@ -28,31 +28,30 @@ fn is_asked(rt: &HostRuntime) -> io::Result<bool> {
     Ok(is_measure && words.next().is_none())
 }
 
+fn print_number(rt: &HostRuntime, name: &str, what: &str, number: u128) -> io::Result<()> {
+    println!(rt; "{name}, {what}: {number}")
+}
+
 fn print_speed(rt: &HostRuntime, shape: &Shape, name: &str, message: &Message) -> io::Result<()> {
     let speed = measured(rt, shape, message)?;
-    println!(rt;
-        "{name}: {} bytes, written at {} MB/s in {} ns, read at {} MB/s in {} ns",
-        speed.len,
-        speed.written.rate(speed.len),
-        speed.written.once(),
-        speed.read.rate(speed.len),
-        speed.read.once()
-    )
+    print_number(rt, name, "bytes", speed.len as u128)?;
+    print_number(rt, name, "ns to write", speed.written.once())?;
+    print_number(rt, name, "ns to read", speed.read.once())
+}
+
+/// The speed of a message of the largest system, if it could be made.
+fn print_made(rt: &HostRuntime, name: &str, made: Result<Message, AllocError>) -> io::Result<()> {
+    let Ok(shape) = Shape::new(3, 32, 64) else {
+        return Err(ErrorKind::InvalidInput.into());
+    };
+    print_speed(rt, &shape, name, &made?)
 }
 
 fn print_speeds(rt: &HostRuntime) -> io::Result<()> {
     let alloc = rt.alloc();
-    let Ok(shape) = Shape::new(3, 32, 64) else {
-        return Err(ErrorKind::InvalidInput.into());
-    };
-    print_speed(rt, &shape, "COMMIT", &messages::commit(alloc)?)?;
-    print_speed(
-        rt,
-        &shape,
-        "half a NEW_VIEW",
-        &messages::new_view(alloc, 480)?,
-    )?;
-    print_speed(rt, &shape, "NEW_VIEW", &messages::new_view(alloc, 960)?)
+    print_made(rt, "COMMIT", messages::commit(alloc))?;
+    print_made(rt, "half a NEW_VIEW", messages::new_view(alloc, 480))?;
+    print_made(rt, "NEW_VIEW", messages::new_view(alloc, 960))
 }
 
 fn main(rt: HostRuntime) -> io::Result<ExitCode> {

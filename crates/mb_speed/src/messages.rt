@@ -2,7 +2,7 @@
 
 use mb_base::{Host, Items, Ui};
 use mb_msg::{
-    Body, ChangeBody, Commit, Evidence, EvidenceMember, Join, Message, NewView, NewViewBody,
+    Batch, Body, ChangeBody, Commit, Evidence, EvidenceMember, Join, Message, NewView, NewViewBody,
     Request, Shown, StableCert, StableMember, ViewChange,
 };
 use std::alloc::{AllocError, Global};
@@ -28,13 +28,20 @@ fn request(alloc: Global) -> Result<Request, AllocError> {
     })
 }
 
+/// A batch of one request.
+fn batch(alloc: Global) -> Result<Batch, AllocError> {
+    let mut requests = Items::new(alloc);
+    requests.push(request(alloc)?)?;
+    Ok(Batch { requests })
+}
+
 fn whole_commit(alloc: Global) -> Result<Commit, AllocError> {
     Ok(Commit {
         view: 4,
         pos: 5,
         counter: 6,
         cert: [0x22; 32],
-        body: Body::Whole(request(alloc)?),
+        body: Body::Whole(batch(alloc)?),
         ui: ui(1),
     })
 }
@@ -104,26 +111,37 @@ fn entries(alloc: Global, count: u16) -> Result<Items<Shown>, AllocError> {
     Ok(all)
 }
 
-/// A NEW_VIEW of four hosts, each of which shows so many entries.
-pub fn new_view(alloc: Global, count: u16) -> Result<Message, AllocError> {
+fn change(alloc: Global, host: Host, count: u16) -> Result<ViewChange, AllocError> {
+    Ok(ViewChange {
+        view: 4,
+        body: Body::Whole(ChangeBody {
+            floor: None,
+            stable: stable(alloc)?,
+            entries: entries(alloc, count)?,
+        }),
+        ui: ui(host),
+    })
+}
+
+fn changes(alloc: Global, count: u16) -> Result<Items<ViewChange>, AllocError> {
     let mut changes = Items::new(alloc);
     for host in 0..4 {
-        changes.push(ViewChange {
-            view: 4,
-            body: Body::Whole(ChangeBody {
-                floor: None,
-                stable: stable(alloc)?,
-                entries: entries(alloc, count)?,
-            }),
-            ui: ui(host),
-        })?;
+        changes.push(change(alloc, host, count)?)?;
     }
+    Ok(changes)
+}
+
+/// A NEW_VIEW of four hosts, each of which shows so many entries.
+pub fn new_view(alloc: Global, count: u16) -> Result<Message, AllocError> {
+    let body = NewViewBody {
+        changes: changes(alloc, count)?,
+    };
     Ok(Message::NewView(NewView {
         view: 4,
         base: 32,
         end: 96,
         plan: [0x44; 32],
-        body: Body::Whole(NewViewBody { changes }),
+        body: Body::Whole(body),
         ui: ui(4),
     }))
 }

@@ -12,7 +12,7 @@ use std::time::{Duration, Instant};
 const AMOUNT: usize = 64_000_000;
 
 /// How often the same was done, and how long that took in all.
-#[derive(Clone, Copy, Debug)]
+#[derive(Clone, Copy)]
 pub struct Rounds {
     count: usize,
     time: Duration,
@@ -23,16 +23,10 @@ impl Rounds {
     pub fn once(&self) -> u128 {
         self.time.as_nanos() / (self.count as u128).max(1)
     }
-
-    /// Megabytes a second, where one round takes so many bytes.
-    pub fn rate(&self, len: usize) -> u128 {
-        let bytes = (len as u128).saturating_mul(self.count as u128);
-        bytes / self.time.as_micros().max(1)
-    }
 }
 
 /// The bytes of a message, and how long it took to write them and to read the message from them.
-#[derive(Clone, Copy, Debug)]
+#[derive(Clone, Copy)]
 pub struct Speed {
     pub len: usize,
     pub written: Rounds,

@@ -1,6 +1,8 @@
 //! What certificates cover and what gates read of messages that were made elsewhere. The digests and marks were found by a program of its own.
 
-ghost use Rattle.std.specs.Prelude.{IfOk};
+ghost use Rattle.std.specs.Prelude.{◌≡◌, length, IfOk};
+ghost use Rattle.std.specs.List.{AllByRecursion};
+ghost use Rattle.mb_parts.specs.Fits.{CanDigest};
 ghost use Rattle.mb_msg.specs.Plans.{CanHash};
 
 use crate::tests::made_elsewhere::{
@@ -72,18 +74,18 @@ fn certificates_of_a_view_cover_bare_bytes(rt: HostRuntime) -> Result<(), Fail> 
     assert_stamped(
         &rt,
         rt.alloc(),
-        (1, 6, 3),
+        (1, 8, 6),
         PREPARE,
-        mark(2, 0, 1, 0, 1),
-        "5369a31e70afbfdcb5887a39cd103cb0b323ff33f83ee5e8603341033a9034d7",
+        mark(2, 1, 3, 0, 6),
+        "8e784d6f9ced8f42aa9adec58cd07be014c596091492a0f6ca96f710e35df9f4",
     )?;
     assert_stamped(
         &rt,
         rt.alloc(),
-        (2, 4, 9),
+        (1, 4, 1),
         COMMIT,
-        mark(3, 0, 7, 0, 8),
-        "e99d1ebcfbb5af380f5884457a9f4497b99867e81040d1fd9dc18f07a2443945",
+        mark(3, 2, 22, 0, 22),
+        "37288e30a9955323d951dc77f0f1043c713ce1040686987b0923f69a4c2f31c2",
     )?;
     assert_stamped(
         &rt,
@@ -100,18 +102,18 @@ fn certificates_of_a_view_change_cover_bare_bytes(rt: HostRuntime) -> Result<(),
     assert_stamped(
         &rt,
         rt.alloc(),
-        (1, 6, 16),
+        (1, 4, 1),
         VIEW_CHANGE,
-        mark(7, 2, 0, 0, 6),
-        "5e437ed86415600dcf0228f4e220daf551e73708ed3e7d51881f2e94ef978771",
+        mark(7, 2, 0, 0, 17),
+        "5b9799276b522d085ed972df5a41a68c13baeca6afa1e84ad06dca5dfe951b2c",
     )?;
     assert_stamped(
         &rt,
         rt.alloc(),
-        (1, 5, 16),
+        (1, 8, 6),
         NEW_VIEW,
-        mark(8, 1, 0, 0, 3),
-        "8d033a34939e768dc26dd2d52eb2ac4d7e92243114e0488b93b852b9636ad3ad",
+        mark(8, 1, 0, 0, 4),
+        "f6a000e2e25ee329abe98f7a20269faa0e0c4f60ad6e4a0eb9baab698373ea3d",
     )?;
     assert_stamped(
         &rt,
@@ -124,10 +126,10 @@ fn certificates_of_a_view_change_cover_bare_bytes(rt: HostRuntime) -> Result<(),
     assert_stamped(
         &rt,
         rt.alloc(),
-        (1, 6, 16),
+        (1, 8, 6),
         OPEN,
-        mark(10, 3, 0, 20, 27),
-        "4ff57d178d0c625496bf558357daf6c3f2931df11a3571f1c84d2f7f43b862e4",
+        mark(10, 2, 0, 18, 26),
+        "e24e183a101178ded81f44cceb5efa0ca64251346d6a013dfc27b050dbb3dad4",
     )?;
     assert_stamped(
         &rt,
@@ -184,7 +186,7 @@ fn assert_shown(
     mark: Mark,
     digest: &str,
 ) -> Result<(), Fail> {
-    let shape = Shape::new(1, 6, 16)?;
+    let shape = Shape::new(1, 4, 1)?;
     assert!(rt; entry.fits(&shape));
     let bare = entry.bare(alloc, &shape)?;
     assert_eq!(rt; digest_of(alloc, &bare)?.as_str(), digest);
@@ -194,15 +196,15 @@ fn assert_shown(
 
 #[test]
 fn shown_messages_are_certified_as_the_whole_ones(rt: HostRuntime) -> Result<(), Fail> {
-    let entries = shown(rt.alloc(), &Shape::new(1, 6, 16)?)?;
+    let entries = shown(rt.alloc(), &Shape::new(1, 4, 1)?)?;
     let entries = entries.as_slice();
-    assert_eq!(rt; entries.len(), 5);
-    let first = "b33f0f2b03dddd34d4aebcd9fcf275fb59eb6f945bb8046c8e88dd5db2d87934";
-    assert_shown(&rt, rt.alloc(), &entries[0], mark(2, 0, 1, 0, 1), first)?;
-    let last = "4b59bdf84d8384524182d9345612bdd785a8895ffe06950fcf9252130282c404";
-    assert_shown(&rt, rt.alloc(), &entries[4], mark(7, 1, 0, 0, 5), last)?;
-    let cert = "1cac3a323a01a09b214dd25c7c5a63b0aaddbf4a7dc577913f840909a4e7b1ea";
-    assert_ui(&rt, rt.alloc(), entries[4].ui(), 0, 5, cert)
+    assert_eq!(rt; entries.len(), 8);
+    let first = "f7a5b60ecf0bf705090eff6a97aa096b42eaf583d51a5f62a91f8fa6d4200885";
+    assert_shown(&rt, rt.alloc(), &entries[0], mark(2, 1, 5, 0, 9), first)?;
+    let fifth = "087843358b9d65f02ea092b05f22c4ccc2d46ae0b1302814991b4bba19b939b3";
+    assert_shown(&rt, rt.alloc(), &entries[4], mark(5, 0, 8, 0, 13), fifth)?;
+    let cert = "87608e1b040d677dc1d35b8f2ca782ce54e6812e13c671510c30e5b9fdce76bd";
+    assert_ui(&rt, rt.alloc(), entries[4].ui(), 1, 13, cert)
 }
 
 /// The entries of a LOG that was made elsewhere.
@@ -220,7 +222,7 @@ fn assert_logged(
     mark: Mark,
     digest: &str,
 ) -> Result<(), Fail> {
-    let shape = Shape::new(1, 5, 16)?;
+    let shape = Shape::new(1, 4, 1)?;
     assert!(rt; entry.fits(&shape));
     let bare = entry.bare(alloc, &shape)?;
     assert_eq!(rt; digest_of(alloc, &bare)?.as_str(), digest);
@@ -230,13 +232,13 @@ fn assert_logged(
 
 #[test]
 fn logged_messages_are_certified_as_those_by_themselves(rt: HostRuntime) -> Result<(), Fail> {
-    let entries = logged(rt.alloc(), &Shape::new(1, 5, 16)?)?;
+    let entries = logged(rt.alloc(), &Shape::new(1, 4, 1)?)?;
     let entries = entries.as_slice();
-    assert_eq!(rt; entries.len(), 1);
-    let digest = "d5f4986cb3abbeaf9c1bc90e203a59fd9adb14885b5301ca36140e5d505b3a05";
-    assert_logged(&rt, rt.alloc(), &entries[0], mark(3, 0, 1, 0, 1), digest)?;
-    let cert = "f58d7543490ca3741ccda4a70b66e63b09eb02deb6e5488080462f9a4e2abd7d";
-    assert_ui(&rt, rt.alloc(), entries[0].ui(), 2, 1, cert)
+    assert_eq!(rt; entries.len(), 2);
+    let digest = "65d0a2ee2e502f65a7a915474ee67d249ceca6464acba98a8f78708ee63819da";
+    assert_logged(&rt, rt.alloc(), &entries[0], mark(2, 2, 14, 0, 22), digest)?;
+    let cert = "53ef2c65ab38e9cdae0a467dd8e858dfa116562aa22ec5abe39a54ca499f716b";
+    assert_ui(&rt, rt.alloc(), entries[0].ui(), 2, 22, cert)
 }
 
 /// An OPEN that was made elsewhere.
@@ -254,28 +256,46 @@ fn whole_body(body: Body<OpenBody>) -> Result<OpenBody, Fail> {
     }
 }
 
-/// The plan with the two requests of the body of an OPEN.
+/// A batch that fits, whose digest can be taken.
+#[tactic(auto, using(mb_msg::proofs::Opened::has_digest))]
+fn fitting(shape: &Shape, batch: Batch) -> Result<Batch, Fail>
+    ensures { IfOk result CanDigest }
+{
+    if !batch.fits(shape) {
+        return Err("the batch does not fit".into());
+    }
+    Ok(batch)
+}
+
+fn pair(alloc: Global, first: Batch, second: Batch) -> Result<Items<Batch>, Fail>
+    requires { CanDigest first × CanDigest second }
+    ensures { IfOk result (λ bs. (length bs ≡ 2) × AllByRecursion CanDigest bs) }
+{
+    let mut batches = Items::new(alloc);
+    batches.push(first)?;
+    batches.push(second)?;
+    Ok(batches)
+}
+
+/// The plan with the two batches of the body of an OPEN.
 fn plan_of(alloc: Global, shape: &Shape, body: OpenBody) -> Result<Plan, Fail>
     ensures { IfOk result CanHash }
 {
-    let mut taken = body.requests.into_vec();
-    let second = taken.pop().ok_or("no request")?;
-    let first = taken.pop().ok_or("one request")?;
-    if !first.fits(shape) || !second.fits(shape) || body.stable.pos > MAX_POS {
+    let mut taken = body.batches.into_vec();
+    let second = fitting(shape, taken.pop().ok_or("no batch")?)?;
+    let first = fitting(shape, taken.pop().ok_or("one batch")?)?;
+    if body.stable.pos > MAX_POS {
         return Err("the plan does not fit".into());
     }
-    let mut requests = Items::new(alloc);
-    requests.push(first)?;
-    requests.push(second)?;
     Ok(Plan {
         base: body.stable,
-        requests,
+        batches: pair(alloc, first, second)?,
     })
 }
 
 #[test]
 fn a_plan_has_the_digest_and_the_end_of_its_evidence(rt: HostRuntime) -> Result<(), Fail> {
-    let shape = Shape::new(1, 6, 16)?;
+    let shape = Shape::new(1, 8, 6)?;
     let Open { evidence, body, .. } = opened(rt.alloc(), &shape)?;
     let plan = plan_of(rt.alloc(), &shape, whole_body(body)?)?;
     assert_eq!(rt; plan.digest(), evidence.plan);

@@ -86,7 +86,7 @@ fn a_resend_of_three_hosts_has_34_bytes(rt: HostRuntime) -> Result<(), Fail> {
 }
 
 /// Damaged messages of three hosts and three clients, and the offset of the first fault.
-const DAMAGED: [(&str, usize); 14] = [
+const DAMAGED: [(&str, usize); 16] = [
     // No byte, and no kind.
     ("", 0),
     ("11", 0),
@@ -107,6 +107,9 @@ const DAMAGED: [(&str, usize); 14] = [
     // View 2^63, and position 0.
     ("02008000000000000000", 2),
     ("020000000000000000000000000000000000", 10),
+    // A PREPARE with a batch of no request, and of 17.
+    ("020100000000000000000000000000000001000000", 18),
+    ("020100000000000000000000000000000001110000", 18),
     // A PREPARE by its digest, from host 3 of three, and at counter 0.
     (
         "0200000000000000000100000000000000025c5c5c5c5c5c5c5c5c5c5c5c5c5c5c5c5c5c5c5c5c5c5c5c5c5c5c5c5c5c5c5c03",
@@ -158,9 +161,53 @@ fn the_longest_new_view_fits_a_message(rt: HostRuntime) -> Result<(), Fail> {
         &rt,
         rt.alloc(),
         &samples::new_view(rt.alloc())?,
-        3_123_419,
-        "199d35a4bfdf67d33f54ecec01d602a662516273e486e62dcf7de1240fcc29f2",
+        4_128_987,
+        "dbdf4320b7366fb4d256f00beb9f7d92ef33eb4496be368a990406dd867cebc0",
     )
+}
+
+/// The bytes of a PREPARE whose second request has an operation of so many bytes, or None where it does not fit.
+fn prepare_with(alloc: Global, len: u16) -> Result<Option<Vec<u8>>, Fail> {
+    let message = samples::prepare(samples::batch_with(alloc, len)?);
+    spelled(alloc, &samples::shape()?, &message)
+}
+
+#[test]
+fn a_batch_has_at_most_2_048_bytes_behind_its_count(rt: HostRuntime) -> Result<(), Fail> {
+    let alloc = rt.alloc();
+    let shape = samples::shape()?;
+    let mut bytes = prepare_with(alloc, 938)?.ok_or("the PREPARE fits")?;
+    assert_eq!(rt; bytes.len(), 2108);
+    assert_eq!(rt; fault(alloc, &shape, &bytes)?, None);
+    assert!(rt; prepare_with(alloc, 939)?.is_none());
+    // One byte more in the second request, whose first byte is at fault.
+    bytes[1096] = 171;
+    bytes.insert(1097, 5)?;
+    assert_eq!(rt; fault(alloc, &shape, &bytes)?, Some(1086));
+    Ok(())
+}
+
+/// A batch of so many requests.
+fn batch_of(alloc: Global, count: u8) -> Result<Batch, Fail> {
+    let mut requests = Items::new(alloc);
+    for _ in 0..count {
+        requests.push(samples::request_of(alloc, 20)?)?;
+    }
+    Ok(Batch { requests })
+}
+
+fn prepare_of(alloc: Global, count: u8) -> Result<Option<Vec<u8>>, Fail> {
+    let message = samples::prepare(batch_of(alloc, count)?);
+    spelled(alloc, &samples::shape()?, &message)
+}
+
+#[test]
+fn a_batch_has_1_to_16_requests(rt: HostRuntime) -> Result<(), Fail> {
+    let bytes = prepare_of(rt.alloc(), 16)?.ok_or("the PREPARE fits")?;
+    assert_eq!(rt; bytes.len(), 1068);
+    assert!(rt; prepare_of(rt.alloc(), 0)?.is_none());
+    assert!(rt; prepare_of(rt.alloc(), 17)?.is_none());
+    Ok(())
 }
 
 /// A STATE with its last part alone, which has so many bytes.

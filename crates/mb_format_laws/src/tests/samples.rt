@@ -17,10 +17,10 @@ pub(crate) fn ui(host: Host) -> Ui {
     }
 }
 
-/// A request with an operation of 1,024 bytes.
-pub(crate) fn request(alloc: Global) -> Result<Request, AllocError> {
+/// A request with an operation of so many bytes.
+pub(crate) fn request_of(alloc: Global, len: u16) -> Result<Request, AllocError> {
     let mut op = Items::new(alloc);
-    for _ in 0..1024 {
+    for _ in 0..len {
         op.push(5)?;
     }
     Ok(Request {
@@ -31,13 +31,40 @@ pub(crate) fn request(alloc: Global) -> Result<Request, AllocError> {
     })
 }
 
+/// A request with an operation of 1,024 bytes.
+pub(crate) fn request(alloc: Global) -> Result<Request, AllocError> {
+    request_of(alloc, 1024)
+}
+
+/// A batch of such a request, of 1,067 bytes, and one with an operation of so many bytes.
+pub(crate) fn batch_with(alloc: Global, len: u16) -> Result<Batch, AllocError> {
+    let mut requests = Items::new(alloc);
+    requests.push(request(alloc)?)?;
+    requests.push(request_of(alloc, len)?)?;
+    Ok(Batch { requests })
+}
+
+/// A batch whose requests have 2,048 bytes.
+pub(crate) fn batch(alloc: Global) -> Result<Batch, AllocError> {
+    batch_with(alloc, 938)
+}
+
+pub(crate) fn prepare(batch: Batch) -> Message {
+    Message::Prepare(Prepare {
+        view: 4,
+        pos: 5,
+        body: Body::Whole(batch),
+        ui: ui(4),
+    })
+}
+
 pub(crate) fn commit(alloc: Global) -> Result<Commit, AllocError> {
     Ok(Commit {
         view: 4,
         pos: 5,
         counter: 6,
         cert: [0x22; 32],
-        body: Body::Whole(request(alloc)?),
+        body: Body::Whole(batch(alloc)?),
         ui: ui(1),
     })
 }
@@ -118,17 +145,17 @@ pub(crate) fn evidence(alloc: Global) -> Result<Evidence, AllocError> {
     })
 }
 
-/// An OPEN with a request for each of 64 positions.
+/// An OPEN with a batch for each of 64 positions.
 fn open(alloc: Global) -> Result<Open, AllocError> {
-    let mut requests = Items::new(alloc);
+    let mut batches = Items::new(alloc);
     for _ in 0..64 {
-        requests.push(request(alloc)?)?;
+        batches.push(batch(alloc)?)?;
     }
     Ok(Open {
         evidence: evidence(alloc)?,
         body: Body::Whole(OpenBody {
             stable: stable(alloc)?,
-            requests,
+            batches,
         }),
         ui: ui(1),
     })

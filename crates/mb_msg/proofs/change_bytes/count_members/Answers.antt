@@ -1,6 +1,5 @@
-use Rattle.std.proofs.Common.{◌≡◌, take, sym, arith}
+use Rattle.std.proofs.Common.{sym, arith}
 use Rattle.std.proofs.lemmas.Grind.{common_steps}
-use Rattle.mb_parts.specs.Counted.{counted}
 use Rattle.mb_parts.proofs.CountedBytes.{counted_nothing, counted_behind}
 use Rattle.mb_msg.specs.Spelling.{member_bytes}
 use Rattle.mb_msg.proofs.change_bytes.count_members.Goals as goal

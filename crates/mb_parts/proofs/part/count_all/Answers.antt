@@ -1,6 +1,5 @@
-use Rattle.std.proofs.Common.{◌≡◌, take, sym, arith}
+use Rattle.std.proofs.Common.{sym, arith}
 use Rattle.std.proofs.lemmas.Grind.{common_steps}
-use Rattle.mb_parts.specs.Counted.{counted}
 use Rattle.mb_parts.proofs.CountedBytes.{counted_nothing, counted_behind}
 use Rattle.mb_parts.proofs.part.count_all.Goals as goal
 

@@ -1,0 +1,18 @@
+use Rattle.std.proofs.Common.{rules}
+use Rattle.mb_base.specs.Shapes.{IsShape}
+use Rattle.mb_base.proofs.Laws.{IsBytes-drop}
+use Rattle.mb_parts.proofs.Fields.{batch_field}
+use Rattle.mb_parts.proofs.Public.{is_spelled, reads_again}
+use Rattle.mb_parts.proofs.reading.read_batch.Goals as goal
+
+pub returns-clause-found : goal.returns-clause-found
+returns-clause-found c =
+    let s = c.args.shape.now in
+    let h : IsShape s = search rules in
+    is_spelled _ _ _ (batch_field s h) c.read_or_stay.result c.args.fields.now c.read_or_stay.new.fields (IsBytes-drop c.args.fields.now.place c.args.fields.now.bytes.now c.args.fields.now.in_range) c.read_or_stay.ensures.exact
+
+pub returns-clause-only : goal.returns-clause-only
+returns-clause-only c =
+    let s = c.args.shape.now in
+    let h : IsShape s = search rules in
+    reads_again _ _ _ (batch_field s h) c.read_or_stay.result c.args.fields.now c.read_or_stay.new.fields c.read_or_stay.ensures.exact

@@ -1,0 +1,150 @@
+//! The requests that stand together at one position.
+
+ghost use Rattle.std.specs.Prelude.{◌≡◌, ◌↔◌, IsTrue, ◌+◌, ◌≤◌, ◌++◌, ℕ, List, length, IfOk};
+ghost use Rattle.std.specs.List.{flat_map, AllByRecursion};
+ghost use Rattle.mb_base.specs.Reading.{bounded_one, bounded_at};
+ghost use Rattle.mb_base.specs.Fields.{place_of};
+ghost use Rattle.mb_parts.specs.Bares.{batch_digest};
+ghost use Rattle.mb_parts.specs.Decoded.{Decodes};
+ghost use Rattle.mb_parts.specs.Fits.{FitsText, FitsRequest, FitsBatch, CanDigest};
+ghost use Rattle.mb_parts.specs.Spelling.{request_bytes, batch_bytes};
+ghost use Rattle.mb_parts.specs.Reading.{request_at, batch_at};
+
+use crate::counting::count_u8;
+use crate::fault::Undecoded;
+use crate::limits::{MAX_BATCH, MAX_REQUESTS};
+use crate::part::{Part, Readable, all_fit, count_all, put_all};
+use crate::reading::read_request;
+use crate::request::{Request, byte};
+use mb_base::{Digest, Duplicate, Fields, Items, NoMemory, Shape, put_u8};
+use sha2::{Digest as Hasher, Sha256};
+use std::alloc::{AllocError, Global};
+
+/// The requests of one position, in order: 1 to 16, together at most 2,048 bytes.
+#[derive(Debug, PartialEq, Drop)]
+pub struct Batch {
+    pub requests: Items<Request>,
+}
+
+impl Duplicate for Batch {
+    fn duplicate(&self, alloc: Global) -> Result<Batch, AllocError> {
+        Ok(Batch {
+            requests: self.requests.duplicate(alloc)?,
+        })
+    }
+}
+
+/// Whether there are 1 to 16.
+fn are_enough(requests: &[Request]) -> bool
+    ensures { IsTrue result ↔ ((1 ≤ length requests.now) × (length requests.now ≤ 16)) }
+{
+    1 <= requests.len() && requests.len() <= MAX_REQUESTS as usize
+}
+
+/// Whether they have at most 2,048 bytes together. Each field of each has an allowed value.
+#[tactic(auto, using(crate::proofs::CountedBytes::counted_within, crate::proofs::CountedBytes::within_counted))]
+fn are_short(shape: &Shape, requests: &[Request]) -> bool
+    requires { AllByRecursion (FitsRequest shape.now) requests.now }
+    ensures { IsTrue result ↔ (length (flat_map request_bytes requests.now) ≤ 2048) }
+{
+    count_all(shape, 0, requests) <= MAX_BATCH
+}
+
+impl Part for Batch {
+    ghost text = { batch_bytes };
+
+    ghost valid = { FitsBatch };
+
+    fn fits(&self, shape: &Shape) -> bool {
+        are_enough(self.requests.as_slice())
+            && all_fit(shape, self.requests.as_slice())
+            && are_short(shape, self.requests.as_slice())
+    }
+
+    #[tactic(auto, using(crate::proofs::CountedBytes::counted_behind), unfolding(crate::specs::Spelling::batch_bytes))]
+    fn count(&self, shape: &Shape, so_far: usize) -> usize {
+        let behind_count = count_u8(so_far, self.requests.len() as u8);
+        count_all(shape, behind_count, self.requests.as_slice())
+    }
+
+    #[tactic(auto, unfolding(crate::specs::Spelling::batch_bytes))]
+    fn put(&self, shape: &Shape, out: &mut Vec<u8>) -> Result<(), NoMemory> {
+        put_u8(out, self.requests.len() as u8)?;
+        put_all(shape, self.requests.as_slice(), out)
+    }
+}
+
+/// The next request of a batch, behind so many bytes of requests. It is read whole, and then its bytes may be too many.
+#[tactic(auto, unfolding(mb_base::specs::Reading::checked_at))]
+fn read_next(
+    alloc: Global,
+    shape: &Shape,
+    used: usize,
+    fields: &mut Fields<'_>,
+) -> Result<Request, Undecoded>
+    requires { used ≤ 2048 }
+    ensures read { Decodes result fields.new (bounded_one request_bytes 2048 (request_at shape.now) used (place_of fields.old)) }
+    ensures size { IfOk result (λ r. FitsText r.op × (used + length (request_bytes r) ≤ 2048)) }
+{
+    let start = *fields;
+    let request = read_request(alloc, shape, fields)?;
+    if used + request.size() <= MAX_BATCH {
+        return Ok(request);
+    }
+    *fields = start;
+    Err(Undecoded::Malformed { at: start.place() })
+}
+
+/// As many requests as asked for, together at most 2,048 bytes.
+fn read_requests(
+    alloc: Global,
+    shape: &Shape,
+    count: u8,
+    fields: &mut Fields<'_>,
+) -> Result<Items<Request>, Undecoded>
+    ensures { Decodes result fields.new (bounded_at request_bytes 2048 (request_at shape.now) count 0 (place_of fields.old)) }
+{
+    let mut requests = Items::new(alloc);
+    let mut used = 0;
+    for _ in 0..count {
+        let request = read_next(alloc, shape, used, fields)?;
+        used += request.size();
+        requests.push(request)?;
+    }
+    Ok(requests)
+}
+
+impl Readable for Batch {
+    ghost reads = { batch_at };
+
+    #[tactic(auto, unfolding(crate::specs::Reading::batch_at))]
+    fn read(alloc: Global, shape: &Shape, fields: &mut Fields<'_>) -> Result<Batch, Undecoded> {
+        let count = fields.u8_in(1, MAX_REQUESTS)?;
+        let requests = read_requests(alloc, shape, count, fields)?;
+        Ok(Batch { requests })
+    }
+}
+
+/// Feeds a hasher with the bytes of each request.
+fn feed<H: Hasher>(hasher: &mut H, requests: &[Request])
+    requires { AllByRecursion (λ r. FitsText r.op) requests.now }
+    ensures { (m : List ℕ) → H.holds hasher.old m → H.holds hasher.new (m ++ flat_map request_bytes requests.now) }
+{
+    for request in requests {
+        request.feed(hasher);
+    }
+}
+
+impl Batch {
+    /// The SHA-256 digest (FIPS 180-4) of the batch's bytes, the count among them. It has 1 to 16 requests, each with an operation of at
+    /// most 1,024 bytes.
+    pub fn digest(&self) -> Digest
+        requires { CanDigest self.now }
+        ensures { result ≡ batch_digest self.now }
+    {
+        let mut hasher = Sha256::new();
+        hasher.update(byte(self.requests.len() as u8));
+        feed(&mut hasher, self.requests.as_slice());
+        hasher.finalize()
+    }
+}
