@@ -2,46 +2,31 @@
 --
 -- After any events the counted replies are of different hosts, and each was given, is right, and answers the last request. So where f+1 of them agree with one
 -- reply, as many hosts told the same.
-use Rattle.std.proofs.Common.{◌≡◌, ℕ, zero, suc, ◌+◌, ◌<◌, ◌≤◌, Bool, true, false, ◌&&◌, cond, List, [], ◌∷◌, inl, inr, refl, sym, ap, subst, ◌∙◌, arith, eqb}
+use Rattle.std.proofs.Common.{◌≡◌, ℕ, ◌+◌, ◌<◌, ◌≤◌, Bool, true, false, ◌&&◌, ◌||◌, cond, List, [], ◌∷◌, inl, inr, refl, sym, ap, subst, ◌∙◌, arith, eqb}
 use Rattle.std.specs.Prelude.{◌==◌, count_by}
 use Rattle.std.specs.List.{list_any, AllByRecursion}
-use Rattle.std.proofs.lemmas.Bool.{cases_Bool, cases_lt, and_parts, or_right, eqb-true, eq-eqb, leb-true}
+use Rattle.std.proofs.lemmas.Bool.{cases_Bool, and_parts, or_cases, or_right, eqb-true, eq-eqb, leb-true}
 use Rattle.std.proofs.lemmas.List.Sums.{sum_by-cons}
 use Rattle.mb_base.specs.declared.shape.Shape.{Shape}
 use Rattle.mb_base.specs.Shapes.{Bytes, host_count, quorum, tally, HasQuorum}
 use Rattle.mb_msg.specs.declared.normal.Reply.{Reply}
 use Rattle.mb_model.specs.Clients.{Asker, taken, takes, is_right, is_awaited, completes, agrees, agreeing, counted}
 use Rattle.mb_model.proofs.Members.{In, in_contained, all_in, any_in}
+use Rattle.mb_model.proofs.PlanLaws.{one_more}
+use Rattle.mb_model.proofs.StepRounds.{tally_more}
 use Rattle.mb_client.specs.Replies.{has_host, AreOfDifferentHosts}
 use Rattle.mb_client.specs.Accepted.{ClientEvent, Asked, Given, replies_in, asker_after, tells_same, host_told, AcceptedHaveQuorum}
 
 -- ---- as many hosts as replies
 
--- where each host with one property has the other too, no fewer have the other
-pub tally_more : (p q : ℕ → Bool) (n : ℕ) → ((h : ℕ) → p h ≡ true → q h ≡ true) → tally p n ≤ tally q n
-tally_more p q zero more = omega arith
-tally_more p q (suc n) more = elim (cases_Bool (p n)) [
-  | inl holds ↦ let rest = tally_more p q n more in rw (holds, more n holds) (omega arith)
-  | inr fails ↦ let rest = tally_more p q n more in rw fails (omega arith)
-]
-
--- and where one host has the other alone, more have it
+-- where each host with one property has the other too, and one host has the other alone, more have it
 host_more : (p q : ℕ → Bool) (a n : ℕ) → a < n → p a ≡ false → q a ≡ true → ((h : ℕ) → p h ≡ true → q h ≡ true) → 1 + tally p n ≤ tally q n
-host_more p q a zero lt none has more = absurd (omega arith)
-host_more p q a (suc n) lt none has more = elim (cases_lt a n) [
-  | inl below ↦
-      let rest = host_more p q a n below none has more in
-      elim (cases_Bool (p n)) [
-        | inl holds ↦ rw (holds, more n holds) (omega arith)
-        | inr fails ↦ rw fails (omega arith)
-      ]
-  | inr above ↦
-      let same : a ≡ n = omega arith in
-      let fails : p n ≡ false = rw same at none in
-      let holds : q n ≡ true = rw same at has in
-      let rest = tally_more p q n more in
-      rw (fails, holds) (omega arith)
-]
+host_more p q a n lt none has more = rw (← one_more p a n none lt) (tally_more (λ h. (a == h) || p h) q n either) where
+  either : (h : ℕ) → ((a == h) || p h) ≡ true → q h ≡ true
+  either h e = elim (or_cases (a == h) (p h) e) [
+    | inl same ↦ rw (← eqb-true a h same) has
+    | inr holds ↦ more h holds
+  ]
 
 -- a host has a reply that passes the test
 abbrev has_with : (Reply → Bool) → List Reply → ℕ → Bool

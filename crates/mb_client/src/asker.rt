@@ -4,6 +4,7 @@ ghost use Rattle.std.specs.Prelude.{◌≡◌, ◌<◌, ◌≤◌, length, true}
 ghost use Rattle.mb_base.specs.Shapes.{client_count, host_count};
 ghost use Rattle.mb_usig.specs.Tags.{client_key};
 
+use crate::kept_reply::KeptReply;
 use crate::replies::Replies;
 use crate::reply_tag::{client_key_of, has_host_tag};
 use crate::taken::Taken;
@@ -29,7 +30,7 @@ pub struct Asker {
     /// How many results it accepted.
     accepted: u64,
     /// The reply that completed the last of them.
-    last: Option<Reply>,
+    last: Option<KeptReply>,
     ghost client_in: { client < client_count shape },
     ghost pen_is: { pen.client ≡ client },
     ghost key_is: { key ≡ client_key pen.secret client },
@@ -46,7 +47,7 @@ impl Asker {
     ghost use Rattle.mb_model.specs.Clients.{Asker as Asking, no_asker, asks, is_right, is_awaited, completes, taken, takes, left_by, Accepted};
     ghost use Rattle.mb_client.specs.Represents.{Represents, newest, as_taken, request_of, result_of};
 
-    /// A client that asked nothing yet.
+    /// A client that asked nothing yet, with room for a result of each host and for the last accepted one.
     pub fn make(
         alloc: Global,
         shape: Shape,
@@ -90,7 +91,7 @@ impl Asker {
             → option_map (λ r. (r.0, r.1, r.2.now)) result ≡ option_map result_of (newest a.accepted) }
     {
         match &self.last {
-            Some(reply) => Some((reply.seq, reply.pos, reply.result.as_slice())),
+            Some(reply) => Some((reply.seq(), reply.pos(), reply.result())),
             None => None,
         }
     }
@@ -131,23 +132,24 @@ impl Asker {
 
     /// Takes a reply of a host of the system. Its result has at most 1,024 bytes. It takes no memory.
     #[tactic(auto, unfolding(mb_model::specs::Clients::taken, mb_model::specs::Clients::takes))]
-    pub fn take(&mut self, reply: Reply) -> Taken
-        requires host { reply.host < host_count self.old.shape }
-        requires text { FitsText reply.result }
-        ensures answer { (s : Shape) (secret : Bytes) (client : ℕ) (a : Asking) → Represents s secret client self.old a → as_taken result ≡ taken s secret client a reply }
-        ensures stands { (s : Shape) (secret : Bytes) (client : ℕ) (a : Asking) → Represents s secret client self.old a → Represents s secret client self.new (takes s secret client a reply) }
+    pub fn take(&mut self, reply: &Reply) -> Taken
+        requires host { reply.now.host < host_count self.old.shape }
+        requires text { FitsText reply.now.result }
+        ensures answer { (s : Shape) (secret : Bytes) (client : ℕ) (a : Asking) → Represents s secret client self.old a → as_taken result ≡ taken s secret client a reply.now }
+        ensures stands { (s : Shape) (secret : Bytes) (client : ℕ) (a : Asking) → Represents s secret client self.old a → Represents s secret client self.new (takes s secret client a reply.now) }
         ensures shape { self.new.shape ≡ self.old.shape }
     {
-        if !self.is_right(&reply) {
+        if !self.is_right(reply) {
             return Taken::BadTag;
         }
-        if !self.is_awaited(&reply) {
+        if !self.is_awaited(reply) {
             return Taken::OtherSeq { seq: reply.seq };
         }
-        if self.completes(&reply) {
-            return self.accept(reply);
+        let kept = KeptReply::of(reply);
+        if self.completes(&kept) {
+            return self.accept(kept);
         }
-        self.replies.count(reply);
+        self.replies.count(kept);
         Taken::Waiting {
             matching: self.replies.most_agreeing(),
         }
@@ -170,12 +172,12 @@ impl Asker {
     }
 
     /// Whether f+1 hosts agree once this reply is counted, this one among them.
-    fn completes(&self, reply: &Reply) -> bool
+    fn completes(&self, reply: &KeptReply) -> bool
         requires { reply.now.host < host_count self.now.shape }
         ensures { (s : Shape) (secret : Bytes) (client : ℕ) (a : Asking) → Represents s secret client self.now a → result ≡ completes s secret client a reply.now }
     {
         let counted = self.replies.agreeing(reply);
-        let matching = if self.replies.has(reply.host) {
+        let matching = if self.replies.has(reply.host()) {
             counted
         } else {
             counted + 1
@@ -184,14 +186,14 @@ impl Asker {
     }
 
     /// Accepts the result of the reply that completes f+1, and waits no longer.
-    fn accept(&mut self, reply: Reply) -> Taken
+    fn accept(&mut self, reply: KeptReply) -> Taken
         requires { self.old.waits ≡ true }
         ensures answer { as_taken result ≡ Accepted reply.pos }
         ensures stands { (s : Shape) (secret : Bytes) (client : ℕ) (a : Asking) → Represents s secret client self.old a
             → Represents s secret client self.new (left_by s secret client (Accepted reply.pos) a reply) }
         ensures shape { self.new.shape ≡ self.old.shape }
     {
-        let pos = reply.pos;
+        let pos = reply.pos();
         self.waits = false;
         self.replies.clear();
         self.accepted += 1;

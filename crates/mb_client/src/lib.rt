@@ -2,6 +2,7 @@
 #![tactic(auto)]
 
 mod asker;
+mod kept_reply;
 mod laws;
 mod replies;
 mod reply_tag;

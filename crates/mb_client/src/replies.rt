@@ -4,8 +4,8 @@ ghost use Rattle.std.specs.Prelude.{◌≡◌, ◌≤◌, length, replicate, Non
 ghost use Rattle.mb_client.specs.declared.replies.TheConstants.{MAX_HOSTS};
 ghost use Rattle.mb_client.specs.Replies.{kept_agrees};
 
+use crate::kept_reply::KeptReply;
 use mb_base::{Host, NoMemory, Shape};
-use mb_msg::Reply;
 use std::alloc::Global;
 
 /// The most hosts of a system, 2f+1 with the greatest f.
@@ -14,12 +14,13 @@ const MAX_HOSTS: u8 = 2 * Shape::MAX_F + 1;
 /// The counted replies, by host.
 #[derive(Drop)]
 pub(crate) struct Replies {
-    by_host: Vec<Option<Reply>>,
+    by_host: Vec<Option<KeptReply>>,
     ghost few: { length by_host.items ≤ MAX_HOSTS },
 }
 
 impl Replies {
     ghost use Rattle.std.specs.Prelude.{◌≡◌, ◌≤◌, ◌<◌, ℕ, List, [], length, IfOk, count_by};
+    ghost use Rattle.mb_msg.specs.declared.normal.Reply.{Reply};
     ghost use Rattle.mb_model.specs.Clients.{agreeing, most_agreeing, counted};
     ghost use Rattle.mb_client.specs.Replies.{RepresentsReplies, has_host, kept_agrees};
 
@@ -43,7 +44,7 @@ impl Replies {
     }
 
     /// How many counted replies agree with this one.
-    pub(crate) fn agreeing(&self, reply: &Reply) -> u8
+    pub(crate) fn agreeing(&self, reply: &KeptReply) -> u8
         ensures kept { result ≡ count_by (kept_agrees reply.now) self.now.by_host.items }
         ensures counts { (rs : List Reply) → RepresentsReplies self.now.by_host.items rs → result ≡ agreeing rs reply.now }
     {
@@ -65,12 +66,12 @@ impl Replies {
     }
 
     /// Counts a reply, where it is the first of its host.
-    pub(crate) fn count(&mut self, reply: Reply)
+    pub(crate) fn count(&mut self, reply: KeptReply)
         requires { reply.host < length self.old.by_host.items }
         ensures stands { (rs : List Reply) → RepresentsReplies self.old.by_host.items rs → RepresentsReplies self.new.by_host.items (counted rs reply) }
         ensures places { length self.new.by_host.items ≡ length self.old.by_host.items }
     {
-        let kept = &mut self.by_host[usize::from(reply.host)];
+        let kept = &mut self.by_host[usize::from(reply.host())];
         if kept.is_none() {
             *kept = Some(reply);
         }
@@ -87,7 +88,7 @@ impl Replies {
     }
 }
 
-fn no_replies(alloc: Global, hosts: u8) -> Result<Vec<Option<Reply>>, NoMemory>
+fn no_replies(alloc: Global, hosts: u8) -> Result<Vec<Option<KeptReply>>, NoMemory>
     ensures { IfOk result (λ v. v.items ≡ replicate hosts None) }
 {
     let mut all = Vec::with_capacity(alloc, usize::from(hosts))?;
@@ -98,11 +99,11 @@ fn no_replies(alloc: Global, hosts: u8) -> Result<Vec<Option<Reply>>, NoMemory>
 }
 
 /// Whether a host's counted reply agrees with this one: it has the same position and result.
-fn agrees(kept: &Option<Reply>, reply: &Reply) -> bool
+fn agrees(kept: &Option<KeptReply>, reply: &KeptReply) -> bool
     ensures { result ≡ kept_agrees reply.now kept.now }
 {
     match kept {
-        Some(kept) => reply.pos == kept.pos && reply.result == kept.result,
+        Some(kept) => reply.agrees(kept),
         None => false,
     }
 }

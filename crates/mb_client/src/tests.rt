@@ -141,7 +141,7 @@ fn give(
         let reply = row.reply(alloc)?;
         assert!(rt; reply.host < 3);
         assert!(rt; reply.result.len() == 2);
-        assert_eq!(rt; asker.take(reply), *answer);
+        assert_eq!(rt; asker.take(&reply), *answer);
     }
     Ok(())
 }

@@ -12,7 +12,8 @@ use Rattle.mb_gate.specs.declared.gate.Gate.{Gate}
 use Rattle.mb_gate.specs.declared.kind.Kind.{Kind}
 use Rattle.mb_gate.specs.declared.offer.Offer.{Offer}
 use Rattle.mb_gate.specs.declared.offer.Offer.TheVariants.{Next, Stale, Ahead, Illegal}
-use Rattle.mb_gate.specs.Answers.{answer, rule_of, shut_before, next_of, convicted_or}
+use Rattle.mb_parts.specs.Rules.{rule_of, shut_before}
+use Rattle.mb_gate.specs.Answers.{answer, next_of, convicted_or}
 use Rattle.mb_gate.specs.Kinds.{kind_of, message_with}
 use Rattle.mb_gate.specs.Marks.{IsMarkOf}
 use Rattle.mb_gate.specs.Represents.{Represents}

@@ -31,7 +31,8 @@ impl Gate {
     ghost use Rattle.mb_base.specs.Shapes.{host_count};
     ghost use Rattle.mb_parts.specs.Bares.{Bare};
     ghost use Rattle.mb_parts.specs.Ordered.{initial_floor};
-    ghost use Rattle.mb_gate.specs.Answers.{answer, log_after, may_jump, log_after_jump, shut_before};
+    ghost use Rattle.mb_parts.specs.Rules.{shut_before};
+    ghost use Rattle.mb_gate.specs.Answers.{answer, log_after, may_jump, log_after_jump};
     ghost use Rattle.mb_gate.specs.Marks.{IsMarkOf, is_stamped_kind};
     ghost use Rattle.mb_gate.specs.Represents.{Represents};
     ghost use Rattle.mb_gate.specs.SenderLogs.{SenderLog, log_from, standing, floor_below};

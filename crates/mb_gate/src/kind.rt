@@ -2,7 +2,7 @@
 
 ghost use Rattle.std.specs.Prelude.{◌≡◌, IsTrue};
 ghost use Rattle.mb_parts.specs.Bares.{Bare};
-ghost use Rattle.mb_gate.specs.Answers.{rule_of};
+ghost use Rattle.mb_parts.specs.Rules.{rule_of};
 ghost use Rattle.mb_gate.specs.Kinds.{kind_of};
 ghost use Rattle.mb_gate.specs.Marks.{IsMarkOf, is_stamped_kind};
 

@@ -1,8 +1,8 @@
--- What all hosts stamped decides one request for each position.
+-- What all hosts stamped decides one batch for each position.
 --
 -- A committed vote names the message that orders its position, and there is one (`one_vote`). What is committed in a view above 0 is behind the
 -- base of that view's plan, and within the plan it is the plan's (`committed_in_plan`). So what is committed at one position in two views is the
--- same: what is committed in the lower one is in the plan of the higher one, as nothing is committed at or below its base (`one_request`).
+-- same: what is committed in the lower one is in the plan of the higher one, as nothing is committed at or below its base (`one_batch`).
 use Rattle.std.proofs.Common.{◌≡◌, ℕ, ◌<◌, Bool, true, List, [], refl, sym, ap, ◌∙◌, inl, inr, arith}
 use Rattle.std.proofs.lemmas.Bool.{cases_order}
 use Rattle.std.proofs.lemmas.Option.{same_Some}
@@ -15,7 +15,7 @@ use Rattle.mb_parts.specs.Certificates.{is_evidence}
 use Rattle.mb_model.specs.declared.known.Vote.{Vote}
 use Rattle.mb_model.specs.Committed.{Plans, vote_in, IsCommitted}
 use Rattle.mb_model.specs.Votes.{is_vote}
-use Rattle.mb_model.specs.Agreement.{IsConsistentRecord, OneVote, CommittedInPlan, OneRequest, Agrees}
+use Rattle.mb_model.specs.Agreement.{IsConsistentRecord, OneVote, CommittedInPlan, OneBatch, Agrees}
 use Rattle.mb_model.proofs.Quorums.{tally_some}
 use Rattle.mb_model.proofs.WholeLists.{vote_placed, planned_within}
 use Rattle.mb_model.proofs.ShownOpenings.{opened_list}
@@ -58,9 +58,9 @@ module _ (s : Shape) (secret : Bytes) (plans : Plans) (issued : Claim → Bool) 
             same_Some x.request y.request (sym planned_there ∙ inside.1 within.1)
       ]
 
-  -- one position has one committed request
-  pub one_request : OneRequest s secret plans issued prefix
-  one_request v w p x y a b = elim (cases_order v w) [
+  -- one position has one committed batch
+  pub one_batch : OneBatch s secret plans issued prefix
+  one_batch v w p x y a b = elim (cases_order v w) [
     | inl same ↦ ap (λ (z : Vote). z.request) (one_vote v p x y a (rw same b))
     | inr (inl less) ↦ lower_first v w p x y less a b
     | inr (inr more) ↦ sym (lower_first w v p y x more b a)
@@ -74,5 +74,5 @@ module _ (s : Shape) (secret : Bytes) (plans : Plans) (issued : Claim → Bool) 
     one_vote = one_vote;
     committed_stays = committed_stays s secret plans issued prefix facts;
     committed_in_plan = committed_in_plan;
-    one_request = one_request;
+    one_batch = one_batch;
   }

@@ -13,7 +13,7 @@ use Rattle.mb_base.specs.declared.shape.Shape.{Shape}
 use Rattle.mb_usig.specs.Tags.{same_bytes}
 use Rattle.mb_parts.specs.declared.floor.Floor.{Floor}
 use Rattle.mb_parts.specs.declared.certificates.FloorCert.{FloorCert}
-use Rattle.mb_parts.specs.Bares.{request_digest}
+use Rattle.mb_parts.specs.Bares.{batch_digest}
 use Rattle.mb_parts.specs.Claims.{Claim, stable_claims, inner_claims}
 use Rattle.mb_parts.specs.Certificates.{is_stable, inner_valid}
 use Rattle.mb_parts.specs.CheckedCertificates.{Carries}
@@ -26,7 +26,7 @@ use Rattle.mb_msg.specs.declared.stamped.Shown.{Shown}
 use Rattle.mb_msg.specs.declared.stamped.Shown.TheVariants as shown
 use Rattle.mb_msg.specs.Stamps.{bare_of_shown, ui_of_shown}
 use Rattle.mb_msg.specs.Plans.{plan_string}
-use Rattle.mb_model.specs.Verified.{is_rightly_tagged}
+use Rattle.mb_model.specs.Verified.{are_rightly_tagged}
 use Rattle.mb_model.specs.UsableLogs.{bares, floor_of, floor_position, is_sound_body, is_sound_plan, is_comparable_body, entry_claim, entry_fault, entries_fault, fault_from, log_fault}
 use Rattle.mb_model.specs.CarriedLogs.{claims_of_floor, claims_of_body, body_claims, entry_claims, log_claims, LogsCarryOver}
 use Rattle.mb_model.proofs.Options.{or_none, then_none, option_cases}
@@ -39,8 +39,8 @@ module _ (s : Shape) (secret : Bytes) (f g : Claim → Bool) where
   sound_plan_more : (base end : ℕ) (plan : Bytes) (b : Body OpenBody) → Carries f g (claims_of_body b) → is_sound_plan s secret f base end plan b ≡ true → is_sound_plan s secret g base end plan b ≡ true
   sound_plan_more base end plan (Short d) h e = refl
   sound_plan_more base end plan (Whole b) h e =
-      left_more (is_comparable_body s secret f base end b) (is_comparable_body s secret g base end b) (same_bytes plan (sha256 (plan_string base b.stable.state (map request_digest b.requests))))
-      (left_more (is_stable s f b.stable) (is_stable s g b.stable) (b.stable.pos == base && (length b.requests == end - base && list_all (is_rightly_tagged secret) b.requests)) (stable_more s f g b.stable h)) e
+      left_more (is_comparable_body s secret f base end b) (is_comparable_body s secret g base end b) (same_bytes plan (sha256 (plan_string base b.stable.state (map batch_digest b.batches))))
+      (left_more (is_stable s f b.stable) (is_stable s g b.stable) (b.stable.pos == base && (length b.batches == end - base && list_all (are_rightly_tagged secret) b.batches)) (stable_more s f g b.stable h)) e
 
   sound_body_more : (e : Shown) → Carries f g (body_claims e) → is_sound_body s secret f e ≡ true → is_sound_body s secret g e ≡ true
   sound_body_more (shown.Prepare m) h e = e

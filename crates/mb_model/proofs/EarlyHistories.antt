@@ -19,7 +19,7 @@ use Rattle.mb_msg.specs.declared.message.Message.TheVariants as message
 use Rattle.mb_msg.specs.declared.stamped.Stamped.{Stamped as StampedMessage}
 use Rattle.mb_msg.specs.declared.stamped.Stamped.TheVariants as stamped
 use Rattle.mb_msg.specs.Stamps.{bare_of, ui_of}
-use Rattle.mb_model.specs.Histories.{Entry, Accepted, Stamped, Executed, History, Identity, onto, by_host, stamped_in, origin, taken_of, gate, closed_at, stamped as all_stamped, counter_of, here, view_of, is_open, is_changing, is_primary}
+use Rattle.mb_model.specs.Histories.{Entry, Accepted, Stamped, Served, Executed, History, Identity, onto, by_host, stamped_in, origin, taken_of, gate, closed_at, stamped as all_stamped, counter_of, here, view_of, is_open, is_changing, is_primary}
 pub use Rattle.mb_model.specs.EarlyHistories.{IsEarlyEntry, IsEarly}
 use Rattle.mb_model.specs.Held.{wish_of, is_wished, quorum_wish, new_view_of, evidence_of}
 use Rattle.mb_model.specs.Plans.{no_base}
@@ -91,6 +91,7 @@ taken_votes (Accepted (message.Prepare m) ∷ d) a h = one_more h (stamped.Prepa
 taken_votes (Accepted (message.Commit m) ∷ d) a h = one_more h (stamped.Commit m) _ tt (taken_votes d a.1 h)
 taken_votes (Stamped (stamped.Prepare m) ∷ d) a h = one_more h (stamped.Prepare m) _ tt (taken_votes d a.1 h)
 taken_votes (Stamped (stamped.Commit m) ∷ d) a h = one_more h (stamped.Commit m) _ tt (taken_votes d a.1 h)
+taken_votes (Served pos placed ∷ d) a h = taken_votes d a.1 h
 taken_votes (Executed slot ∷ d) a h = taken_votes d a.1 h
 taken_votes (e ∷ d) a h = absurd a.0
 
@@ -101,6 +102,7 @@ unfolding origin
 early_origin [] a h = refl
 early_origin (Accepted m ∷ d) a h = early_origin d a.1 h
 early_origin (Stamped m ∷ d) a h = early_origin d a.1 h
+early_origin (Served pos placed ∷ d) a h = early_origin d a.1 h
 early_origin (Executed slot ∷ d) a h = early_origin d a.1 h
 early_origin (e ∷ d) a h = absurd a.0
 
@@ -109,6 +111,7 @@ unfolding closed_at
 early_closed [] a h = refl
 early_closed (Accepted m ∷ d) a h = early_closed d a.1 h
 early_closed (Stamped m ∷ d) a h = early_closed d a.1 h
+early_closed (Served pos placed ∷ d) a h = early_closed d a.1 h
 early_closed (Executed slot ∷ d) a h = early_closed d a.1 h
 early_closed (e ∷ d) a h = absurd a.0
 
@@ -162,6 +165,7 @@ module _ {S : Type 0} (self : Identity S) where
   early_wish (Accepted (message.Commit m) ∷ d) a h = rw (early_wish d a.1 h) refl
   early_wish (Stamped (stamped.Prepare m) ∷ d) a h = rw (early_wish d a.1 h) refl
   early_wish (Stamped (stamped.Commit m) ∷ d) a h = rw (early_wish d a.1 h) refl
+  early_wish (Served pos placed ∷ d) a h = rw (early_wish d a.1 h) refl
   early_wish (Executed slot ∷ d) a h = rw (early_wish d a.1 h) refl
   early_wish (e ∷ d) a h = absurd a.0
 
@@ -173,6 +177,7 @@ module _ {S : Type 0} (self : Identity S) where
   early_new_view (Accepted (message.Commit m) ∷ d) a = early_new_view d a.1
   early_new_view (Stamped (stamped.Prepare m) ∷ d) a = early_new_view d a.1
   early_new_view (Stamped (stamped.Commit m) ∷ d) a = early_new_view d a.1
+  early_new_view (Served pos placed ∷ d) a = early_new_view d a.1
   early_new_view (Executed slot ∷ d) a = early_new_view d a.1
   early_new_view (e ∷ d) a = absurd a.0
 
@@ -184,6 +189,7 @@ module _ {S : Type 0} (self : Identity S) where
   early_evidence (Accepted (message.Commit m) ∷ d) a = early_evidence d a.1
   early_evidence (Stamped (stamped.Prepare m) ∷ d) a = early_evidence d a.1
   early_evidence (Stamped (stamped.Commit m) ∷ d) a = early_evidence d a.1
+  early_evidence (Served pos placed ∷ d) a = early_evidence d a.1
   early_evidence (Executed slot ∷ d) a = early_evidence d a.1
   early_evidence (e ∷ d) a = absurd a.0
 
@@ -195,6 +201,7 @@ module _ {S : Type 0} (self : Identity S) where
   early_stable (Accepted (message.Commit m) ∷ d) a = early_stable d a.1
   early_stable (Stamped (stamped.Prepare m) ∷ d) a = early_stable d a.1
   early_stable (Stamped (stamped.Commit m) ∷ d) a = early_stable d a.1
+  early_stable (Served pos placed ∷ d) a = early_stable d a.1
   early_stable (Executed slot ∷ d) a = early_stable d a.1
   early_stable (e ∷ d) a = absurd a.0
 
@@ -211,6 +218,7 @@ module _ {S : Type 0} (self : Identity S) where
   early_floor (Accepted (message.Commit m) ∷ d) a = early_floor d a.1
   early_floor (Stamped (stamped.Prepare m) ∷ d) a = early_floor d a.1
   early_floor (Stamped (stamped.Commit m) ∷ d) a = early_floor d a.1
+  early_floor (Served pos placed ∷ d) a = early_floor d a.1
   early_floor (Executed slot ∷ d) a = early_floor d a.1
   early_floor (e ∷ d) a = absurd a.0
 
@@ -229,6 +237,7 @@ module _ {S : Type 0} (self : Identity S) where
       let before : log_longest self d ≡ counter_of d = early_longest d a.1 in
       let held : length (own_log self d) ≡ counter_of d = ap length (early_log d a.1) in
       omega (arith, before, held)
+  early_longest (Served pos placed ∷ d) a = early_longest d a.1
   early_longest (Executed slot ∷ d) a = early_longest d a.1
   early_longest (e ∷ d) a = absurd a.0
 
@@ -238,6 +247,7 @@ module _ {S : Type 0} (self : Identity S) where
   all_normal (Accepted m ∷ d) a = all_normal d a.1
   all_normal (Stamped (stamped.Prepare m) ∷ d) a = omega (arith, one_normal (stamped.Prepare m) (all_stamped d) refl, all_normal d a.1)
   all_normal (Stamped (stamped.Commit m) ∷ d) a = omega (arith, one_normal (stamped.Commit m) (all_stamped d) refl, all_normal d a.1)
+  all_normal (Served pos placed ∷ d) a = all_normal d a.1
   all_normal (Executed slot ∷ d) a = all_normal d a.1
   all_normal (e ∷ d) a = absurd a.0
 
@@ -274,6 +284,7 @@ module _ {S : Type 0} (self : Identity S) where
   early_own_vote (Accepted (message.Commit m)) d i h v p = or_nothing _
   early_own_vote (Stamped (stamped.Prepare m)) d i h v p = or_nothing _
   early_own_vote (Stamped (stamped.Commit m)) d i h v p = or_nothing _
+  early_own_vote (Served pos placed) d i h v p = refl
   early_own_vote (Executed slot) d i h v p = refl
   early_own_vote x d i h v p = absurd i
 

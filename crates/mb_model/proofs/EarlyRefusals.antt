@@ -4,7 +4,7 @@ use Rattle.std.specs.Prelude.{not, ◌&&◌, nat_lt, option_map}
 use Rattle.std.specs.Bool.{then_some}
 use Rattle.std.specs.Option.{option_or}
 use Rattle.mb_base.specs.declared.names.Ui.{Ui}
-use Rattle.mb_parts.specs.declared.request.Request.{Request}
+use Rattle.mb_parts.specs.declared.batch.Batch.{Batch}
 use Rattle.mb_msg.specs.declared.event.Outcome.{Outcome}
 use Rattle.mb_msg.specs.declared.event.Outcome.TheVariants as outcome
 use Rattle.mb_msg.specs.declared.message.Body.{Body}
@@ -18,8 +18,9 @@ use Rattle.mb_model.specs.Histories.{History, Identity, view_of}
 use Rattle.mb_model.specs.Stable.{low_of}
 use Rattle.mb_model.specs.Positions.{exec_of}
 use Rattle.mb_model.specs.Sending.{Progress, next_of}
-use Rattle.mb_model.specs.GateChecks.{rule_of, is_bad_ui, is_own_future, conviction, is_stale, is_ahead, is_permitted, gate_refusal, identifier_refusal}
-use Rattle.mb_model.specs.KindChecks.{only_where, is_badly_tagged, is_beyond, is_of_later_view, is_of_view, body_refusal, vote_refusal, stamped_refusal}
+use Rattle.mb_model.specs.GateChecks.{is_bad_ui, is_own_future, conviction, is_stale, is_ahead, is_permitted, gate_refusal, identifier_refusal}
+use Rattle.mb_parts.specs.Rules.{rule_of}
+use Rattle.mb_model.specs.KindChecks.{only_where, has_bad_tag, is_beyond, is_of_later_view, is_of_view, body_refusal, vote_refusal, stamped_refusal}
 use Rattle.mb_model.specs.Given.{closing}
 
 -- None of these refusals closes a gate.
@@ -53,7 +54,7 @@ unasked_mild : (gates permitted : Bool) (o : Outcome) → gates ≡ false → Ar
 unasked_mild true permitted o unasked = absurd cc
 unasked_mild false permitted o unasked = no_refusal
 
-module _ {S : Type 0} (self : Identity S) (unasked : self.built.gates ≡ false) where
+module _ {S : Type 0} (self : Identity S) (unasked : self.built.order ≡ false) where
   gate_mild : (d : History) (m : StampedMessage) → AreMild (gate_refusal self d m)
   unfolding gate_refusal
   gate_mild d m =
@@ -63,11 +64,11 @@ module _ {S : Type 0} (self : Identity S) (unasked : self.built.gates ≡ false)
       let stale : Option Outcome = then_some (is_stale self d u) (outcome.Stale told) in
       let ahead : Option Outcome = then_some (is_ahead self d u) (outcome.Ahead told) in
       let rule : Outcome = outcome.Illegal (rule_of (bare_of m)) in
-      let illegal : Option Outcome = then_some (self.built.gates && not (is_permitted self d m)) rule in
+      let illegal : Option Outcome = then_some (self.built.order && not (is_permitted self d m)) rule in
       or_mild convicted (option_or stale (option_or ahead illegal)) (convicted_mild (conviction self d u))
       (or_mild stale (option_or ahead illegal) (then_mild (is_stale self d u) (outcome.Stale told) (λ v x. refl))
       (or_mild ahead illegal (then_mild (is_ahead self d u) (outcome.Ahead told) (λ v x. refl))
-      (unasked_mild self.built.gates (is_permitted self d m) rule unasked)))
+      (unasked_mild self.built.order (is_permitted self d m) rule unasked)))
 
   identifier_mild : (d : History) (m : StampedMessage) → AreMild (identifier_refusal self d m)
   unfolding identifier_refusal
@@ -77,11 +78,11 @@ module _ {S : Type 0} (self : Identity S) (unasked : self.built.gates ≡ false)
       or_mild bad_ui (option_or own_future (gate_refusal self d m)) (then_mild (is_bad_ui self m) outcome.BadUi (λ v x. refl))
       (or_mild own_future (gate_refusal self d m) (then_mild (is_own_future self d (ui_of m)) outcome.Idle (λ v x. refl)) (gate_mild d m))
 
-  body_mild : (d : History) (pos : ℕ) (body : Body Request) → AreMild (body_refusal self d pos body)
+  body_mild : (d : History) (pos : ℕ) (body : Body Batch) → AreMild (body_refusal self d pos body)
   body_mild d pos (Short digest) = then_mild (nat_lt (exec_of d) pos) (outcome.NeedBody (view_of self d) (exec_of d)) (λ v x. refl)
-  body_mild d pos (Whole r) = then_mild (is_badly_tagged self r) outcome.BadTag (λ v x. refl)
+  body_mild d pos (Whole b) = then_mild (has_bad_tag self b) outcome.BadTag (λ v x. refl)
 
-  vote_mild : (d : History) (view pos : ℕ) (body : Body Request) → AreMild (vote_refusal self d view pos body)
+  vote_mild : (d : History) (view pos : ℕ) (body : Body Batch) → AreMild (vote_refusal self d view pos body)
   unfolding vote_refusal
   vote_mild d view pos body =
       let later : Option Outcome = then_some (is_of_later_view self d view) (outcome.LaterView (view_of self d)) in

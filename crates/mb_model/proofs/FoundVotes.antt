@@ -12,10 +12,10 @@ use Rattle.std.proofs.lemmas.Bool.{and_parts, cases_Bool, eqb-true, eqb-false, e
 use Rattle.std.proofs.lemmas.Option.{same_Some, slice_get_within, slice_get-map, slice_get_cases}
 use Rattle.mb_base.specs.declared.shape.Shape.{Shape}
 use Rattle.mb_base.specs.Shapes.{Bytes, span}
-use Rattle.mb_parts.specs.declared.request.Request.{Request}
-use Rattle.mb_parts.specs.Bares.{Bare, request_digest}
+use Rattle.mb_parts.specs.declared.batch.Batch.{Batch}
+use Rattle.mb_parts.specs.Bares.{Bare, batch_digest}
 use Rattle.mb_parts.specs.Ordered.{initial_floor, is_ordered, floor_after, current_view, is_opened, last_position, phase_from, phase_is_open}
-use Rattle.mb_parts.specs.Spelling.{request_bytes}
+use Rattle.mb_parts.specs.Spelling.{batch_bytes}
 use Rattle.mb_parts.specs.Claims.{Claim}
 use Rattle.mb_parts.specs.Certificates.{is_stable, inner_valid}
 use Rattle.mb_parts.proofs.Advance.{none_opened}
@@ -104,13 +104,13 @@ module _ (s : Shape) (secret : Bytes) (plans : Plans) (issued : Claim → Bool) 
   ]
 
   abbrev as_vote : ShownVote → Vote
-  as_vote y = record { counter = y.0; request = request_digest y.1 }
+  as_vote y = record { counter = y.0; request = batch_digest y.1 }
 
-  vote_with_is : (n : ℕ) (b : Body Request) (y : ShownVote) → vote_with n b ≡ Some y → (n ≡ y.0) × (body_digest request_bytes b ≡ request_digest y.1)
-  vote_with_is n (Whole r) y e = (cc, cc)
+  vote_with_is : (n : ℕ) (b : Body Batch) (y : ShownVote) → vote_with n b ≡ Some y → (n ≡ y.0) × (body_digest batch_bytes b ≡ batch_digest y.1)
+  vote_with_is n (Whole b) y e = (cc, cc)
   vote_with_is n (Short d) y e = absurd cc
 
-  first_vote : (v p u q c : ℕ) (d : Bytes) (y : ShownVote) (later : Option Vote) → v ≡ u → p ≡ q → c ≡ y.0 → d ≡ request_digest y.1
+  first_vote : (v p u q c : ℕ) (d : Bytes) (y : ShownVote) (later : Option Vote) → v ≡ u → p ≡ q → c ≡ y.0 → d ≡ batch_digest y.1
       → option_or (if v == u && p == q then Some (record { counter = c; request = d }) else None) later ≡ Some (as_vote y)
   first_vote v p u q c d y later same_view same_place same_counter same_digest =
       rw (eq-eqb v u same_view, eq-eqb p q same_place, same_counter, same_digest) refl
@@ -129,14 +129,14 @@ module _ (s : Shape) (secret : Bytes) (plans : Plans) (issued : Claim → Bool) 
   AreKnown l = AllByRecursion (IsKnownPlan plans) l
 
   plan_vote_is : (base c q : ℕ) (plan : Bytes) (b : Body OpenBody) (y : ShownVote) → IsKnownBody plans base plan b
-      → plan_vote base c q b ≡ Some y → (c ≡ y.0) × (planned (plans plan) q ≡ Some (request_digest y.1))
+      → plan_vote base c q b ≡ Some y → (c ≡ y.0) × (planned (plans plan) q ≡ Some (batch_digest y.1))
   plan_vote_is base c q plan (Short d) y known e = absurd cc
   plan_vote_is base c q plan (Whole w) y known e =
       let a = if_some (nat_lt base q) _ y e in
       let b = map_some _ _ y a.1 in
-      (cc, rw (known, a.0) (slice_get-map request_digest w.requests (q - base - 1) ∙ rw b.1 (ap (λ (z : ShownVote). Some (request_digest z.1)) b.2)))
+      (cc, rw (known, a.0) (slice_get-map batch_digest w.batches (q - base - 1) ∙ rw b.1 (ap (λ (z : ShownVote). Some (batch_digest z.1)) b.2)))
 
-  open_vote : (v u c : ℕ) (d : Option Bytes) (y : ShownVote) (later : Option Vote) → v ≡ u → c ≡ y.0 → d ≡ Some (request_digest y.1)
+  open_vote : (v u c : ℕ) (d : Option Bytes) (y : ShownVote) (later : Option Vote) → v ≡ u → c ≡ y.0 → d ≡ Some (batch_digest y.1)
       → option_or (if v == u then option_map (λ (r : Bytes). record { counter = c; request = r }) d else None) later ≡ Some (as_vote y)
   open_vote v u c d y later same_view same_counter digest = rw (eq-eqb v u same_view, digest, same_counter) refl
 
@@ -180,8 +180,8 @@ module _ (s : Shape) (secret : Bytes) (plans : Plans) (issued : Claim → Bool) 
     pub vote : ShownVote
     pub is : vote_since q l ≡ Some vote
 
-  whole_vote : (n : ℕ) (b : Body Request) → is_whole b ≡ true → (y : ShownVote) × (vote_with n b ≡ Some y)
-  whole_vote n (Whole r) h = ((n, r), refl)
+  whole_vote : (n : ℕ) (b : Body Batch) → is_whole b ≡ true → (y : ShownVote) × (vote_with n b ≡ Some y)
+  whole_vote n (Whole b) h = ((n, b), refl)
   whole_vote n (Short d) h = absurd cc
 
   below : (q p n : ℕ) → q ≤ p → (p ≡ q → ⊥) → p ≡ n + 1 → q ≤ n
@@ -190,11 +190,11 @@ module _ (s : Shape) (secret : Bytes) (plans : Plans) (issued : Claim → Bool) 
   last_if : (w v p n q : ℕ) → w ≡ v → q ≤ (if w == v then p else n) → q ≤ p
   last_if w v p n q same le = rw (eq-eqb w v same) at le
 
-  pub requests_long : (base end : ℕ) (plan : Bytes) (b : OpenBody) → is_plan_body s secret issued base end plan b ≡ true → (b.stable.pos ≡ base) × (length b.requests ≡ end - base)
-  requests_long base end plan b ok =
+  pub batches_long : (base end : ℕ) (plan : Bytes) (b : OpenBody) → is_plan_body s secret issued base end plan b ≡ true → (b.stable.pos ≡ base) × (length b.batches ≡ end - base)
+  batches_long base end plan b ok =
       let a = and_parts (is_stable s issued b.stable) _ (and_parts (is_comparable_body s secret issued base end b) _ ok).0 in
       let c = and_parts (b.stable.pos == base) _ a.1 in
-      let d = and_parts (length b.requests == end - base) _ c.1 in
+      let d = and_parts (length b.batches == end - base) _ c.1 in
       (eqb-true _ _ c.0, eqb-true _ _ d.0)
 
   -- An OPEN that is whole and sound has a vote for each position of its plan.
@@ -202,9 +202,9 @@ module _ (s : Shape) (secret : Bytes) (plans : Plans) (issued : Claim → Bool) 
       → (y : ShownVote) × (plan_vote base c q b ≡ Some y)
   plan_vote_found base end c q plan (Short d) h ok lt le = absurd cc
   plan_vote_found base end c q plan (Whole w) h ok lt le =
-      let long = (requests_long base end plan w ok).1 in
-      elim (slice_get_cases w.requests (q - base - 1)).1 [
-        | inl (r, within, found, same) ↦ ((c, r), rw (lt-ltb base q lt, found) refl)
+      let long = (batches_long base end plan w ok).1 in
+      elim (slice_get_cases w.batches (q - base - 1)).1 [
+        | inl (x, within, found, same) ↦ ((c, x), rw (lt-ltb base q lt, found) refl)
         | inr (short, none) ↦ absurd (omega (arith, long))
       ]
 
@@ -269,11 +269,11 @@ module _ (s : Shape) (secret : Bytes) (plans : Plans) (issued : Claim → Bool) 
             → plan_vote m.evidence.base m.evidence.counter q body ≡ Some y → q ≤ m.evidence.end
         plan_vote_within (Short d) h ok e = absurd cc
         plan_vote_within (Whole w) h ok e =
-            let long = (requests_long m.evidence.base m.evidence.end m.evidence.plan w ok).1 in
+            let long = (batches_long m.evidence.base m.evidence.end m.evidence.plan w ok).1 in
             let a = if_some (nat_lt m.evidence.base q) _ y e in
             let lt = ltb-true m.evidence.base q a.0 in
             let c = map_some _ _ y a.1 in
-            let within = slice_get_within w.requests (q - m.evidence.base - 1) c.0 c.1 in
+            let within = slice_get_within w.batches (q - m.evidence.base - 1) c.0 c.1 in
             omega arith
   found_low (shown.Join m ∷ l) q y g b e = absurd cc
   found_low (shown.Checkpoint m ∷ l) q y g b e = found_low l q y g.1 (b.1 refl) e

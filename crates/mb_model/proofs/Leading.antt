@@ -28,7 +28,7 @@ use Rattle.mb_model.proofs.WholeLists.{not_both, prepare_is, commit_is, open_is,
 use Rattle.mb_model.proofs.ShownOpenings.{opened_list}
 
 module _ (s : Shape) (secret : Bytes) (plans : Plans) (issued : Claim → Bool) (prefix : ℕ → List Bare) (facts : IsConsistentRecord s secret plans issued prefix) where
-  -- the request's digest that a message of the primary puts at a position of a view
+  -- the batch's digest that a message of the primary puts at a position of a view
   unfoldable pub ordered_by : ℕ → ℕ → Bare → Option Bytes
   ordered_by v p (bare.Prepare w q d) = if w == v && q == p then Some d else None
   ordered_by v p (bare.NewView w b e plan d) = if w == v then planned (plans plan) p else None
@@ -233,7 +233,7 @@ module _ (s : Shape) (secret : Bytes) (plans : Plans) (issued : Claim → Bool) 
   none_before v p c m (bare.Open f d1) d r l later is o e x y = absurd cc
   none_before v p c m (bare.Join w f t) d r l later is o e x y = absurd cc
 
-  -- the message at this counter of the primary puts the request there
+  -- the message at this counter of the primary puts the batch there
   pub record Orders (v p : ℕ) (c : ℕ) (r : Bytes) : Type 0 where
     pub says : Bare
     pub there : at_counter (leader v) c ≡ Some says

@@ -29,8 +29,8 @@ module _ {S : Type 0} (self : Identity S) where
   made_next d (stamped.Enter m) (n, e, is) = subst (λ (y : StampedMessage). IsNext d y) is (signed_next d (enter n))
   made_next d (stamped.Open m) (e, plan, o, is) = subst (λ (y : StampedMessage). IsNext d y) is (signed_next d (opening e plan))
   made_next d (stamped.Join m) (e, is) = subst (λ (y : StampedMessage). IsNext d y) is (signed_next d (join self d))
-  made_next d (stamped.Commit m) (p, k, r, e, is) = subst (λ (y : StampedMessage). IsNext d y) is (signed_next d (commit self d p k r))
-  made_next d (stamped.Prepare m) (p, r, e, is) = subst (λ (y : StampedMessage). IsNext d y) is (signed_next d (prepare self d p r))
+  made_next d (stamped.Commit m) (p, k, b, e, is) = subst (λ (y : StampedMessage). IsNext d y) is (signed_next d (commit self d p k b))
+  made_next d (stamped.Prepare m) (p, b, e, is) = subst (λ (y : StampedMessage). IsNext d y) is (signed_next d (prepare self d p b))
   made_next d (stamped.Checkpoint m) (p, j, whole, is) = subst (λ (y : StampedMessage). IsNext d y) is (signed_next d (checkpoint self d p))
 
   arises_numbered : (d : History) → Arises self d → AreNumbered self (all_stamped d)
@@ -39,7 +39,7 @@ module _ {S : Type 0} (self : Identity S) where
   arises_numbered (Stamped m ∷ d) a = (made_next d m a.0, arises_numbered d a.1)
   arises_numbered (_ ∷ d) a = arises_numbered d a.1
 
-  list_after : self.built.gates ≡ true → (events : List Event) → IsOwnList self (after self events)
+  list_after : self.built.order ≡ true → (events : List Event) → IsOwnList self (after self events)
   list_after on events = (steady self on (after self events) (after_arises self events)).list
 
 pub own_lists : (S : Type 0) → OwnLists S

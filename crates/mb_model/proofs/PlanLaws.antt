@@ -1,7 +1,7 @@
 -- What the search over all the shown logs finds.
 --
 -- Hosts: a rising list is as many hosts as it is long. Base: it is the greatest of all that it can be. View: the highest opened one is that of
--- some log. Votes: the lowest one is some log's, and none is lower. Requests: where each position has a vote, the k-th request is that of the
+-- some log. Votes: the lowest one is some log's, and none is lower. Batches: where each position has a vote, the k-th batch is that of the
 -- lowest vote for the k-th position.
 use Rattle.std.proofs.Common.{◌≡◌, ℕ, zero, suc, ◌+◌, ◌≤◌, ◌<◌, Bool, true, false, ◌||◌, cond, List, [], ◌∷◌, length, refl, sym, ap, subst, ◌∙◌, inl, inr, ◌⊎◌, arith, eqb, Option, Some, None, max, add-zero}
 use Rattle.std.specs.Prelude.{◌==◌, nat_lt, nat_le, slice_get, map, unwrap_or}
@@ -11,7 +11,7 @@ use Rattle.std.proofs.lemmas.Option.{none-some, same_Some}
 use Rattle.mb_base.specs.Shapes.{tally}
 use Rattle.mb_parts.specs.declared.certificates.StableCert.{StableCert}
 use Rattle.mb_parts.specs.Claims.{are_rising}
-use Rattle.mb_model.specs.Plans.{ShownLog, ShownVote, newest, opened_view, same_view, greater, highest_view, of_view, lower_vote, lowest_vote, vote_since, requests_from, base_shown, stable_of, opening_bases, greatest_position, cert_at, no_base, all_bases, base_of}
+use Rattle.mb_model.specs.Plans.{ShownLog, ShownVote, newest, opened_view, same_view, greater, highest_view, of_view, lower_vote, lowest_vote, vote_since, batches_from, base_shown, stable_of, opening_bases, greatest_position, cert_at, no_base, all_bases, base_of}
 use Rattle.mb_model.proofs.Members.{In, in_left, in_right, in_map}
 use Rattle.mb_model.proofs.ByHost.{rising_tail}
 
@@ -21,7 +21,7 @@ use Rattle.mb_model.proofs.ByHost.{rising_tail}
 abbrev pub has_host : List ShownLog → ℕ → Bool
 has_host logs h = list_any (λ l. l.host == h) logs
 
-one_more : (p : ℕ → Bool) (a n : ℕ) → p a ≡ false → a < n → tally (λ h. (a == h) || p h) n ≡ 1 + tally p n
+pub one_more : (p : ℕ → Bool) (a n : ℕ) → p a ≡ false → a < n → tally (λ h. (a == h) || p h) n ≡ 1 + tally p n
 one_more p a zero none lt = absurd (omega arith)
 one_more p a (suc n) none lt = elim (cases_Bool (eqb a n)) [
   | inl same ↦
@@ -211,20 +211,20 @@ lowest_from p z (l ∷ logs) e = elim (lower_from (vote_since p (newest l)) (low
   | inr later ↦ let r = lowest_from p z logs later in (r.0, inr r.1, r.2)
 ]
 
--- ---- the requests of the plan
+-- ---- the batches of the plan
 
--- where each position up to the k-th from p on has a vote, the k-th request is that of its vote
-pub request_at : (logs : List ShownLog) (p most k : ℕ) (z : ShownVote) → k < most → ((q : ℕ) → p ≤ q → q < p + k → (y : ShownVote) × (lowest_vote q logs ≡ Some y)) → lowest_vote (p + k) logs ≡ Some z
-    → slice_get (requests_from logs p most) k ≡ Some z.1
-unfolding requests_from
-request_at logs p zero k z lt all e = absurd (omega arith)
-request_at logs p (suc most) zero z lt all e =
+-- where each position up to the k-th from p on has a vote, the k-th batch is that of its vote
+pub batch_at : (logs : List ShownLog) (p most k : ℕ) (z : ShownVote) → k < most → ((q : ℕ) → p ≤ q → q < p + k → (y : ShownVote) × (lowest_vote q logs ≡ Some y)) → lowest_vote (p + k) logs ≡ Some z
+    → slice_get (batches_from logs p most) k ≡ Some z.1
+unfolding batches_from
+batch_at logs p zero k z lt all e = absurd (omega arith)
+batch_at logs p (suc most) zero z lt all e =
     let here : lowest_vote p logs ≡ Some z = rw add-zero at e in
     rw here refl
-request_at logs p (suc most) (suc k) z lt all e =
+batch_at logs p (suc most) (suc k) z lt all e =
     let first = all p (omega arith) (omega arith) in
     let next : lowest_vote (p + 1 + k) logs ≡ Some z = subst (λ (n : ℕ). lowest_vote n logs ≡ Some z) (shift p k) e in
-    let rest = request_at logs (p + 1) most k z (omega arith) (λ q le less. all q (omega arith) (omega arith)) next in
+    let rest = batch_at logs (p + 1) most k z (omega arith) (λ q le less. all q (omega arith) (omega arith)) next in
     rw first.1 rest where
       shift : (p k : ℕ) → p + suc k ≡ p + 1 + k
       shift p k = omega arith

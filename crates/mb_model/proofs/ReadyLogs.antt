@@ -7,7 +7,7 @@ use Rattle.std.proofs.Common.{◌≡◌, ℕ, ◌≤◌, Bool, true, List, [], �
 use Rattle.std.specs.List.{AllByRecursion}
 use Rattle.mb_base.specs.declared.shape.Shape.{Shape}
 use Rattle.mb_base.specs.Shapes.{Bytes}
-use Rattle.mb_parts.specs.Bares.{Bare, request_digest}
+use Rattle.mb_parts.specs.Bares.{Bare, batch_digest}
 use Rattle.mb_parts.specs.Bares as bare
 use Rattle.mb_parts.specs.Ordered.{initial_floor, is_ordered, floor_after, current_view, top_position}
 use Rattle.mb_parts.specs.Claims.{Claim}

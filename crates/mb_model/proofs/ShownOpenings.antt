@@ -11,7 +11,7 @@ use Rattle.mb_base.specs.declared.shape.Shape.{Shape}
 use Rattle.mb_base.specs.Shapes.{Bytes}
 use Rattle.mb_parts.specs.declared.certificates.Evidence.{Evidence}
 use Rattle.mb_parts.specs.declared.certificates.StableCert.{StableCert}
-use Rattle.mb_parts.specs.Bares.{Bare, request_digest}
+use Rattle.mb_parts.specs.Bares.{Bare, batch_digest}
 use Rattle.mb_parts.specs.Bares as bare
 use Rattle.mb_parts.specs.Ordered.{initial_floor, end_of, is_ordered, floor_after, current_view, is_opened, last_position, phase_from, phase_is_open}
 use Rattle.mb_parts.specs.Claims.{Claim}
@@ -29,7 +29,7 @@ use Rattle.mb_model.specs.Plans.{opened_from, view_if_open, vote_since, vote_wit
 use Rattle.mb_model.specs.Committed.{Plans, vote_by, vote_in}
 use Rattle.mb_model.specs.Agreement.{IsConsistentRecord}
 use Rattle.mb_model.proofs.UsableLaws.{AreSound, HaveBodies}
-use Rattle.mb_model.proofs.FoundVotes.{run_start, finds_view, vote_view, plan_vote_found, plan_vote_counter, requests_long, found_or, if_open_is}
+use Rattle.mb_model.proofs.FoundVotes.{run_start, finds_view, vote_view, plan_vote_found, plan_vote_counter, batches_long, found_or, if_open_is}
 use Rattle.mb_model.proofs.Options.{or_some, if_some}
 use Rattle.mb_model.proofs.WholeLists.{prepare_is, commit_is, open_is, join_is, vote_placed, last_grows, view_grows, if_is}
 
@@ -61,7 +61,7 @@ module _ (s : Shape) (secret : Bytes) (plans : Plans) (issued : Claim → Bool) 
   run_base (shown.Open m ∷ l) g b = whole_base m.body (b.0 refl) g.0.body where
     whole_base : (body : Body OpenBody) → is_whole body ≡ true → is_sound_plan s secret issued m.evidence.base m.evidence.end m.evidence.plan body ≡ true
         → ((c : StableCert) × (body_base body ≡ Some c) × (c.pos ≡ m.evidence.base)) ⊎ (m.evidence.base ≡ (floor_after initial_floor hidden).last)
-    whole_base (Whole w) h ok = inl (w.stable, refl, (requests_long s secret plans issued prefix facts host stable hidden m.evidence.base m.evidence.end m.evidence.plan w ok).0)
+    whole_base (Whole w) h ok = inl (w.stable, refl, (batches_long s secret plans issued prefix facts host stable hidden m.evidence.base m.evidence.end m.evidence.plan w ok).0)
     whole_base (Short d) h ok = absurd cc
   run_base (shown.Join m ∷ l) g b = inl (m.stable, refl, refl)
   run_base (shown.Prepare m ∷ l) g b = run_base l g.1 (b.1 refl)

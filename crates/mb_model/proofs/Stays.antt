@@ -4,10 +4,10 @@
 -- view v (`shared`), and as v is below w, the vote stands before its VIEW_CHANGE (`in_list`). Let u be the highest opened view of the logs.
 -- 1. The floor hides the vote: then p is at most the floor's greatest position, so at most the base.
 -- 2. The vote is shown and u is v (`same_view_stays`): the voter's log has a vote for each position from the base to p.
--- 3. The vote is shown and u is above v (`higher_view_stays`): some log opened u, by evidence of u, and by induction the plan of u has the request
+-- 3. The vote is shown and u is above v (`higher_view_stays`): some log opened u, by evidence of u, and by induction the plan of u has the batch
 --    at p or its base is at least p. That log shows the whole plan of u, or begins at or behind its end.
 -- Where every position from the base to p has a vote in u, and the lowest vote at p is not above a counter at which the primary of u ordered the
--- request at p, the plan has that request there (`finish`): for a vote names the message that orders its position, and there is one such. In the
+-- batch at p, the plan has that batch there (`finish`): for a vote names the message that orders its position, and there is one such. In the
 -- second case that counter is the committed one, in the third that of the NEW_VIEW of u. So the lowest counter is taken for this alone.
 use Rattle.std.proofs.Common.{◌≡◌, ℕ, zero, suc, ◌+◌, ◌-◌, ◌≤◌, ◌<◌, Bool, true, List, [], ◌∷◌, ◌++◌, length, refl, sym, ap, subst, ◌∙◌, inl, inr, ◌⊎◌, arith, Option, Some, None}
 use Rattle.std.specs.Prelude.{◌==◌, slice_get, IsTrue}
@@ -19,8 +19,8 @@ use Rattle.mb_base.specs.declared.shape.Shape.{Shape}
 use Rattle.mb_base.specs.Shapes.{Bytes, primary, span, host_count, HasQuorum}
 use Rattle.mb_usig.specs.Tags.{same_bytes}
 use Rattle.mb_parts.specs.declared.certificates.Evidence.{Evidence}
-use Rattle.mb_parts.specs.declared.request.Request.{Request}
-use Rattle.mb_parts.specs.Bares.{Bare, request_digest}
+use Rattle.mb_parts.specs.declared.batch.Batch.{Batch}
+use Rattle.mb_parts.specs.Bares.{Bare, batch_digest}
 use Rattle.mb_parts.specs.Bares as bare
 use Rattle.mb_parts.specs.Ordered.{initial_floor, is_ordered, floor_after, last_position}
 use Rattle.mb_parts.specs.Claims.{Claim}
@@ -29,7 +29,7 @@ use Rattle.mb_parts.specs.Counters.{at_counter, IsBeginning}
 use Rattle.mb_parts.proofs.Counters.{at_bound}
 use Rattle.mb_model.specs.declared.known.Vote.{Vote}
 use Rattle.mb_model.specs.UsableLogs.{bares}
-use Rattle.mb_model.specs.Plans.{ShownLog, ShownVote, newest, opened_view, opened_from, highest_view, by_host, of_view, lowest_vote, vote_since, requests_from, base_of, plan_in_order, view_if_open}
+use Rattle.mb_model.specs.Plans.{ShownLog, ShownVote, newest, opened_view, opened_from, highest_view, by_host, of_view, lowest_vote, vote_since, batches_from, base_of, plan_in_order, view_if_open}
 use Rattle.mb_model.specs.Committed.{Plans, planned, vote_in, leads, IsCommitted}
 use Rattle.mb_model.specs.Votes.{is_vote}
 use Rattle.mb_model.specs.Agreement.{text_of, IsConsistentRecord, IsUsableLog, CommittedStays}
@@ -40,7 +40,7 @@ use Rattle.mb_model.proofs.FoundVotes.{finds_vote, found_is_vote, found_low, run
 use Rattle.mb_model.proofs.ShownOpenings.{opened_low, shown_view, shown_opened, IsShownOpened}
 use Rattle.mb_model.proofs.Leading.{names, one_order, Orders, orders_plan}
 use Rattle.mb_model.proofs.Members.{In, all_in, any_in}
-use Rattle.mb_model.proofs.PlanLaws.{has_host, as_many, stable_below, of_view_in, of_view_is, highest_above, highest_from, lowest_found, lowest_from, request_at}
+use Rattle.mb_model.proofs.PlanLaws.{has_host, as_many, stable_below, of_view_in, of_view_is, highest_above, highest_from, lowest_found, lowest_from, batch_at}
 use Rattle.mb_model.proofs.ReadyLogs.{IsReady, ready, drop_newest, run_low}
 
 all_first : {A : Type 0} (P Q : A → Type 0) (l : List A) → AllByRecursion (λ x. P x × Q x) l → AllByRecursion P l
@@ -90,12 +90,12 @@ module _ (s : Shape) (secret : Bytes) (plans : Plans) (issued : Claim → Bool) 
       )
 
   plan_at : (e : Evidence) (logs : List ShownLog) → plans e.plan ≡ Some (text_of (plan_in_order s logs))
-      → (p : ℕ) (q : Request) (r : Bytes) → (base_of logs).pos < p → slice_get (requests_from (of_view (highest_view logs) logs) ((base_of logs).pos + 1) (span s)) (p - (base_of logs).pos - 1) ≡ Some q
-      → request_digest q ≡ r → planned (plans e.plan) p ≡ Some r
+      → (p : ℕ) (b : Batch) (r : Bytes) → (base_of logs).pos < p → slice_get (batches_from (of_view (highest_view logs) logs) ((base_of logs).pos + 1) (span s)) (p - (base_of logs).pos - 1) ≡ Some b
+      → batch_digest b ≡ r → planned (plans e.plan) p ≡ Some r
   unfolding plan_in_order
-  plan_at e logs is p q r above at same =
+  plan_at e logs is p b r above at same =
       rw (is, lt-ltb (base_of logs).pos p above)
-      (slice_get-map request_digest (requests_from (of_view (highest_view logs) logs) ((base_of logs).pos + 1) (span s)) (p - (base_of logs).pos - 1)
+      (slice_get-map batch_digest (batches_from (of_view (highest_view logs) logs) ((base_of logs).pos + 1) (span s)) (p - (base_of logs).pos - 1)
       ∙ rw at (ap Some same))
 
   -- where each position up to p has a vote, and the lowest one at p is not above the counter that orders r, the plan has r at p
@@ -114,13 +114,13 @@ module _ (s : Shape) (secret : Bytes) (plans : Plans) (issued : Claim → Bool) 
       let once = drop_newest s secret plans issued prefix facts from.0.host _ _ d.once in
       let bound : (1 ≤ c) × (c ≤ length (prefix (primary s u))) = at_bound (prefix (primary s u)) c o.says o.there in
       let order = names s secret plans issued prefix facts from.0.host (bares (newest from.0) ++ d.hidden) once.later u p _ once.is d.ordered vote (omega (arith, low z.0 z.1)) in
-      let same = one_order s secret plans issued prefix facts u p z.0.0 c (request_digest z.0.1) r order o in
+      let same = one_order s secret plans issued prefix facts u p z.0.0 c (batch_digest z.0.1) r order o in
       let reach = found_low s secret plans issued prefix facts from.0.host from.0.body.stable.pos d.hidden (newest from.0) p z.0 d.entries d.bodies from.2 in
       let stable = stable_below from.0 logs here.0 in
       let at : lowest_vote ((base_of logs).pos + 1 + (p - (base_of logs).pos - 1)) (of_view (Some u) logs) ≡ Some z.0 = subst (λ (n : ℕ). lowest_vote n (of_view (Some u) logs) ≡ Some z.0) (back p (base_of logs).pos above) z.1 in
-      let request = request_at (of_view (Some u) logs) ((base_of logs).pos + 1) (span s) (p - (base_of logs).pos - 1) z.0 (omega arith) (λ q le lt. all q (omega arith) (omega arith)) at in
-      let request2 = subst (λ (y : Option ℕ). slice_get (requests_from (of_view y logs) ((base_of logs).pos + 1) (span s)) (p - (base_of logs).pos - 1) ≡ Some z.0.1) (sym high) request in
-      plan_at e logs m.plan p z.0.1 r above request2 same.1 where
+      let batch = batch_at (of_view (Some u) logs) ((base_of logs).pos + 1) (span s) (p - (base_of logs).pos - 1) z.0 (omega arith) (λ q le lt. all q (omega arith) (omega arith)) at in
+      let batch2 = subst (λ (y : Option ℕ). slice_get (batches_from (of_view y logs) ((base_of logs).pos + 1) (span s)) (p - (base_of logs).pos - 1) ≡ Some z.0.1) (sym high) batch in
+      plan_at e logs m.plan p z.0.1 r above batch2 same.1 where
         back : (p b : ℕ) → b < p → p ≡ b + 1 + (p - b - 1)
         back p b lt = omega arith
 

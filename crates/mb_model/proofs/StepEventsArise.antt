@@ -14,7 +14,7 @@ use Rattle.mb_model.specs.CarriedOut.{run_rules, enough}
 use Rattle.mb_model.specs.Given.{Answer, give}
 use Rattle.mb_model.specs.Positions.{is_behind}
 use Rattle.mb_model.specs.HostStep.{on_patience, on_nudge, on_message, on_bytes, if_built, low_rose, with_fetch, finished_where, transition, after}
-use Rattle.mb_model.proofs.StepArises.{Arises, Arisen}
+use Rattle.mb_model.proofs.StepArises.{Arises, IsWhole, ArisesWhole, Arisen}
 use Rattle.mb_model.proofs.StepGivenArise.{give_arises}
 use Rattle.mb_model.proofs.StepRulesArise.{run_arises}
 use Rattle.mb_model.proofs.Options.{of_both}
@@ -29,44 +29,50 @@ module _ {S : Type 0} (self : Identity S) where
   ]
 
   finish_arises : (runs asks : Bool) (before : History) (o : Answer) → Arisen self o.left → Arisen self (finished_where self runs asks before o).left
-  finish_arises true asks before o a = subst (λ (d : History). Arises self d) (sym (fetch_same asks before (run_rules self enough o.left))) (run_arises self enough o.left a)
+  finish_arises true asks before o a = subst (λ (d : History). ArisesWhole self d) (sym (fetch_same asks before (run_rules self enough o.left))) (run_arises self enough o.left a)
   finish_arises false asks before o a = a
 
   patience_arises : (x : Progress) → Arisen self x → Arisen self (on_patience self x).left
   unfolding on_patience
   patience_arises x a = elim (cases_Bool (view_of self x.history == view_limit)) [
     | inl last ↦ rw last a
-    | inr more ↦ rw more (tt, a)
+    | inr more ↦ rw more ((tt, a.0), tt)
   ]
 
   nudge_arises : (x : Progress) → Arisen self x → Arisen self (on_nudge self x).left
   unfolding on_nudge
   nudge_arises x a = elim (cases_Bool (nat_lt (view_of self (Nudged ∷ x.history)) (wish_of self (Nudged ∷ x.history) self.host))) [
-    | inl wishes ↦ rw wishes (tt, a)
-    | inr none ↦ rw none (tt, a)
+    | inl wishes ↦ rw wishes ((tt, a.0), tt)
+    | inr none ↦ rw none ((tt, a.0), tt)
   ]
 
-  message_arises : (d : History) (m : Message) → Arises self d → Arises self (on_message self d m).left.history
+  message_arises : (d : History) (m : Message) → ArisesWhole self d → ArisesWhole self (on_message self d m).left.history
   message_arises d m a = elim (cases_Bool (self.built.kinds (kind_of m))) [
     | inl acts ↦ rw acts (finish_arises _ _ d (give self m (begin d)) (give_arises self m (begin d) a))
     | inr unbuilt ↦ rw unbuilt a
   ]
 
-  bytes_arise : (d : History) (r : Result Message ℕ) → Arises self d → Arises self (on_bytes self r d).left.history
+  bytes_arise : (d : History) (r : Result Message ℕ) → ArisesWhole self d → ArisesWhole self (on_bytes self r d).left.history
   bytes_arise d (Ok m) a = message_arises d m a
   bytes_arise d (Err at) a = a
 
-  signal_arises : (d : History) (o : Answer) → Arises self d → Arisen self o.left → Arises self (if_built self d o).left.history
-  signal_arises d o a arisen = of_both (λ (o : Answer). Arises self o.left.history) self.built.signals o _ arisen a
+  signal_arises : (d : History) (o : Answer) → ArisesWhole self d → Arisen self o.left → ArisesWhole self (if_built self d o).left.history
+  signal_arises d o a arisen = of_both (λ (o : Answer). ArisesWhole self o.left.history) self.built.signals o _ arisen a
 
-  transition_arises : (d : History) (e : Event) → Arises self d → Arises self (transition self d e).left.history
+  pub transition_arises : (d : History) (e : Event) → ArisesWhole self d → ArisesWhole self (transition self d e).left.history
   unfolding transition
   transition_arises d (event.Given bytes) a = bytes_arise d (message_of self.shape bytes) a
   transition_arises d event.Patience a = signal_arises d _ a (finish_arises _ false d (on_patience self (begin d)) (patience_arises (begin d) a))
   transition_arises d event.Nudge a = signal_arises d _ a (finish_arises true true d (on_nudge self (begin d)) (nudge_arises (begin d) a))
 
-  -- After any events the history arose so.
-  pub after_arises : (events : List Event) → Arises self (after self events)
+  arises_after : (events : List Event) → ArisesWhole self (after self events)
   unfolding after
-  after_arises [] = tt
-  after_arises (e ∷ es) = transition_arises (after self es) e (after_arises es)
+  arises_after [] = (tt, tt)
+  arises_after (e ∷ es) = transition_arises (after self es) e (arises_after es)
+
+  -- After any events the history arose so, and no batch is partly served.
+  pub after_arises : (events : List Event) → Arises self (after self events)
+  after_arises events = (arises_after events).0
+
+  pub after_whole : (events : List Event) → IsWhole (after self events)
+  after_whole events = (arises_after events).1

@@ -30,7 +30,7 @@ use Rattle.mb_model.specs.Compared.{compared_in}
 use Rattle.mb_model.specs.Given.{closing, named_prepare, offer_prepare, casts_vote, accept, give_stamped, give_request, give_wish, give_resend, give_fetch, install_where_all, give_state, floor_shown, jump, give_entries, give_log, give}
 use Rattle.mb_model.proofs.Options.{option_cases}
 use Rattle.mb_model.proofs.StepPassed.{passes_stamped, passes_wish, passes_resend, passes_log, passes_request, passes_fetch, passes_state}
-use Rattle.mb_model.proofs.StepArises.{Arises, Arisen}
+use Rattle.mb_model.proofs.StepArises.{ArisesWhole, Arisen}
 
 if_holds : (t b : Bool) → (if t then b else false) ≡ true → b ≡ true
 if_holds true b e = e
@@ -40,30 +40,30 @@ module _ {S : Type 0} (self : Identity S) where
   -- ---- stamped messages
 
   closing_arises : (o : Outcome) (u : Ui) (x : Progress) → Arisen self x → Arisen self (closing o u x)
-  closing_arises (outcome.Illegal r) u x a = (tt, a)
+  closing_arises (outcome.Illegal r) u x a = ((tt, a.0), tt)
   closing_arises o u x a = a
 
-  accepted_arises : (m : StampedMessage) (d : History) → PassesStamped self d m → Arises self d → Arises self (Accepted (as_message m) ∷ d)
-  accepted_arises (stamped.Prepare m) d p a = (p, a)
-  accepted_arises (stamped.Commit m) d p a = (p, a)
-  accepted_arises (stamped.Checkpoint m) d p a = (p, a)
-  accepted_arises (stamped.ViewChange m) d p a = (p, a)
-  accepted_arises (stamped.NewView m) d p a = (p, a)
-  accepted_arises (stamped.Enter m) d p a = (p, a)
-  accepted_arises (stamped.Open m) d p a = (p, a)
-  accepted_arises (stamped.Join m) d p a = (p, a)
+  accepted_arises : (m : StampedMessage) (d : History) → PassesStamped self d m → ArisesWhole self d → ArisesWhole self (Accepted (as_message m) ∷ d)
+  accepted_arises (stamped.Prepare m) d p a = ((p, a.0), tt)
+  accepted_arises (stamped.Commit m) d p a = ((p, a.0), tt)
+  accepted_arises (stamped.Checkpoint m) d p a = ((p, a.0), tt)
+  accepted_arises (stamped.ViewChange m) d p a = ((p, a.0), tt)
+  accepted_arises (stamped.NewView m) d p a = ((p, a.0), tt)
+  accepted_arises (stamped.Enter m) d p a = ((p, a.0), tt)
+  accepted_arises (stamped.Open m) d p a = ((p, a.0), tt)
+  accepted_arises (stamped.Join m) d p a = ((p, a.0), tt)
 
   offer_arises : (m : PrepareMessage) (x : Progress) → Arisen self x → Arisen self (offer_prepare self m x)
   unfolding offer_prepare
   offer_arises m x a = elim (option_cases (stamped_refusal self x.history (stamped.Prepare m))) [
-    | inl none ↦ rw none (passes_stamped self x.history (stamped.Prepare m) none, a)
+    | inl none ↦ rw none ((passes_stamped self x.history (stamped.Prepare m) none, a.0), tt)
     | inr (o, some) ↦ rw some (closing_arises o m.ui x a)
   ]
 
   accept_arises : (m : StampedMessage) (x : Progress) → PassesStamped self x.history m → Arisen self x → Arisen self (accept self m x)
   accept_arises (stamped.Commit m) x p a = elim (cases_Bool (casts_vote self x.history m)) [
-    | inl casts ↦ rw casts (offer_arises (named_prepare self m) (write (Accepted (message.Commit m)) x) (p, a))
-    | inr only ↦ rw only (p, a)
+    | inl casts ↦ rw casts (offer_arises (named_prepare self m) (write (Accepted (message.Commit m)) x) ((p, a.0), tt))
+    | inr only ↦ rw only ((p, a.0), tt)
   ]
   accept_arises m x p a = accepted_arises m x.history p a
 
@@ -79,7 +79,7 @@ module _ {S : Type 0} (self : Identity S) where
   request_arises : (r : Request) (x : Progress) → Arisen self x → Arisen self (give_request self r x).left
   unfolding give_request
   request_arises r x a = elim (option_cases (request_refusal self x.history r)) [
-    | inl none ↦ rw none (passes_request self x.history r none, a)
+    | inl none ↦ rw none ((passes_request self x.history r none, a.0), tt)
     | inr (o, some) ↦ go o some
   ] where
     go : (o : Outcome) → request_refusal self x.history r ≡ Some o → Arisen self (give_request self r x).left
@@ -89,21 +89,21 @@ module _ {S : Type 0} (self : Identity S) where
   wish_arises : (m : ReqViewChange) (x : Progress) → Arisen self x → Arisen self (give_wish self m x).left
   unfolding give_wish
   wish_arises m x a = elim (option_cases (wish_refusal self x.history m)) [
-    | inl none ↦ rw none (passes_wish self x.history m none, a)
+    | inl none ↦ rw none ((passes_wish self x.history m none, a.0), tt)
     | inr (o, some) ↦ rw some a
   ]
 
   resend_arises : (m : Resend) (x : Progress) → Arisen self x → Arisen self (give_resend self m x).left
   unfolding give_resend
   resend_arises m x a = elim (option_cases (resend_refusal self x.history m)) [
-    | inl none ↦ rw none (passes_resend self x.history m none, a)
+    | inl none ↦ rw none ((passes_resend self x.history m none, a.0), tt)
     | inr (o, some) ↦ rw some a
   ]
 
   fetch_arises : (m : Fetch) (x : Progress) → Arisen self x → Arisen self (give_fetch self m x).left
   unfolding give_fetch
   fetch_arises m x a = elim (option_cases (fetch_refusal self x.history m)) [
-    | inl none ↦ rw none (passes_fetch self x.history m none, a)
+    | inl none ↦ rw none ((passes_fetch self x.history m none, a.0), tt)
     | inr (o, some) ↦ rw some a
   ]
 
@@ -118,8 +118,8 @@ module _ {S : Type 0} (self : Identity S) where
   -- a state that is installed is the wanted one
   install_arises : (m : StateMsg) (x : Progress) → PassesState self x.history m → Arisen self x → Arisen self (install_where_all self (write (Accepted (message.State m)) x))
   install_arises m x p a = elim (cases_Bool (is_none (missing self (Accepted (message.State m) ∷ x.history)))) [
-    | inl all ↦ rw all ((refl, above), (p, a))
-    | inr some ↦ rw some (p, a)
+    | inl all ↦ rw all (((refl, above), (p, a.0)), tt)
+    | inr some ↦ rw some ((p, a.0), tt)
   ] where
     above : exec_of (Accepted (message.State m) ∷ x.history) < low_of self (Accepted (message.State m) ∷ x.history)
     above = rw (state_exec x.history m, state_low x.history m) (ltb-true (exec_of x.history) (low_of self x.history) (if_holds (m.pos == low_of self x.history) _ p.wanted))
@@ -131,7 +131,7 @@ module _ {S : Type 0} (self : Identity S) where
     | inr (o, some) ↦ go o some
   ] where
     go : (o : Outcome) → state_refusal self x.history m ≡ Some o → Arisen self (give_state self m x).left
-    go (outcome.BadState part at) some = rw some (tt, a)
+    go (outcome.BadState part at) some = rw some ((tt, a.0), tt)
     go o some = rw some a
 
   -- ---- LOG
@@ -153,7 +153,7 @@ module _ {S : Type 0} (self : Identity S) where
   jump_arises : (h : ℕ) (f : Option Floor) (x : Progress) → (h == self.host) ≡ false → Arisen self x → Arisen self (jump self h f x)
   jump_arises h None x other a = a
   jump_arises h (Some f) x other a = elim (cases_Bool (is_none (closed_at x.history h) && nat_lt (gate x.history h).counter f.counter)) [
-    | inl forward ↦ rw forward (other, a)
+    | inl forward ↦ rw forward ((other, a.0), tt)
     | inr stays ↦ rw stays a
   ]
 
@@ -162,7 +162,7 @@ module _ {S : Type 0} (self : Identity S) where
   log_arises m x a = elim (option_cases (log_refusal self m)) [
     | inl none ↦
         let p = passes_log self m none in
-        rw none (entries_arise m.entries _ (p, jump_arises m.host (floor_shown self m.host m.floor) x p.not_own a))
+        rw none (entries_arise m.entries _ ((p, (jump_arises m.host (floor_shown self m.host m.floor) x p.not_own a).0), tt))
     | inr (o, some) ↦ rw some a
   ]
 

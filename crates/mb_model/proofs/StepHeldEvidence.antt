@@ -133,10 +133,10 @@ module _ {S : Type 0} (self : Identity S) where
       let same : made ≡ m = cc is in
       subst (λ (y : EnterMessage). EnterChecks self.host y) same (record { sender = refl; backup = rw s.1 s.0; claim = own_claim d (enter n) })
 
-  enter_passed : self.built.gates ≡ true → (d : History) (m : EnterMessage) → PassesStamped self d (stamped.Enter m) → EnterChecks m.ui.host m
+  enter_passed : self.built.order ≡ true → (d : History) (m : EnterMessage) → PassesStamped self d (stamped.Enter m) → EnterChecks m.ui.host m
   enter_passed on d m p = record { sender = refl; backup = enter_by_backup (origin d m.ui.host) self.shape m.ui.host _ (taken_of d m.ui.host) m.view m.counter m.plan (p.gate.permitted on); claim = p.gate.certified }
 
-  pub enter_checks : self.built.gates ≡ true → (d : History) → Arises self d → (h : ℕ) (m : EnterMessage) → enter_of d h ≡ Some m → EnterChecks h m
+  pub enter_checks : self.built.order ≡ true → (d : History) → Arises self d → (h : ℕ) (m : EnterMessage) → enter_of d h ≡ Some m → EnterChecks h m
   unfolding enter_of
   enter_checks on [] a h m e = absurd cc
   enter_checks on (Accepted (message.Enter n) ∷ d) a h m e = elim (cases_Bool (n.ui.host == h)) [
@@ -180,17 +180,17 @@ module _ {S : Type 0} (self : Identity S) where
       let same : made ≡ m = cc is in
       subst (λ (y : NewView). NewViewChecks y) same (record { leads = eqb-true self.host (primary self.shape (view_of self d)) s.0; claim = own_claim d (new_view self d changes) })
 
-  new_view_passed : self.built.gates ≡ true → (d : History) (m : NewView) → PassesStamped self d (stamped.NewView m) → NewViewChecks m
+  new_view_passed : self.built.order ≡ true → (d : History) (m : NewView) → PassesStamped self d (stamped.NewView m) → NewViewChecks m
   new_view_passed on d m p = record { leads = new_view_by_primary (origin d m.ui.host) self.shape m.ui.host _ (taken_of d m.ui.host) m.view m.base m.end m.plan _ (p.gate.permitted on); claim = p.gate.certified }
 
-  new_view_added : self.built.gates ≡ true → (d : History) (e : Entry) → Adds self d e → (m : NewView) → new_view_in self d e ≡ Some m → NewViewChecks m
+  new_view_added : self.built.order ≡ true → (d : History) (e : Entry) → Adds self d e → (m : NewView) → new_view_in self d e ≡ Some m → NewViewChecks m
   new_view_added on d (Accepted (message.NewView n)) a m e =
       let t = if_some (is_whole n.body && is_current self d n.view) (Some n) m e in
       subst (λ (y : NewView). NewViewChecks y) (some_is n m t.1) (new_view_passed on d n a)
   new_view_added on d (Stamped (stamped.NewView n)) a m e = subst (λ (y : NewView). NewViewChecks y) (some_is n m e) (own_new_view d a.0 a.1 n a.2)
   new_view_added on d e a m is = absurd cc
 
-  pub new_view_checks : self.built.gates ≡ true → (d : History) → Arises self d → (m : NewView) → new_view_of self d ≡ Some m → NewViewChecks m
+  pub new_view_checks : self.built.order ≡ true → (d : History) → Arises self d → (m : NewView) → new_view_of self d ≡ Some m → NewViewChecks m
   unfolding new_view_of
   new_view_checks on [] a m e = absurd cc
   new_view_checks on (x ∷ d) a m e = elim (or_some (new_view_in self d x) (new_view_of self d) m e) [
@@ -207,7 +207,7 @@ module _ {S : Type 0} (self : Identity S) where
   abbrev sender_of : EnterMessage → ℕ
   sender_of m = m.ui.host
 
-  enters_rise : self.built.gates ≡ true → (d : History) → Arises self d → (n : NewView) → RiseFrom sender_of (Answers n) 0 (enters_for self d n)
+  enters_rise : self.built.order ≡ true → (d : History) → Arises self d → (n : NewView) → RiseFrom sender_of (Answers n) 0 (enters_for self d n)
   enters_rise on d a n = rise_passed sender_of (λ m. EnterChecks m.ui.host m) (answers n) 0 _
       (rise_found sender_of (λ m. EnterChecks m.ui.host m) (enter_of d) found 0 (host_count self.shape)) where
         found : (h : ℕ) (m : EnterMessage) → enter_of d h ≡ Some m → (m.ui.host ≡ h) × EnterChecks m.ui.host m
@@ -238,7 +238,7 @@ module _ {S : Type 0} (self : Identity S) where
   abbrev answer_claim : NewView → EvidenceMember → Claim
   answer_claim n m = record { host = m.host; counter = m.counter; says = bare.Enter n.view n.ui.counter n.plan; cert = m.cert }
 
-  made_checks : self.built.gates ≡ true → (d : History) → Arises self d → (n : NewView) → NewViewChecks n → (e : Evidence) → evidence_with self n (enters_for self d n) ≡ Some e → is_evidence self.shape (valid self) e ≡ true
+  made_checks : self.built.order ≡ true → (d : History) → Arises self d → (n : NewView) → NewViewChecks n → (e : Evidence) → evidence_with self n (enters_for self d n) ≡ Some e → is_evidence self.shape (valid self) e ≡ true
   unfolding is_evidence
   made_checks on d a n c e is =
       let f : ℕ = max_faults self.shape in
@@ -255,7 +255,7 @@ module _ {S : Type 0} (self : Identity S) where
   -- ---- the evidence that is held
 
   -- what a message of another host shows
-  shown_checks : self.built.gates ≡ true → (d : History) (x : Entry) → Adds self d x → (e : Evidence) → evidence_shown x ≡ Some e → is_evidence self.shape (valid self) e ≡ true
+  shown_checks : self.built.order ≡ true → (d : History) (x : Entry) → Adds self d x → (e : Evidence) → evidence_shown x ≡ Some e → is_evidence self.shape (valid self) e ≡ true
   shown_checks on d (Accepted (message.Open m)) a e is = subst (λ (y : Evidence). is_evidence self.shape (valid self) y ≡ true) (some_is m.evidence e is)
       (open_evidence self.shape (valid self) m.evidence _ (open_inside (origin d m.ui.host) self.shape m.ui.host (inner_valid self.shape (valid self)) (taken_of d m.ui.host) m.evidence _ (a.gate.permitted on)))
   shown_checks on d (Accepted (message.Join m)) a e is = join_evidence_valid self.shape (valid self) m.view m.evidence m.stable e
@@ -296,7 +296,7 @@ module _ {S : Type 0} (self : Identity S) where
       (ap (λ (z : Evidence). z.view) (sym (some_is y e t.1)) ∙ eqb-true y.view v t.0, t.1)
 
   -- What can be shown for a view is of this view, and checks.
-  pub shows_checked : self.built.gates ≡ true → (d : History) → Arises self d → ((e : Evidence) → evidence_of self d ≡ Some e → is_evidence self.shape (valid self) e ≡ true)
+  pub shows_checked : self.built.order ≡ true → (d : History) → Arises self d → ((e : Evidence) → evidence_of self d ≡ Some e → is_evidence self.shape (valid self) e ≡ true)
       → (v : ℕ) (e : Evidence) → evidence_for self d v ≡ Some e → (e.view ≡ v) × (is_evidence self.shape (valid self) e ≡ true)
   shows_checked on d a held v e is = elim (or_some (evidence_in v (evidence_of self d)) (option_and_then (λ n. evidence_with self n (enters_for self d n)) (new_view_in_view v (new_view_of self d))) e is) [
     | inl there ↦ let t = in_view v (evidence_of self d) e there in (t.0, held e t.1)
@@ -310,7 +310,7 @@ module _ {S : Type 0} (self : Identity S) where
   own_open : (d : History) (e : Evidence) (plan : Plan) (m : OpenMessage) → signed self d (opening e plan) ≡ stamped.Open m → e ≡ m.evidence
   own_open d e plan m is = cc is
 
-  pub evidence_checks : self.built.gates ≡ true → (d : History) → Arises self d → (e : Evidence) → evidence_of self d ≡ Some e → is_evidence self.shape (valid self) e ≡ true
+  pub evidence_checks : self.built.order ≡ true → (d : History) → Arises self d → (e : Evidence) → evidence_of self d ≡ Some e → is_evidence self.shape (valid self) e ≡ true
   unfolding evidence_of
   evidence_checks on [] a e is = absurd cc
   evidence_checks on (Stamped (stamped.Open m) ∷ d) a e is =

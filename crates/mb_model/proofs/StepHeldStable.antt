@@ -28,7 +28,8 @@ use Rattle.mb_msg.specs.declared.stamped.Stamped.TheVariants as stamped
 use Rattle.mb_model.specs.UsableLogs.{is_whole, is_comparable_body}
 use Rattle.mb_model.specs.Plans.{no_base}
 use Rattle.mb_model.specs.Histories.{Entry, Accepted, Stamped, History, Identity, origin, taken_of, view_of}
-use Rattle.mb_model.specs.Held.{whole_body, change_fault, is_current, change_in, arrived, changes_of, by_rising_host, chosen, plan_from, plan_in_new_view, plan_in_open, plan_in, plan_held, gives_plan, is_news, evidence_of, evidence_view, is_plan_of}
+use Rattle.mb_model.specs.Held.{change_fault, is_current, change_in, arrived, changes_of, by_rising_host, chosen, plan_from, plan_in_new_view, plan_in_open, plan_in, plan_held, gives_plan, is_news, evidence_of, evidence_view, is_plan_of}
+use Rattle.mb_msg.specs.Bodies.{whole_body}
 use Rattle.mb_model.specs.Stable.{checkpoint_in, checkpoint_by, checkpoint_of, first_agreed, checkpoints_at, same_state, stable_member, stable_cert, agreed_at, agreed_above, plan_base, further, learnt_in, stable_of}
 use Rattle.mb_model.specs.Sending.{signed, next_ui}
 use Rattle.mb_model.specs.Making.{checkpoint, new_view}
@@ -229,7 +230,7 @@ module _ {S : Type 0} (self : Identity S) where
 
   open_plan : (m : OpenMessage) (p : ℕ × Plan) → option_and_then (opening_fault self m.evidence) (whole_body m.body) ≡ None → plan_in_open m ≡ Some p → IsStable p.1.base
   open_plan m p passed e =
-      let b = map_some (λ (b : OpenBody). (m.evidence.view, record { base = b.stable; requests = b.requests })) (whole_body m.body) p e in
+      let b = map_some (λ (b : OpenBody). (m.evidence.view, record { base = b.stable; batches = b.batches })) (whole_body m.body) p e in
       let body : is_body_of self m.evidence b.0 ≡ true = not-false _ (then_none (not (is_body_of self m.evidence b.0)) (0, 8) (shown_none (opening_fault self m.evidence) (whole_body m.body) b.0 b.1 passed)) in
       subst (λ (q : ℕ × Plan). IsStable q.1.base) b.2 (and_parts (is_stable self.shape (valid self) b.0.stable) _ (and_parts (is_comparable_body self.shape self.secret (valid self) m.evidence.base m.evidence.end b.0) _ body).0).0
 
@@ -252,7 +253,7 @@ module _ {S : Type 0} (self : Identity S) where
     go None is e = absurd cc
     go (Some p) is e = subst (λ (y : StableCert). IsStable y) (some_is p.1.base c e) (plan_stable d x a before p is)
 
-  learnt_checks : self.built.gates ≡ true → (d : History) (x : Entry) → Arises self (x ∷ d) → (low : ℕ) (c : StableCert) → learnt_in self d low x ≡ Some c → 0 < c.pos → IsStable c
+  learnt_checks : self.built.order ≡ true → (d : History) (x : Entry) → Arises self (x ∷ d) → (low : ℕ) (c : StableCert) → learnt_in self d low x ≡ Some c → 0 < c.pos → IsStable c
   learnt_checks on d (Accepted (message.Join m)) a low c e above = subst (λ (y : StableCert). IsStable y) (some_is m.stable c e)
       (join_stable_valid self.shape (valid self) m.view m.evidence m.stable
       (join_inside (origin d m.ui.host) self.shape m.ui.host (inner_valid self.shape (valid self)) (taken_of d m.ui.host) m.view m.evidence m.stable (a.0.gate.permitted on)))
@@ -274,7 +275,7 @@ module _ {S : Type 0} (self : Identity S) where
   unfolding is_stable
   none_stable = refl
 
-  pub stable_checks : self.built.gates ≡ true → (d : History) → Arises self d → IsStable (stable_of self d)
+  pub stable_checks : self.built.order ≡ true → (d : History) → Arises self d → IsStable (stable_of self d)
   unfolding stable_of
   stable_checks on [] a = none_stable
   stable_checks on (x ∷ d) a = further_checks (stable_of self d) (learnt_in self d (stable_of self d).pos x) (stable_checks on d a.1) (learnt_checks on d x a (stable_of self d).pos)

@@ -2,16 +2,15 @@
 -- number is accepted.
 use Rattle.std.proofs.Common.{◌≡◌, ℕ, ◌+◌, ◌≤◌, ◌<◌, Bool, true, false, ◌&&◌, ◌||◌, not, List, [], ◌∷◌, length, refl, sym, ap, subst, ◌∙◌, inl, inr, arith, eqb, Option, Some, None}
 use Rattle.std.specs.Prelude.{◌==◌, nat_lt, nat_le, option_map, ◌%◌}
-use Rattle.std.specs.List.{range_with_len}
 use Rattle.std.proofs.lemmas.Bool.{and_parts, and_from, or_cases, cases_Bool, eqb-true, eq-eqb, ltb-true, lt-ltb, le-leb, not-true}
 use Rattle.std.proofs.lemmas.List.{length-map}
-use Rattle.mb_base.specs.Shapes.{Bytes, interval, client_count, primary}
+use Rattle.mb_base.specs.Shapes.{Bytes, interval, primary}
 use Rattle.mb_base.specs.declared.shape.Shape.{Shape}
 use Rattle.mb_parts.specs.declared.floor.Floor.{Floor}
-use Rattle.mb_parts.specs.declared.request.Request.{Request}
+use Rattle.mb_parts.specs.declared.batch.Batch.{Batch}
 use Rattle.mb_parts.specs.declared.certificates.Evidence.{Evidence}
 use Rattle.mb_parts.specs.declared.certificates.StableCert.{StableCert}
-use Rattle.mb_parts.specs.Bares.{Bare, request_digest}
+use Rattle.mb_parts.specs.Bares.{Bare, batch_digest}
 use Rattle.mb_parts.specs.Bares as bare
 use Rattle.mb_parts.specs.Certificates.{inner_valid, is_evidence}
 use Rattle.mb_parts.specs.Ordered.{initial_floor, permits, is_ordered, floor_after, current_view, is_opened, is_entered as entered_in, last_position, last_checkpoint, phase_is_open, phase_is_entered, end_of}
@@ -26,14 +25,16 @@ use Rattle.mb_model.specs.Histories.{Stamped, History, Identity, origin, taken_o
 use Rattle.mb_model.specs.Held.{evidence_for, new_view_in_view, new_view_of, chosen, evidence_of, plan_at}
 use Rattle.mb_model.specs.Stable.{stable_of, low_of}
 use Rattle.mb_model.specs.OwnLog.{has_room, has_other_room}
-use Rattle.mb_model.specs.Positions.{exec_of, slot_at, in_window}
+use Rattle.mb_model.specs.Positions.{exec_of, slot_at}
+use Rattle.mb_model.specs.Batches.{first_batch}
 use Rattle.mb_model.specs.Sending.{signed, next_ui}
 use Rattle.mb_model.specs.Making.{prepare, commit, view_change, new_view, enter, opening, join, join_evidence, checkpoint}
 use Rattle.mb_model.specs.GateChecks.{valid}
 use Rattle.mb_model.specs.Passed.{PassesGate}
 use Rattle.mb_model.specs.OwnLists.{inner, IsOwn, IsOwnList}
-use Rattle.mb_model.specs.EnabledRules.{ChangeView, Announce, Enter, Open, Join, Commit, Prepare, target, change_enabled, announce_enabled, enter_enabled, open_enabled, join_enabled, commit_enabled, prepare_enabled, next_position, with_request, unordered, open_with, may_open, has_evidence, lags_behind, is_past_plan}
+use Rattle.mb_model.specs.EnabledRules.{ChangeView, Announce, Enter, Open, Join, Commit, Prepare, target, change_enabled, announce_enabled, enter_enabled, open_enabled, join_enabled, commit_enabled, prepare_enabled, next_position, with_batch, may_order, unordered, open_with, may_open, has_evidence, lags_behind, is_past_plan}
 use Rattle.mb_model.proofs.Options.{if_some, map_some}
+use Rattle.mb_model.proofs.StepPotential.{order_parts}
 use Rattle.mb_model.proofs.StepRounds.{ui_under, bare_under}
 
 -- ---- what a gate permits, by what it stands at
@@ -215,36 +216,39 @@ module _ {S : Type 0} (self : Identity S) where
   abbrev pub IsOrdered : History → ℕ → KnownSlot → Type 0
   IsOrdered d p k = inner self (bare.Commit (view_of self d) p k.counter k.cert k.digest) ≡ true
 
-  commit_place : (q : ℕ) (x : Option KnownSlot) (p : ℕ) (k : KnownSlot) (r : Request) → with_request (Commit q) x ≡ Some (Commit p k r) → q ≡ p
-  commit_place q None p k r e = absurd cc
-  commit_place q (Some j) p k r e = let m = map_some (Commit q j) j.request (Commit p k r) e in cc (m.2)
+  commit_place : (q : ℕ) (x : Option KnownSlot) (p : ℕ) (k : KnownSlot) (b : Batch) → with_batch (Commit q) x ≡ Some (Commit p k b) → q ≡ p
+  commit_place q None p k b e = absurd cc
+  commit_place q (Some j) p k b e = let m = map_some (Commit q j) j.batch (Commit p k b) e in cc (m.2)
 
-  pub commit_permitted : (d : History) (p : ℕ) (k : KnownSlot) (r : Request) → IsOwnList self d → commit_enabled self d ≡ Some (Commit p k r)
-      → IsOrdered d p k → request_digest r ≡ k.digest → IsPermitted d (bare_of (commit self d p k r))
+  pub commit_permitted : (d : History) (p : ℕ) (k : KnownSlot) (b : Batch) → IsOwnList self d → commit_enabled self d ≡ Some (Commit p k b)
+      → IsOrdered d p k → batch_digest b ≡ k.digest → IsPermitted d (bare_of (commit self d p k b))
   unfolding commit_enabled
-  commit_permitted d p k r own e checks same =
-      let t = if_some (is_open self d && (not (is_primary self d) && has_room self d)) (with_request (Commit (next_position self d)) (slot_at self d (next_position self d))) (Commit p k r) e in
+  commit_permitted d p k b own e checks same =
+      let t = if_some (is_open self d && (not (is_primary self d) && has_room self d)) (with_batch (Commit (next_position self d)) (slot_at self d (next_position self d))) (Commit p k b) e in
       let a = and_parts (is_open self d) (not (is_primary self d) && has_room self d) t.0 in
-      let b = and_parts (not (is_primary self d)) (has_room self d) a.1 in
-      let place : next_position self d ≡ p = commit_place (next_position self d) (slot_at self d (next_position self d)) p k r t.1 in
-      by_gate d _ own (subst (λ (q : ℕ). permits (here self d) self.shape self.host (inner self) [] (bare.Commit (view_of self d) q k.counter k.cert (request_digest r)) ≡ true) place
-      (permits_commit (here self d) self.shape self.host (inner self) k.counter k.cert (request_digest r) (not-true _ b.0) a.0 (rw (same, place) checks)))
+      let c = and_parts (not (is_primary self d)) (has_room self d) a.1 in
+      let place : next_position self d ≡ p = commit_place (next_position self d) (slot_at self d (next_position self d)) p k b t.1 in
+      by_gate d _ own (subst (λ (q : ℕ). permits (here self d) self.shape self.host (inner self) [] (bare.Commit (view_of self d) q k.counter k.cert (batch_digest b)) ≡ true) place
+      (permits_commit (here self d) self.shape self.host (inner self) k.counter k.cert (batch_digest b) (not-true _ c.0) a.0 (rw (same, place) checks)))
 
   -- the CHECKPOINT behind an execution
   pub checkpoint_permitted : (d : History) (p : ℕ) → IsOwnList self d → eqb (p % interval self.shape) 0 ≡ true → (here self d).point < p → IsPermitted d (bare_of (checkpoint self d p))
   checkpoint_permitted d p own m more = by_gate d _ own (permits_checkpoint (here self d) self.shape self.host (inner self) p _ _ m more)
 
-  pub prepare_permitted : (d : History) (p : ℕ) (r : Request) → IsOwnList self d → prepare_enabled self d ≡ Some (Prepare p r) → IsPermitted d (bare_of (prepare self d p r))
+  -- where a PREPARE is enabled: the place is free, and the host leads
+  pub order_place : (d : History) (p : ℕ) (b : Batch) → prepare_enabled self d ≡ Some (Prepare p b) → (next_position self d ≡ p) × (is_primary self d ≡ true) × (is_open self d ≡ true)
   unfolding prepare_enabled
-  prepare_permitted d p r own e =
-      let t = if_some (is_open self d && (is_primary self d && (in_window self d (next_position self d) && has_room self d)))
-      (option_map (Prepare (next_position self d)) (unordered self d (range_with_len 0 (client_count self.shape)))) (Prepare p r) e in
-      let a = and_parts (is_open self d) (is_primary self d && (in_window self d (next_position self d) && has_room self d)) t.0 in
-      let b = and_parts (is_primary self d) (in_window self d (next_position self d) && has_room self d) a.1 in
-      let m = map_some (Prepare (next_position self d)) (unordered self d (range_with_len 0 (client_count self.shape))) (Prepare p r) t.1 in
-      let place : next_position self d ≡ p = cc (m.2) in
-      by_gate d _ own (subst (λ (q : ℕ). permits (here self d) self.shape self.host (inner self) [] (bare.Prepare (view_of self d) q (request_digest r)) ≡ true) place
-      (permits_prepare (here self d) self.shape self.host (inner self) (request_digest r) b.0 a.0))
+  order_place d p b e =
+      let t = if_some (may_order self d) (option_map (Prepare (next_position self d)) (first_batch (unordered self d))) (Prepare p b) e in
+      let o = order_parts self d t.0 in
+      let m = map_some (Prepare (next_position self d)) (first_batch (unordered self d)) (Prepare p b) t.1 in
+      (cc (m.2), o.leads, o.opened)
+
+  pub prepare_permitted : (d : History) (p : ℕ) (b : Batch) → IsOwnList self d → prepare_enabled self d ≡ Some (Prepare p b) → IsPermitted d (bare_of (prepare self d p b))
+  prepare_permitted d p b own e =
+      let o = order_place d p b e in
+      by_gate d _ own (subst (λ (q : ℕ). permits (here self d) self.shape self.host (inner self) [] (bare.Prepare (view_of self d) q (batch_digest b)) ≡ true) o.0
+      (permits_prepare (here self d) self.shape self.host (inner self) (batch_digest b) o.1 o.2))
 
   -- ---- no message of the own number is accepted
 

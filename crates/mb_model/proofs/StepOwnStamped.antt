@@ -1,16 +1,15 @@
 -- What each rule stamps goes onto the own list in order, and keeps what goes with that order. So in a history that arises the own list is ordered.
 use Rattle.std.proofs.Common.{◌≡◌, ℕ, ◌+◌, ◌≤◌, ◌<◌, true, false, ◌&&◌, ◌||◌, not, List, [], ◌∷◌, length, refl, sym, ap, subst, ◌∙◌, inl, inr, arith, Option, Some, None}
 use Rattle.std.specs.Prelude.{◌==◌, ◌%◌, ◌-◌, nat_lt, nat_le, option_map, slice_get, if◌then◌else◌}
-use Rattle.std.specs.List.{range_with_len}
 use Rattle.std.proofs.lemmas.Bool.{and_parts, both_ways, or_cases, cases_Bool, eqb-true, eq-eqb, ltb-true, leb-true, not-true, and_from}
 use Rattle.std.proofs.lemmas.Option.{slice_get_within}
-use Rattle.mb_base.specs.Shapes.{interval, client_count, primary}
-use Rattle.mb_parts.specs.declared.request.Request.{Request}
+use Rattle.mb_base.specs.Shapes.{interval, primary}
+use Rattle.mb_parts.specs.declared.batch.Batch.{Batch}
 use Rattle.mb_parts.specs.declared.certificates.Evidence.{Evidence}
 use Rattle.mb_parts.specs.declared.certificates.StableCert.{StableCert}
-use Rattle.mb_parts.specs.Bares.{request_digest}
+use Rattle.mb_parts.specs.Bares.{batch_digest}
 use Rattle.mb_parts.specs.Bares as bare
-use Rattle.mb_parts.specs.Spelling.{request_bytes}
+use Rattle.mb_parts.specs.Spelling.{batch_bytes}
 use Rattle.mb_parts.specs.Claims.{prepare_claim}
 use Rattle.mb_parts.specs.Certificates.{inner_valid, is_evidence, is_stable}
 use Rattle.mb_parts.specs.Ordered.{end_of}
@@ -25,40 +24,40 @@ use Rattle.mb_msg.specs.declared.change.Plan.{Plan}
 use Rattle.mb_msg.specs.declared.stamped.Stamped.{Stamped as StampedMessage}
 use Rattle.mb_msg.specs.declared.stamped.Stamped.TheVariants as stamped
 use Rattle.mb_msg.specs.Stamps.{bare_of}
-use Rattle.mb_msg.specs.Bodies.{body_digest}
+use Rattle.mb_msg.specs.Bodies.{body_digest, whole_body}
 use Rattle.mb_msg.specs.Plans.{plan_end}
 use Rattle.mb_model.specs.declared.known.KnownSlot.{KnownSlot}
 use Rattle.mb_model.specs.Histories.{Entry, Accepted, Stamped, Executed, History, Identity, here, view_of, is_open, is_entered, is_changing, is_primary}
-use Rattle.mb_model.specs.Held.{whole_body, evidence_of, evidence_view, evidence_in}
+use Rattle.mb_model.specs.Held.{evidence_of, evidence_view, evidence_in}
 use Rattle.mb_model.specs.Stable.{stable_of, low_of}
 use Rattle.mb_model.specs.OwnLog.{has_room, has_other_room}
-use Rattle.mb_model.specs.Positions.{exec_of, request_from, slot_of_prepare, slot_of_plan, slot_of_open, slot_by, slot_in, slot_at, in_window}
+use Rattle.mb_model.specs.Positions.{exec_of, batch_from, slot_of_prepare, slot_of_plan, slot_of_open, slot_by, slot_in, slot_at, in_window}
 use Rattle.mb_model.specs.Sending.{signed, next_ui}
 use Rattle.mb_model.specs.Making.{prepare, commit, view_change, new_view, enter, opening, join, join_evidence, checkpoint}
 use Rattle.mb_model.specs.GateChecks.{valid}
-use Rattle.mb_model.specs.EnabledRules.{ChangeView, Announce, Enter, Open, Join, Commit, Prepare, target, change_enabled, announce_enabled, enter_enabled, open_enabled, join_enabled, commit_enabled, prepare_enabled, next_position, with_request, unordered, may_open, is_evidence_of, has_evidence, lags_behind, is_past_plan}
+use Rattle.mb_model.specs.EnabledRules.{ChangeView, Announce, Enter, Open, Join, Commit, Prepare, target, change_enabled, announce_enabled, enter_enabled, open_enabled, join_enabled, commit_enabled, prepare_enabled, next_position, with_batch, may_open, is_evidence_of, has_evidence, lags_behind, is_past_plan}
 use Rattle.mb_model.specs.OwnLists.{inner}
 use Rattle.mb_model.proofs.Options.{if_some, map_some}
 use Rattle.mb_model.proofs.StepArises.{Arises, Makes, JustExecuted}
-use Rattle.mb_model.proofs.StepOwnList.{change_permitted, announce_permitted, enter_permitted, open_permitted, join_permitted, commit_permitted, checkpoint_permitted, prepare_permitted}
+use Rattle.mb_model.proofs.StepOwnList.{change_permitted, announce_permitted, enter_permitted, open_permitted, join_permitted, commit_permitted, checkpoint_permitted, order_place, prepare_permitted}
 use Rattle.mb_model.proofs.StepOwnFloor.{prepare_leads, commit_leads, checkpoint_leads, new_view_leads, enter_leads, change_leads, open_leads, join_leads}
 use Rattle.mb_model.proofs.StepOwnSteady.{shown_below, shown_within, IsSlot, IsSteady, IsKept, empty_steady, other_steady, stamped_steady, found_slot, prepare_slot}
 use Rattle.mb_model.proofs.StepHeldEvidence.{some_is, own_claim, open_seen, shows_checked, evidence_checks}
 use Rattle.mb_model.proofs.StepHeldStable.{stable_checks}
 
 module _ {S : Type 0} (self : Identity S) where
-  -- ---- the request of a slot has the digest that the slot names
+  -- ---- the batch of a slot has the digest that the slot names
 
-  body_named : (b : Body Request) (r : Request) → whole_body b ≡ Some r → request_digest r ≡ body_digest request_bytes b
-  body_named (Whole q) r e = ap (λ (x : Request). request_digest x) (sym (some_is q r e))
-  body_named (Short digest) r e = absurd cc
+  body_named : (body : Body Batch) (b : Batch) → whole_body body ≡ Some b → batch_digest b ≡ body_digest batch_bytes body
+  body_named (Whole c) b e = ap (λ (x : Batch). batch_digest x) (sym (some_is c b e))
+  body_named (Short digest) b e = absurd cc
 
   abbrev IsNamed : KnownSlot → Type 0
-  IsNamed k = (r : Request) → k.request ≡ Some r → request_digest r ≡ k.digest
+  IsNamed k = (b : Batch) → k.batch ≡ Some b → batch_digest b ≡ k.digest
 
   prepare_named : (m : PrepareMessage) (v p : ℕ) (k : KnownSlot) → slot_of_prepare m v p ≡ Some k → IsNamed k
   prepare_named m v p k e =
-      let made : KnownSlot = record { counter = m.ui.counter; cert = m.ui.cert; digest = body_digest request_bytes m.body; request = whole_body m.body } in
+      let made : KnownSlot = record { counter = m.ui.counter; cert = m.ui.cert; digest = body_digest batch_bytes m.body; batch = whole_body m.body } in
       let t = if_some (m.view == v && m.pos == p) (Some made) k e in
       subst (λ (y : KnownSlot). IsNamed y) (some_is made k t.1) (body_named m.body)
 
@@ -66,7 +65,7 @@ module _ {S : Type 0} (self : Identity S) where
   open_named m v p k e =
       let t = if_some (m.evidence.view == v) _ k e in
       let q = map_some (slot_of_plan m.evidence) _ k t.1 in
-      subst (λ (y : KnownSlot). IsNamed y) q.2 (λ r is. ap (λ (x : Request). request_digest x) (sym (some_is q.0 r is)))
+      subst (λ (y : KnownSlot). IsNamed y) q.2 (λ b is. ap (λ (x : Batch). batch_digest x) (sym (some_is q.0 b is)))
 
   entry_named : (x : Entry) (v p : ℕ) (k : KnownSlot) → slot_by x v p ≡ Some k → IsNamed k
   entry_named (Accepted (message.Prepare m)) v p k e = prepare_named m v p k e
@@ -135,13 +134,13 @@ module _ {S : Type 0} (self : Identity S) where
 
   -- ---- OPEN
 
-  -- the position of a request that a plan carries on is at or below its end
-  within_plan : (base p : ℕ) (l : List Request) (r : Request) → request_from base p l ≡ Some r → p ≤ base + length l
-  within_plan base p l r e =
-      let t = if_some (nat_lt base p) (slice_get l (p - base - 1)) r e in
-      omega (arith, ltb-true base p t.0, slice_get_within l (p - base - 1) r t.1)
+  -- the position of a batch that a plan carries on is at or below its end
+  within_plan : (base p : ℕ) (l : List Batch) (b : Batch) → batch_from base p l ≡ Some b → p ≤ base + length l
+  within_plan base p l b e =
+      let t = if_some (nat_lt base p) (slice_get l (p - base - 1)) b e in
+      omega (arith, ltb-true base p t.0, slice_get_within l (p - base - 1) b t.1)
 
-  open_kept : self.built.gates ≡ true → (d : History) → Arises self d → (e : Evidence) (plan : Plan) → open_enabled self d ≡ Some (Open e plan) → IsSteady self d
+  open_kept : self.built.order ≡ true → (d : History) → Arises self d → (e : Evidence) (plan : Plan) → open_enabled self d ≡ Some (Open e plan) → IsSteady self d
       → IsKept self d (opening e plan) (view_of self d) true e.end (here self d).point
   unfolding evidence_of
   open_kept on d a e plan o k =
@@ -165,11 +164,11 @@ module _ {S : Type 0} (self : Identity S) where
 
         placed : (v p : ℕ) (s : KnownSlot) → slot_by (Stamped (signed self d (opening e plan))) v p ≡ Some s → is_evidence_of e plan ≡ true → e.view ≡ view_of self d → (v ≡ view_of self d) × (true ≡ true) × (p ≤ e.end)
         placed v p s f names here_view =
-            let t = if_some (e.view == v) (option_map (slot_of_plan e) (request_from e.base p plan.requests)) s f in
-            let r = map_some (slot_of_plan e) (request_from e.base p plan.requests) s t.1 in
+            let t = if_some (e.view == v) (option_map (slot_of_plan e) (batch_from e.base p plan.batches)) s f in
+            let r = map_some (slot_of_plan e) (batch_from e.base p plan.batches) s t.1 in
             let a = and_parts (e.base == plan.base.pos) _ names in
             let b = and_parts (e.end == plan_end plan) _ a.1 in
-            let low : p ≤ e.base + length plan.requests = within_plan e.base p plan.requests r.0 r.1 in
+            let low : p ≤ e.base + length plan.batches = within_plan e.base p plan.batches r.0 r.1 in
             (sym (eqb-true e.view v t.0) ∙ here_view, refl, omega (arith, low, eqb-true e.base plan.base.pos a.0, eqb-true e.end (plan_end plan) b.0))
 
   -- ---- JOIN
@@ -205,7 +204,7 @@ module _ {S : Type 0} (self : Identity S) where
             (omega (arith, shown_within (view_of self d) (evidence_of self d), low), λ o. absurd (both_ways (is_open self d) (not-true _ c.0) o), has)
       ]
 
-  join_kept : self.built.gates ≡ true → (d : History) → Arises self d → join_enabled self d ≡ Some Join → IsSteady self d → IsKept self d (join self d) (view_of self d) true (low_of self d) (here self d).point
+  join_kept : self.built.order ≡ true → (d : History) → Arises self d → join_enabled self d ≡ Some Join → IsSteady self d → IsKept self d (join self d) (view_of self d) true (low_of self d) (here self d).point
   unfolding evidence_of
   join_kept on d a e k =
       let low = join_low d e k in
@@ -227,30 +226,30 @@ module _ {S : Type 0} (self : Identity S) where
 
   -- ---- COMMIT, PREPARE, CHECKPOINT
 
-  commit_shape : (q : ℕ) (x : Option KnownSlot) (p : ℕ) (s : KnownSlot) (r : Request) → with_request (Commit q) x ≡ Some (Commit p s r) → (q ≡ p) × (x ≡ Some s) × (s.request ≡ Some r)
-  commit_shape q None p s r e = absurd cc
-  commit_shape q (Some j) p s r e =
-      let m = map_some (Commit q j) j.request (Commit p s r) e in
+  commit_shape : (q : ℕ) (x : Option KnownSlot) (p : ℕ) (s : KnownSlot) (b : Batch) → with_batch (Commit q) x ≡ Some (Commit p s b) → (q ≡ p) × (x ≡ Some s) × (s.batch ≡ Some b)
+  commit_shape q None p s b e = absurd cc
+  commit_shape q (Some j) p s b e =
+      let m = map_some (Commit q j) j.batch (Commit p s b) e in
       let slot : j ≡ s = cc (m.2) in
-      let request : m.0 ≡ r = cc (m.2) in
-      (cc (m.2), ap (λ (y : KnownSlot). Some y) slot, ap (λ (y : KnownSlot). y.request) (sym slot) ∙ m.1 ∙ ap (λ (y : Request). Some y) request)
+      let batch : m.0 ≡ b = cc (m.2) in
+      (cc (m.2), ap (λ (y : KnownSlot). Some y) slot, ap (λ (y : KnownSlot). y.batch) (sym slot) ∙ m.1 ∙ ap (λ (y : Batch). Some y) batch)
 
-  commit_seen : (d : History) (p : ℕ) (s : KnownSlot) (r : Request) → commit_enabled self d ≡ Some (Commit p s r) → (p ≡ next_position self d) × (is_open self d ≡ true) × (slot_in self d (view_of self d) p ≡ Some s) × (s.request ≡ Some r)
+  commit_seen : (d : History) (p : ℕ) (s : KnownSlot) (b : Batch) → commit_enabled self d ≡ Some (Commit p s b) → (p ≡ next_position self d) × (is_open self d ≡ true) × (slot_in self d (view_of self d) p ≡ Some s) × (s.batch ≡ Some b)
   unfolding commit_enabled
-  commit_seen d p s r e =
-      let t = if_some (is_open self d && (not (is_primary self d) && has_room self d)) (with_request (Commit (next_position self d)) (slot_at self d (next_position self d))) (Commit p s r) e in
+  commit_seen d p s b e =
+      let t = if_some (is_open self d && (not (is_primary self d) && has_room self d)) (with_batch (Commit (next_position self d)) (slot_at self d (next_position self d))) (Commit p s b) e in
       let a = and_parts (is_open self d) (not (is_primary self d) && has_room self d) t.0 in
-      let m = commit_shape (next_position self d) (slot_at self d (next_position self d)) p s r t.1 in
+      let m = commit_shape (next_position self d) (slot_at self d (next_position self d)) p s b t.1 in
       let there = (if_some (in_window self d (next_position self d)) (slot_in self d (view_of self d) (next_position self d)) s m.1).1 in
       (sym m.0, a.0, subst (λ (q : ℕ). slot_in self d (view_of self d) q ≡ Some s) m.0 there, m.2)
 
-  commit_kept : (d : History) (p : ℕ) (s : KnownSlot) (r : Request) → commit_enabled self d ≡ Some (Commit p s r) → IsSteady self d → IsKept self d (commit self d p s r) (view_of self d) (is_open self d) p (here self d).point
+  commit_kept : (d : History) (p : ℕ) (s : KnownSlot) (b : Batch) → commit_enabled self d ≡ Some (Commit p s b) → IsSteady self d → IsKept self d (commit self d p s b) (view_of self d) (is_open self d) p (here self d).point
   unfolding evidence_of inner_valid
-  commit_kept d p s r e k =
-      let seen = commit_seen d p s r e in
+  commit_kept d p s b e k =
+      let seen = commit_seen d p s b e in
       let place : p ≡ (here self d).last + 1 = seen.0 in
       record {
-        permitted = commit_permitted self d p s r k.list e (certified place (k.slots (view_of self d) p s seen.2)) (slot_named d (view_of self d) p s seen.2 r seen.3);
+        permitted = commit_permitted self d p s b k.list e (certified place (k.slots (view_of self d) p s seen.2)) (slot_named d (view_of self d) p s seen.2 b seen.3);
         leads = commit_leads (here self d) p _ _ _;
         evidence = k.opened;
         end = λ o. omega (arith, k.ended o, place);
@@ -265,31 +264,20 @@ module _ {S : Type 0} (self : Identity S) where
         certified place (inr (inl lower)) = absurd (omega (arith, lower))
         certified place (inr (inr (same, o, low))) = absurd (omega (arith, place, low))
 
-  prepare_seen : (d : History) (p : ℕ) (r : Request) → prepare_enabled self d ≡ Some (Prepare p r) → (p ≡ next_position self d) × (is_primary self d ≡ true)
-  unfolding prepare_enabled
-  prepare_seen d p r e =
-      let t = if_some (is_open self d && (is_primary self d && (in_window self d (next_position self d) && has_room self d)))
-      (option_map (Prepare (next_position self d)) (unordered self d (range_with_len 0 (client_count self.shape)))) (Prepare p r) e in
-      let a = and_parts (is_open self d) (is_primary self d && (in_window self d (next_position self d) && has_room self d)) t.0 in
-      let b = and_parts (is_primary self d) (in_window self d (next_position self d) && has_room self d) a.1 in
-      let m = map_some (Prepare (next_position self d)) (unordered self d (range_with_len 0 (client_count self.shape))) (Prepare p r) t.1 in
-      let place : next_position self d ≡ p = cc (m.2) in
-      (sym place, b.0)
-
-  prepare_kept : (d : History) (p : ℕ) (r : Request) → prepare_enabled self d ≡ Some (Prepare p r) → IsSteady self d → IsKept self d (prepare self d p r) (view_of self d) (is_open self d) p (here self d).point
+  prepare_kept : (d : History) (p : ℕ) (b : Batch) → prepare_enabled self d ≡ Some (Prepare p b) → IsSteady self d → IsKept self d (prepare self d p b) (view_of self d) (is_open self d) p (here self d).point
   unfolding evidence_of
-  prepare_kept d p r e k =
-      let seen = prepare_seen d p r e in
-      let place : p ≡ (here self d).last + 1 = seen.0 in
-      let made : PrepareMessage = record { view = view_of self d; pos = p; body = Whole r; ui = next_ui self d (bare_of (prepare self d p r)) } in
+  prepare_kept d p b e k =
+      let seen = order_place self d p b e in
+      let place : p ≡ (here self d).last + 1 = sym seen.0 in
+      let made : PrepareMessage = record { view = view_of self d; pos = p; body = Whole b; ui = next_ui self d (bare_of (prepare self d p b)) } in
       record {
-        permitted = prepare_permitted self d p r k.list e;
+        permitted = prepare_permitted self d p b k.list e;
         leads = prepare_leads (here self d) p _;
         evidence = k.opened;
         end = λ o. omega (arith, k.ended o, place);
         onward = omega arith;
         within = λ same o. (o, omega (arith, place));
-        slots = λ v q s f. inl (prepare_slot self made (eqb-true self.host (primary self.shape (view_of self d)) seen.1) (own_claim self d (prepare self d p r)) v q s f);
+        slots = λ v q s f. inl (prepare_slot self made (eqb-true self.host (primary self.shape (view_of self d)) seen.1) (own_claim self d (prepare self d p b)) v q s f);
         checkpoint = k.point;
       }
 
@@ -313,17 +301,17 @@ module _ {S : Type 0} (self : Identity S) where
 
   -- ---- any entry
 
-  stamped_added : self.built.gates ≡ true → (d : History) (m : StampedMessage) → Arises self d → Makes self d m → IsSteady self d → IsSteady self (Stamped m ∷ d)
+  stamped_added : self.built.order ≡ true → (d : History) (m : StampedMessage) → Arises self d → Makes self d m → IsSteady self d → IsSteady self (Stamped m ∷ d)
   stamped_added on d (stamped.ViewChange m) a (view, e, is) k = subst (λ (y : StampedMessage). IsSteady self (Stamped y ∷ d)) is (stamped_steady self d (view_change self d view) _ _ _ _ (change_kept d view e k) k)
   stamped_added on d (stamped.NewView m) a (changes, e, is) k = subst (λ (y : StampedMessage). IsSteady self (Stamped y ∷ d)) is (stamped_steady self d (new_view self d changes) _ _ _ _ (announce_kept d changes e k) k)
   stamped_added on d (stamped.Enter m) a (n, e, is) k = subst (λ (y : StampedMessage). IsSteady self (Stamped y ∷ d)) is (stamped_steady self d (enter n) _ _ _ _ (enter_kept d n e k) k)
   stamped_added on d (stamped.Open m) a (e, plan, o, is) k = subst (λ (y : StampedMessage). IsSteady self (Stamped y ∷ d)) is (stamped_steady self d (opening e plan) _ _ _ _ (open_kept on d a e plan o k) k)
   stamped_added on d (stamped.Join m) a (e, is) k = subst (λ (y : StampedMessage). IsSteady self (Stamped y ∷ d)) is (stamped_steady self d (join self d) _ _ _ _ (join_kept on d a e k) k)
-  stamped_added on d (stamped.Commit m) a (p, s, r, e, is) k = subst (λ (y : StampedMessage). IsSteady self (Stamped y ∷ d)) is (stamped_steady self d (commit self d p s r) _ _ _ _ (commit_kept d p s r e k) k)
-  stamped_added on d (stamped.Prepare m) a (p, r, e, is) k = subst (λ (y : StampedMessage). IsSteady self (Stamped y ∷ d)) is (stamped_steady self d (prepare self d p r) _ _ _ _ (prepare_kept d p r e k) k)
+  stamped_added on d (stamped.Commit m) a (p, s, b, e, is) k = subst (λ (y : StampedMessage). IsSteady self (Stamped y ∷ d)) is (stamped_steady self d (commit self d p s b) _ _ _ _ (commit_kept d p s b e k) k)
+  stamped_added on d (stamped.Prepare m) a (p, b, e, is) k = subst (λ (y : StampedMessage). IsSteady self (Stamped y ∷ d)) is (stamped_steady self d (prepare self d p b) _ _ _ _ (prepare_kept d p b e k) k)
   stamped_added on d (stamped.Checkpoint m) a (p, j, whole, is) k = subst (λ (y : StampedMessage). IsSteady self (Stamped y ∷ d)) is (stamped_steady self d (checkpoint self d p) _ _ _ _ (checkpoint_kept d p j whole k) k)
 
-  pub steady : self.built.gates ≡ true → (d : History) → Arises self d → IsSteady self d
+  pub steady : self.built.order ≡ true → (d : History) → Arises self d → IsSteady self d
   steady on [] a = empty_steady self
   steady on (Stamped m ∷ d) a = stamped_added on d m a.1 a.0 (steady on d a.1)
   steady on (x ∷ d) a = other_steady self on d x tt a.0 (steady on d a.1)

@@ -15,11 +15,11 @@ use Rattle.mb_msg.specs.declared.normal.Prepare.{Prepare as PrepareMessage}
 use Rattle.mb_msg.specs.declared.stamped.Stamped.{Stamped as StampedMessage}
 use Rattle.mb_msg.specs.declared.stamped.Stamped.TheVariants as stamped
 use Rattle.mb_msg.specs.Stamps.{bare_of}
-use Rattle.mb_msg.specs.Bodies.{body_digest}
-use Rattle.mb_parts.specs.Spelling.{request_bytes}
+use Rattle.mb_msg.specs.Bodies.{body_digest, whole_body}
+use Rattle.mb_parts.specs.Spelling.{batch_bytes}
 use Rattle.mb_model.specs.declared.known.KnownSlot.{KnownSlot}
 use Rattle.mb_model.specs.Histories.{Entry, Accepted, Stamped, Jumped, Executed, Installed, History, Identity, origin, taken_of, said, stamped as all_stamped, here, view_of, is_open}
-use Rattle.mb_model.specs.Held.{whole_body, evidence_of, evidence_view, evidence_shown, evidence_in, is_current, is_news, with_news}
+use Rattle.mb_model.specs.Held.{evidence_of, evidence_view, evidence_shown, evidence_in, is_current, is_news, with_news}
 use Rattle.mb_model.specs.Positions.{exec_of, slot_by, slot_of_prepare, slot_in, counts_at, if_counts_at}
 use Rattle.mb_model.specs.Sending.{signed, next_ui}
 use Rattle.mb_model.specs.Making.{join_evidence}
@@ -121,12 +121,12 @@ module _ {S : Type 0} (self : Identity S) where
 
   other_exec : (d : History) (x : Entry) → Adds self d x → exec_of d ≤ exec_of (x ∷ d)
   unfolding exec_of
-  other_exec d (Executed slot) a = omega (arith, a)
+  other_exec d (Executed slot) a = omega (arith, a.place)
   other_exec d (Installed pos parts) a = omega (arith, a.1)
   other_exec d x a = omega arith
 
   other_due : (d : History) (x : Entry) → Adds self d x → (p : ℕ) → JustExecuted self (x ∷ d) p → exec_of d < p
-  other_due d (Executed slot) a p j = omega (arith, a, j)
+  other_due d (Executed slot) a p j = omega (arith, a.place, j)
   other_due d x a p j = absurd j
 
   -- evidence that comes to be held for an open view is of a later one
@@ -145,7 +145,7 @@ module _ {S : Type 0} (self : Identity S) where
   pub prepare_slot : (m : PrepareMessage) → m.ui.host ≡ primary self.shape m.view → valid self (stamp_claim (stamped.Prepare m)) ≡ true
       → (v p : ℕ) (k : KnownSlot) → slot_of_prepare m v p ≡ Some k → valid self (prepare_claim self.shape v p k.counter k.cert k.digest) ≡ true
   prepare_slot m leads claim v p k e =
-      let made : KnownSlot = record { counter = m.ui.counter; cert = m.ui.cert; digest = body_digest request_bytes m.body; request = whole_body m.body } in
+      let made : KnownSlot = record { counter = m.ui.counter; cert = m.ui.cert; digest = body_digest batch_bytes m.body; batch = whole_body m.body } in
       let t = if_some (m.view == v && m.pos == p) (Some made) k e in
       let a = and_parts (m.view == v) (m.pos == p) t.0 in
       let view : m.view ≡ v = eqb-true m.view v a.0 in
@@ -155,7 +155,7 @@ module _ {S : Type 0} (self : Identity S) where
       (subst (λ (w : ℕ). valid self (prepare_claim self.shape w p made.counter made.cert made.digest) ≡ true) view
       (subst (λ (q : ℕ). valid self (prepare_claim self.shape m.view q made.counter made.cert made.digest) ≡ true) pos first))
 
-  other_slot : self.built.gates ≡ true → (d : History) (x : Entry) → IsOther x → Adds self d x → (v p : ℕ) (k : KnownSlot) → slot_by x v p ≡ Some k → valid self (prepare_claim self.shape v p k.counter k.cert k.digest) ≡ true
+  other_slot : self.built.order ≡ true → (d : History) (x : Entry) → IsOther x → Adds self d x → (v p : ℕ) (k : KnownSlot) → slot_by x v p ≡ Some k → valid self (prepare_claim self.shape v p k.counter k.cert k.digest) ≡ true
   other_slot on d (Stamped m) o a v p k e = absurd o
   other_slot on d (Accepted (message.Prepare m)) o a v p k e =
       prepare_slot m (prepare_by_primary (origin d m.ui.host) self.shape m.ui.host _ (taken_of d m.ui.host) m.view m.pos _ (a.gate.permitted on)) a.gate.certified v p k e
@@ -168,7 +168,7 @@ module _ {S : Type 0} (self : Identity S) where
     | inr new ↦ inr (if_some (counts_at self (x ∷ d) v p) (slot_by x v p) k new).1
   ]
 
-  pub other_steady : self.built.gates ≡ true → (d : History) (x : Entry) → IsOther x → Adds self d x → IsSteady d → IsSteady (x ∷ d)
+  pub other_steady : self.built.order ≡ true → (d : History) (x : Entry) → IsOther x → Adds self d x → IsSteady d → IsSteady (x ∷ d)
   other_steady on d x o a k =
       let g = other_gate d x o k.list.own a in
       let same : here self (x ∷ d) ≡ here self d = rw (g.from, g.taken) refl in

@@ -6,6 +6,7 @@ use Rattle.std.specs.Option.{option_or}
 use Rattle.std.proofs.lemmas.Bool.{not-false, eqb-false, ltb-false, leb-false, lt-ltb}
 use Rattle.mb_base.specs.declared.names.Ui.{Ui}
 use Rattle.mb_parts.specs.declared.request.Request.{Request}
+use Rattle.mb_parts.specs.declared.batch.Batch.{Batch}
 use Rattle.mb_parts.specs.Certificates.{is_stable}
 use Rattle.mb_msg.specs.declared.message.Body.{Body}
 use Rattle.mb_msg.specs.declared.message.Body.TheVariants.{Whole, Bare as Short}
@@ -22,13 +23,15 @@ use Rattle.mb_model.specs.UsableLogs.{Fault}
 use Rattle.mb_msg.specs.declared.event.Outcome.{Outcome}
 use Rattle.mb_msg.specs.declared.event.Outcome.TheVariants as outcome
 use Rattle.mb_model.specs.Histories.{Accepted, History, Identity, gate}
-use Rattle.mb_model.specs.Held.{whole_body, change_fault, wish_of}
+use Rattle.mb_model.specs.Held.{change_fault, wish_of}
+use Rattle.mb_msg.specs.Bodies.{whole_body}
 use Rattle.mb_model.specs.Stable.{low_of}
 use Rattle.mb_model.specs.Positions.{exec_of}
 use Rattle.mb_model.specs.Execution.{pending, snapshot_of}
 use Rattle.mb_model.specs.Sending.{next_of}
-use Rattle.mb_model.specs.GateChecks.{rule_of, is_bad_ui, is_own_future, conviction, is_stale, is_ahead, is_permitted, gate_refusal, identifier_refusal, valid}
-use Rattle.mb_model.specs.KindChecks.{unusable, only_where, is_badly_tagged, is_beyond, is_of_later_view, is_of_view, body_refusal, vote_refusal, new_view_fault, opening_fault, kind_refusal, stamped_refusal}
+use Rattle.mb_model.specs.GateChecks.{is_bad_ui, is_own_future, conviction, is_stale, is_ahead, is_permitted, gate_refusal, identifier_refusal, valid}
+use Rattle.mb_parts.specs.Rules.{rule_of}
+use Rattle.mb_model.specs.KindChecks.{unusable, only_where, is_badly_tagged, has_bad_tag, is_beyond, is_of_later_view, is_of_view, body_refusal, vote_refusal, new_view_fault, opening_fault, kind_refusal, stamped_refusal}
 use Rattle.mb_model.specs.PlainChecks.{last_seq, is_behind_pending, number_refusal, request_refusal, fetch_refusal, is_wanted, is_list_right, wrong_part, wrong_digest, are_all_held, bad_state, state_refusal, is_bad_wish, has_news_for, is_certified_floor, is_certified_evidence, wish_refusal, resend_refusal, log_refusal}
 use Rattle.mb_model.specs.Passed.{PassesGate, PassesBody, PassesVote, PassesKind, PassesStamped, PassesRequest, PassesWish, PassesResend, PassesLog, PassesFetch, PassesState}
 use Rattle.mb_model.proofs.Options.{or_none, then_none}
@@ -72,7 +75,7 @@ module _ {S : Type 0} (self : Identity S) where
       let convicted : Option Outcome = option_map outcome.Convicted (conviction self d u) in
       let stale : Option Outcome = then_some (is_stale self d u) (outcome.Stale (next_of d u.host)) in
       let ahead : Option Outcome = then_some (is_ahead self d u) (outcome.Ahead (next_of d u.host)) in
-      let illegal : Option Outcome = then_some (self.built.gates && not (is_permitted self d m)) (outcome.Illegal (rule_of (bare_of m))) in
+      let illegal : Option Outcome = then_some (self.built.order && not (is_permitted self d m)) (outcome.Illegal (rule_of (bare_of m))) in
       let a = or_none bad_ui (option_or own_future (option_or convicted (option_or stale (option_or ahead illegal)))) e in
       let b = or_none own_future (option_or convicted (option_or stale (option_or ahead illegal))) a.1 in
       let c = or_none convicted (option_or stale (option_or ahead illegal)) b.1 in
@@ -83,14 +86,14 @@ module _ {S : Type 0} (self : Identity S) where
         not_future = then_none (is_own_future self d u) outcome.Idle b.0;
         not_convicted = map_none outcome.Convicted (conviction self d u) c.0;
         next = next_counter (gate d u.host).counter u.counter (then_none (is_stale self d u) _ f.0) (then_none (is_ahead self d u) _ g.0);
-        permitted = permits_where self.built.gates (is_permitted self d m) (then_none (self.built.gates && not (is_permitted self d m)) _ g.1);
+        permitted = permits_where self.built.order (is_permitted self d m) (then_none (self.built.order && not (is_permitted self d m)) _ g.1);
       }
 
-  passes_body : (d : History) (pos : ℕ) (b : Body Request) → body_refusal self d pos b ≡ None → PassesBody self d pos b
-  passes_body d pos (Whole r) e = then_none (is_badly_tagged self r) outcome.BadTag e
+  passes_body : (d : History) (pos : ℕ) (b : Body Batch) → body_refusal self d pos b ≡ None → PassesBody self d pos b
+  passes_body d pos (Whole b) e = then_none (has_bad_tag self b) outcome.BadTag e
   passes_body d pos (Short digest) e = then_none (nat_lt (exec_of d) pos) _ e
 
-  passes_vote : (d : History) (view pos : ℕ) (b : Body Request) → vote_refusal self d view pos b ≡ None → PassesVote self d view pos b
+  passes_vote : (d : History) (view pos : ℕ) (b : Body Batch) → vote_refusal self d view pos b ≡ None → PassesVote self d view pos b
   unfolding vote_refusal
   passes_vote d view pos b e =
       let beyond : Option Outcome = then_some (is_beyond self d pos) (outcome.BeyondWindow (low_of self d)) in

@@ -19,7 +19,8 @@ use Rattle.mb_msg.specs.declared.stamped.Shown.TheVariants as shown
 use Rattle.mb_model.specs.UsableLogs.{bares, newest_first, floor_of, fault_from, is_comparable_body, is_sound_plan, log_fault}
 use Rattle.mb_model.specs.Plans.{ShownLog, newest, body_base, base_shown, log_of, by_host, of_view, highest_view, stable_of, opening_bases, greatest_position, cert_at, no_base, all_bases, base_of, plan_in_order, plan_of, opened_view, same_view}
 use Rattle.mb_model.specs.Histories.{Identity}
-use Rattle.mb_model.specs.Held.{whole_body, change_fault, shown_log, logs_of, plan_from}
+use Rattle.mb_model.specs.Held.{change_fault, shown_log, logs_of, plan_from}
+use Rattle.mb_msg.specs.Bodies.{whole_body}
 use Rattle.mb_model.specs.GateChecks.{valid}
 use Rattle.mb_model.proofs.Options.{option_cases, or_none, then_none, map_some}
 use Rattle.mb_model.proofs.UsableLaws.{AreSound, all_sound}

@@ -1,16 +1,17 @@
--- A number that each rule lowers, so that the rules come to an end. Here its definition, and the rules that order and execute requests.
+-- A number that each rule lowers, so that the rules come to an end. Here its definition, and the rules that order and execute batches.
 use Rattle.std.proofs.Common.{◌≡◌, ℕ, zero, suc, ◌+◌, ◌-◌, ◌*◌, ◌≤◌, ◌<◌, Bool, true, false, ◌&&◌, not, cond, List, [], ◌∷◌, length, take, refl, sym, ap, subst, ◌∙◌, inl, inr, ◌⊎◌, arith, eqb, max, Option, Some, None}
 use Rattle.std.specs.Prelude.{◌==◌, nat_lt, nat_le, option_map, if◌then◌else◌, ◌%◌, count_by}
-use Rattle.std.specs.List.{range_with_len}
 use Rattle.std.specs.Option.{option_or}
 use Rattle.std.proofs.lemmas.Bool.{and_parts, cases_Bool, eqb-true, eq-eqb, eqb-false, ltb-true, ltb-false, leb-true}
 use Rattle.std.proofs.lemmas.List.Sums.{sum_by-cons}
-use Rattle.mb_base.specs.Shapes.{IsShape, tally, host_count, client_count, interval, quorum, span}
+use Rattle.mb_base.specs.Shapes.{IsShape, tally, host_count, interval, quorum, span}
 use Rattle.mb_parts.specs.declared.request.Request.{Request}
+use Rattle.mb_parts.specs.declared.batch.Batch.{Batch}
 use Rattle.mb_parts.specs.declared.certificates.StableCert.{StableCert}
 use Rattle.mb_parts.specs.declared.certificates.FloorCert.{FloorCert}
-use Rattle.mb_parts.specs.Spelling.{request_bytes}
+use Rattle.mb_parts.specs.Spelling.{batch_bytes}
 use Rattle.mb_parts.specs.Ordered.{current_view, is_opened, is_entered as entered_in}
+use Rattle.mb_msg.specs.declared.event.Placed.{Placed}
 use Rattle.mb_msg.specs.declared.event.Slot.{Slot}
 use Rattle.mb_msg.specs.declared.message.Body.{Body}
 use Rattle.mb_msg.specs.declared.message.Body.TheVariants.{Whole}
@@ -27,16 +28,17 @@ use Rattle.mb_model.specs.Votes.{is_vote}
 use Rattle.mb_model.specs.Service.{is_fresh}
 use Rattle.mb_model.specs.States.{state_digest}
 use Rattle.mb_model.specs.UsableLogs.{normal_limit, other_limit}
-use Rattle.mb_model.specs.Histories.{Entry, Accepted, Stamped, Executed, History, Identity, origin, taken_of, stamped as all_stamped, counter_of, view_of, is_open, is_changing, is_primary}
+use Rattle.mb_model.specs.Histories.{Entry, Accepted, Stamped, Served, Executed, History, Identity, origin, taken_of, stamped as all_stamped, counter_of, here, view_of, is_open, is_changing, is_primary}
 use Rattle.mb_model.specs.Held.{wish_of, quorum_wish, new_view_of, evidence_of, plan_held, plan_at, opened_by}
 use Rattle.mb_model.specs.Stable.{stable_of, low_of, learnt_in, further, log_floor, floor_counter, cut_by, floor_from, is_kept, checkpoint_in}
 use Rattle.mb_model.specs.OwnLog.{own_log, log_start, is_normal, has_room, is_unspent}
-use Rattle.mb_model.specs.Positions.{exec_of, vote_of, vote_by, vote_with, counts_opens, open_vote, open_vote_by, slot_vote, slot_of_open, slot_at, in_window, position_limit, counts_at, matching}
+use Rattle.mb_model.specs.Positions.{exec_of, vote_of, vote_at, vote_by, vote_with, counts_opens, open_vote, open_vote_by, slot_vote, slot_of_open, slot_at, in_window, position_limit, counts_at, matching}
+use Rattle.mb_model.specs.Batches.{first_batch}
 use Rattle.mb_model.specs.Execution.{state_of}
 use Rattle.mb_model.specs.Sending.{Progress, signed, no_ui}
 use Rattle.mb_model.specs.Making.{present_parts, floors_under}
-use Rattle.mb_model.specs.EnabledRules.{Commit as CommitAt, Execute as ExecuteAt, Prepare as PrepareAt, target, commit_enabled, execute_enabled, prepare_enabled, with_request, next_position, unordered, if_committed, is_committed}
-use Rattle.mb_model.specs.CarriedOut.{carry_out, execute, with_checkpoint}
+use Rattle.mb_model.specs.EnabledRules.{Commit as CommitAt, Execute as ExecuteAt, Prepare as PrepareAt, target, commit_enabled, execute_enabled, prepare_enabled, with_batch, next_position, ahead_limit, may_order, unordered, if_committed, is_committed}
+use Rattle.mb_model.specs.CarriedOut.{placed_in, serve, serve_all, slot_for, carry_out, execute, with_checkpoint}
 use Rattle.mb_model.proofs.Options.{or_some, if_some, map_some}
 use Rattle.mb_model.proofs.Quorums.{tally_some}
 
@@ -120,9 +122,9 @@ opens_count (Accepted (message.Prepare m)) o = refl
 opens_count (Accepted (message.Commit m)) o = refl
 opens_count e o = o
 
-with_voter : (voter h v p view pos : ℕ) (body : Body Request) (counter : ℕ) (x : Vote) → vote_with voter h v p view pos body counter ≡ Some x → voter ≡ h
+with_voter : (voter h v p view pos : ℕ) (body : Body Batch) (counter : ℕ) (x : Vote) → vote_with voter h v p view pos body counter ≡ Some x → voter ≡ h
 with_voter voter h v p view pos body counter x e =
-    let t = if_some (view == v && (pos == p && voter == h)) (Some (record { counter = counter; request = body_digest request_bytes body })) x e in
+    let t = if_some (view == v && (pos == p && voter == h)) (Some (record { counter = counter; request = body_digest batch_bytes body })) x e in
     let a = and_parts (view == v) (pos == p && voter == h) t.0 in
     let b = and_parts (pos == p) (voter == h) a.1 in
     eqb-true voter h b.1
@@ -275,6 +277,17 @@ module _ {S : Type 0} (self : Identity S) where
     reach = refl;
   }
 
+  pub course_served : (d : History) (pos : ℕ) (placed : Placed) → SameCourse d (Served pos placed ∷ d)
+  unfolding origin taken_of wish_of new_view_of evidence_of reach
+  course_served d pos placed = record {
+    view = refl;
+    changing = refl;
+    wishes = λ h. max_none (wish_of self d h);
+    new_view = refl;
+    evidence = refl;
+    reach = refl;
+  }
+
   pub course_executed : (d : History) (slot : Slot) → SameCourse d (Executed slot ∷ d)
   unfolding origin taken_of wish_of new_view_of evidence_of reach
   course_executed d slot = record {
@@ -348,19 +361,36 @@ module _ {S : Type 0} (self : Identity S) where
     | inr full ↦ rw full (inl refl)
   ]
 
-  -- what an execution leaves
-  pub execution_leaves : (p : ℕ) (r : Request) (x : Progress) → (slot : Slot) × (slot.pos ≡ p)
-      × (((execute self p r x).history ≡ Executed slot ∷ x.history) ⊎ ((m : Checkpoint) × ((execute self p r x).history ≡ Stamped (signed self (Executed slot ∷ x.history) (stamped.Checkpoint m)) ∷ Executed slot ∷ x.history)))
+  -- ---- what an execution leaves
+
+  pub served_history : (p : ℕ) (r : Request) (x : Progress) → (serve self p r x).history ≡ Served p (placed_in self x.history r) ∷ x.history
+  served_history p r x = elim (cases_Bool (is_fresh (state_of self x.history) r)) [
+    | inl fresh ↦ rw fresh refl
+    | inr again ↦ rw again refl
+  ]
+
+  -- Requests that are served leave what holds behind each of them.
+  pub served_keeps : (P : History → History → Type 0) → ((d : History) → P d d) → ((a b c : History) → P a b → P b c → P a c) → ((d : History) (pos : ℕ) (placed : Placed) → P d (Served pos placed ∷ d))
+      → (p : ℕ) (rs : List Request) (x : Progress) → P x.history (serve_all self p rs x).history
+  unfolding serve_all
+  served_keeps P same joined one p [] x = same x.history
+  served_keeps P same joined one p (r ∷ rs) x =
+      let now : P x.history (serve self p r x).history = subst (λ (d : History). P x.history d) (sym (served_history p r x)) (one x.history p (placed_in self x.history r)) in
+      joined x.history (serve self p r x).history (serve_all self p (r ∷ rs) x).history now (served_keeps P same joined one p rs (serve self p r x))
+
+  course_same : (d : History) → SameCourse d d
+  course_same d = record { view = refl; changing = refl; wishes = λ h. refl; new_view = refl; evidence = refl; reach = refl }
+
+  pub served_course : (p : ℕ) (rs : List Request) (x : Progress) → SameCourse x.history (serve_all self p rs x).history
+  served_course p rs x = served_keeps SameCourse course_same course_then course_served p rs x
+
+  pub execution_leaves : (p : ℕ) (b : Batch) (x : Progress) → (slot : Slot) × (slot.pos ≡ p)
+      × (((execute self p b x).history ≡ Executed slot ∷ (serve_all self p b.requests x).history)
+      ⊎ ((m : Checkpoint) × ((execute self p b x).history ≡ Stamped (signed self (Executed slot ∷ (serve_all self p b.requests x).history) (stamped.Checkpoint m)) ∷ Executed slot ∷ (serve_all self p b.requests x).history)))
   unfolding execute
-  execution_leaves p r x = elim (cases_Bool (self.built.checkpoints && p % interval self.shape == 0)) [
-    | inr between ↦ rw between (elim (cases_Bool (is_fresh (state_of self x.history) r)) [
-      | inl fresh ↦ rw fresh (_, refl, inl refl)
-      | inr again ↦ rw again (_, refl, inl refl)
-    ])
-    | inl interval ↦ rw interval (elim (cases_Bool (is_fresh (state_of self x.history) r)) [
-      | inl fresh ↦ rw fresh (_, refl, checkpoint_leaves p _)
-      | inr again ↦ rw again (_, refl, checkpoint_leaves p _)
-    ])
+  execution_leaves p b x = elim (cases_Bool (self.built.checkpoints && p % interval self.shape == 0)) [
+    | inr between ↦ rw between (slot_for self (serve_all self p b.requests x).history p, refl, inl refl)
+    | inl interval ↦ rw interval (slot_for self (serve_all self p b.requests x).history p, refl, checkpoint_leaves p _)
   ]
 
   exec_after : (d : History) (slot : Slot) (m : Checkpoint) → exec_of (Stamped (signed self (Executed slot ∷ d) (stamped.Checkpoint m)) ∷ Executed slot ∷ d) ≡ slot.pos
@@ -372,62 +402,77 @@ module _ {S : Type 0} (self : Identity S) where
   exec_then d slot = refl
 
   -- a vote of f+1 hosts for the next position: it lies within reach
-  quorum_reaches : IsShape self.shape → (d : History) (v p : ℕ) (x : Vote) → nat_le (quorum self.shape) (matching self d v p x) ≡ true → p ≤ reach self d
-  quorum_reaches k d v p x e =
-      let two : 2 ≤ matching self d v p x = omega (arith, k.faults.0, leb-true (quorum self.shape) (matching self d v p x) e) in
-      let h = another (λ g. is_vote (vote_of self d g v p) x) self.host (host_count self.shape) two in
-      go h.0 h.3 (vote_of self d h.0 v p) refl h.2
+  quorum_reaches : IsShape self.shape → (d : History) (p : ℕ) (x : Vote) → nat_le (quorum self.shape) (matching self d p x) ≡ true → p ≤ reach self d
+  quorum_reaches k d p x e =
+      let two : 2 ≤ matching self d p x = omega (arith, k.faults.0, leb-true (quorum self.shape) (matching self d p x) e) in
+      let h = another (λ g. is_vote (vote_at self d g p) x) self.host (host_count self.shape) two in
+      go h.0 h.3 (vote_at self d h.0 p) refl h.2
     where
-      go : (h : ℕ) → (h ≡ self.host → ⊥) → (y : Option Vote) → vote_of self d h v p ≡ y → is_vote y x ≡ true → p ≤ reach self d
+      go : (h : ℕ) → (h ≡ self.host → ⊥) → (y : Option Vote) → vote_at self d h p ≡ y → is_vote y x ≡ true → p ≤ reach self d
       go h other None there same = absurd cc
-      go h other (Some y) there same = vote_within d h v p y other there
+      go h other (Some y) there same = vote_within d h (view_of self d) p y other (if_some (in_window self d p) (vote_of self d h (view_of self d) p) y there).1
 
   -- ---- the rules as they are carried out
 
-  pub commit_rule : (x : Progress) (p : ℕ) (k : KnownSlot) (r : Request) → commit_enabled self x.history ≡ Some (CommitAt p k r)
-      → potential self (carry_out self (CommitAt p k r) x).history < potential self x.history
+  pub commit_rule : (x : Progress) (p : ℕ) (k : KnownSlot) (b : Batch) → commit_enabled self x.history ≡ Some (CommitAt p k b)
+      → potential self (carry_out self (CommitAt p k b) x).history < potential self x.history
   unfolding commit_enabled carry_out
-  commit_rule x p k r e =
-      let t = if_some (is_open self x.history && (not (is_primary self x.history) && has_room self x.history)) (with_request (CommitAt (next_position self x.history)) (slot_at self x.history (next_position self x.history))) (CommitAt p k r) e in
+  commit_rule x p k b e =
+      let t = if_some (is_open self x.history && (not (is_primary self x.history) && has_room self x.history)) (with_batch (CommitAt (next_position self x.history)) (slot_at self x.history (next_position self x.history))) (CommitAt p k b) e in
       let a = and_parts (is_open self x.history) (not (is_primary self x.history) && has_room self x.history) t.0 in
-      let b = and_parts (not (is_primary self x.history)) (has_room self x.history) a.1 in
-      commit_lowers x.history (record { view = view_of self x.history; pos = p; counter = k.counter; cert = k.cert; body = Whole r; ui = no_ui }) b.1
+      let c = and_parts (not (is_primary self x.history)) (has_room self x.history) a.1 in
+      commit_lowers x.history (record { view = view_of self x.history; pos = p; counter = k.counter; cert = k.cert; body = Whole b; ui = no_ui }) c.1
 
-  pub prepare_rule : (x : Progress) (p : ℕ) (r : Request) → prepare_enabled self x.history ≡ Some (PrepareAt p r)
-      → potential self (carry_out self (PrepareAt p r) x).history < potential self x.history
+  -- what lets a primary order
+  pub record MayOrder (d : History) : Type 0 where
+    pub opened : is_open self d ≡ true
+    pub leads : is_primary self d ≡ true
+    pub inside : in_window self d (next_position self d) ≡ true
+    pub near : (here self d).last < exec_of d + ahead_limit
+    pub room : has_room self d ≡ true
+
+  pub order_parts : (d : History) → may_order self d ≡ true → MayOrder d
+  order_parts d e =
+      let near : Bool = nat_lt (here self d).last (exec_of d + ahead_limit) in
+      let a = and_parts (is_open self d) (is_primary self d && (in_window self d (next_position self d) && (near && has_room self d))) e in
+      let b = and_parts (is_primary self d) (in_window self d (next_position self d) && (near && has_room self d)) a.1 in
+      let c = and_parts (in_window self d (next_position self d)) (near && has_room self d) b.1 in
+      let f = and_parts near (has_room self d) c.1 in
+      record { opened = a.0; leads = b.0; inside = c.0; near = ltb-true (here self d).last (exec_of d + ahead_limit) f.0; room = f.1 }
+
+  pub prepare_rule : (x : Progress) (p : ℕ) (b : Batch) → prepare_enabled self x.history ≡ Some (PrepareAt p b)
+      → potential self (carry_out self (PrepareAt p b) x).history < potential self x.history
   unfolding prepare_enabled carry_out
-  prepare_rule x p r e =
+  prepare_rule x p b e =
       let d : History = x.history in
-      let t = if_some (is_open self d && (is_primary self d && (in_window self d (next_position self d) && has_room self d)))
-      (option_map (PrepareAt (next_position self d)) (unordered self d (range_with_len 0 (client_count self.shape)))) (PrepareAt p r) e in
-      let a = and_parts (is_open self d) (is_primary self d && (in_window self d (next_position self d) && has_room self d)) t.0 in
-      let b = and_parts (is_primary self d) (in_window self d (next_position self d) && has_room self d) a.1 in
-      let c = and_parts (in_window self d (next_position self d)) (has_room self d) b.1 in
-      prepare_lowers d (record { view = view_of self d; pos = p; body = Whole r; ui = no_ui }) c.1
+      let t = if_some (may_order self d) (option_map (PrepareAt (next_position self d)) (first_batch (unordered self d))) (PrepareAt p b) e in
+      prepare_lowers d (record { view = view_of self d; pos = p; body = Whole b; ui = no_ui }) (order_parts d t.0).room
 
-  committed_slot : (d : History) (q p : ℕ) (r : Request) (x : Option KnownSlot) → if_committed self d q x ≡ Some (ExecuteAt p r)
+  committed_slot : (d : History) (q p : ℕ) (b : Batch) (x : Option KnownSlot) → if_committed self d q x ≡ Some (ExecuteAt p b)
       → (k : KnownSlot) × (q ≡ p) × (is_committed self d q k ≡ true)
-  committed_slot d q p r None e = absurd cc
-  committed_slot d q p r (Some k) e =
-      let t = if_some (is_committed self d q k) (option_map (ExecuteAt q) k.request) (ExecuteAt p r) e in
-      let m = map_some (ExecuteAt q) k.request (ExecuteAt p r) t.1 in
+  committed_slot d q p b None e = absurd cc
+  committed_slot d q p b (Some k) e =
+      let t = if_some (is_committed self d q k) (option_map (ExecuteAt q) k.batch) (ExecuteAt p b) e in
+      let m = map_some (ExecuteAt q) k.batch (ExecuteAt p b) t.1 in
       (k, cc (m.2), t.0)
 
-  pub execute_rule : IsShape self.shape → (x : Progress) (p : ℕ) (r : Request) → execute_enabled self x.history ≡ Some (ExecuteAt p r)
-      → potential self (carry_out self (ExecuteAt p r) x).history < potential self x.history
+  pub execute_rule : IsShape self.shape → (x : Progress) (p : ℕ) (b : Batch) → execute_enabled self x.history ≡ Some (ExecuteAt p b)
+      → potential self (carry_out self (ExecuteAt p b) x).history < potential self x.history
   unfolding execute_enabled carry_out
-  execute_rule k x p r e =
+  execute_rule k x p b e =
       let d : History = x.history in
-      let t = if_some (is_open self d && nat_le (low_of self d) (exec_of d)) (if_committed self d (exec_of d + 1) (slot_at self d (exec_of d + 1))) (ExecuteAt p r) e in
+      let t = if_some (is_open self d && nat_le (low_of self d) (exec_of d)) (if_committed self d (exec_of d + 1) (slot_at self d (exec_of d + 1))) (ExecuteAt p b) e in
       let a = and_parts (is_open self d) (nat_le (low_of self d) (exec_of d)) t.0 in
       let low : low_of self d ≤ exec_of d = leb-true (low_of self d) (exec_of d) a.1 in
-      let s = committed_slot d (exec_of d + 1) p r (slot_at self d (exec_of d + 1)) t.1 in
-      let far : exec_of d + 1 ≤ reach self d = quorum_reaches k d (view_of self d) (exec_of d + 1) (slot_vote s.0) s.2 in
-      let l = execution_leaves p r x in
+      let s = committed_slot d (exec_of d + 1) p b (slot_at self d (exec_of d + 1)) t.1 in
+      let far : exec_of d + 1 ≤ reach self d = quorum_reaches k d (exec_of d + 1) (slot_vote s.0) s.2 in
+      let l = execution_leaves p b x in
+      let f : History = (serve_all self p b.requests x).history in
       let place : l.0.pos ≡ exec_of d + 1 = l.1 ∙ sym s.1 in
+      let executed : SameCourse d (Executed l.0 ∷ f) = course_then d f _ (served_course p b.requests x) (course_executed f l.0) in
       elim l.2 [
         | inl plain ↦ subst (λ (h : History). potential self h < potential self d) (sym plain)
-            (lower_by_position k d _ (course_executed d l.0) low far (exec_then d l.0 ∙ place))
+            (lower_by_position k d _ executed low far (exec_then f l.0 ∙ place))
         | inr (m, with_one) ↦ subst (λ (h : History). potential self h < potential self d) (sym with_one)
-            (lower_by_position k d _ (course_then d _ _ (course_executed d l.0) (course_checkpoint (Executed l.0 ∷ d) m)) low far (exec_after d l.0 m ∙ place))
+            (lower_by_position k d _ (course_then d _ _ executed (course_checkpoint (Executed l.0 ∷ f) m)) low far (exec_after f l.0 m ∙ place))
       ]

@@ -1,6 +1,6 @@
 -- After each event of a host no rule is left undone.
 use Rattle.std.proofs.Common.{◌≡◌, ℕ, zero, suc, ◌+◌, Bool, true, false, ◌&&◌, ◌||◌, not, List, [], ◌∷◌, refl, ap, ◌∙◌, inl, inr, Option, Some, None}
-use Rattle.std.specs.Prelude.{is_none, ◌==◌, if◌then◌else◌, nat_le, option_map, Result, Ok, Err}
+use Rattle.std.specs.Prelude.{is_none, ◌==◌, if◌then◌else◌, nat_le, option_map, filter_map, Result, Ok, Err}
 use Rattle.std.specs.List.{range_with_len}
 use Rattle.std.proofs.lemmas.Bool.{cases_Bool}
 use Rattle.mb_base.specs.Shapes.{IsShape, quorum, tally, host_count, client_count}
@@ -29,11 +29,12 @@ use Rattle.mb_model.specs.Stable.{stable_of, low_of}
 use Rattle.mb_model.specs.OwnLog.{has_room, has_other_room}
 use Rattle.mb_model.specs.Positions.{exec_of, slot_in, slot_at, in_window, is_behind}
 use Rattle.mb_model.specs.Execution.{pending}
+use Rattle.mb_model.specs.Batches.{first_batch}
 use Rattle.mb_model.specs.Sending.{Progress, begin, note}
 use Rattle.mb_model.specs.KindChecks.{stamped_refusal}
 use Rattle.mb_model.specs.PlainChecks.{request_refusal, wish_refusal, resend_refusal, log_refusal, fetch_refusal, state_refusal}
 use Rattle.mb_model.specs.Compared.{compared_in}
-use Rattle.mb_model.specs.EnabledRules.{Rule, Commit, Prepare, rule_where, next_rule, change_enabled, announce_enabled, enter_enabled, open_enabled, join_enabled, commit_enabled, execute_enabled, prepare_enabled, with_request, next_position, if_committed, unordered, IsQuiescent}
+use Rattle.mb_model.specs.EnabledRules.{Rule, Commit, Prepare, rule_where, next_rule, change_enabled, announce_enabled, enter_enabled, open_enabled, join_enabled, commit_enabled, execute_enabled, prepare_enabled, with_batch, next_position, if_committed, unordered_of, unordered, may_order, IsQuiescent}
 use Rattle.mb_model.specs.CarriedOut.{run_rules, enough}
 use Rattle.mb_model.specs.Given.{Answer, closing, give_stamped, give_request, give_wish, give_resend, give_fetch, give_state, give_log, give}
 use Rattle.mb_model.specs.HostStep.{on_message, if_built, on_patience, on_nudge, on_bytes, low_rose, with_fetch, finished, finished_where, transition, rules_follow, is_taken}
@@ -213,20 +214,24 @@ module _ {S : Type 0} (self : Identity S) where
 
   no_commit : commit_enabled self [] ≡ None
   unfolding commit_enabled
-  no_commit = ap (λ x. rule_where (is_open self [] && (not (is_primary self []) && has_room self [])) (with_request (Commit (next_position self [])) x)) (no_slot (next_position self [])) ∙ none_branches _ None refl
+  no_commit = ap (λ x. rule_where (is_open self [] && (not (is_primary self []) && has_room self [])) (with_batch (Commit (next_position self [])) x)) (no_slot (next_position self [])) ∙ none_branches _ None refl
 
   no_execute : execute_enabled self [] ≡ None
   unfolding execute_enabled
   no_execute = ap (λ x. rule_where (is_open self [] && nat_le (low_of self []) (exec_of [])) (if_committed self [] (exec_of [] + 1) x)) (no_slot (exec_of [] + 1)) ∙ none_branches _ None refl
 
-  no_pending : (l : List ℕ) → unordered self [] l ≡ None
-  unfolding unordered pending
+  no_pending : (l : List ℕ) → filter_map (unordered_of self []) l ≡ []
+  unfolding pending
   no_pending [] = refl
   no_pending (c ∷ cs) = no_pending cs
 
+  none_unordered : unordered self [] ≡ []
+  unfolding unordered
+  none_unordered = no_pending (range_with_len 0 (client_count self.shape))
+
   no_prepare : prepare_enabled self [] ≡ None
   unfolding prepare_enabled
-  no_prepare = ap (λ x. rule_where (is_open self [] && (is_primary self [] && (in_window self [] (next_position self []) && has_room self []))) (option_map (Prepare (next_position self [])) x)) (no_pending (range_with_len 0 (client_count self.shape))) ∙ none_branches _ None refl
+  no_prepare = ap (λ (l : List Request). rule_where (may_order self []) (option_map (Prepare (next_position self [])) (first_batch l))) none_unordered ∙ none_branches _ None refl
 
   -- at first no rule is due
   pub begins_quiescent : IsQuiescent self []

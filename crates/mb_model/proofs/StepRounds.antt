@@ -1,13 +1,13 @@
 -- The rules come to an end: each of them lowers the potential, so after enough rounds none is enabled, whatever the history.
 use Rattle.std.proofs.Common.{◌≡◌, ℕ, zero, suc, ◌+◌, ◌-◌, ◌≤◌, ◌<◌, Bool, true, false, ◌&&◌, ◌||◌, not, cond, List, ◌∷◌, length, refl, sym, ap, subst, ◌∙◌, inl, inr, arith, eqb, max, Option, Some, None}
 use Rattle.std.specs.Prelude.{◌==◌, nat_lt, nat_le, option_map, option_and_then, if◌then◌else◌, count_by}
-use Rattle.std.specs.List.{list_any, range_with_len}
+use Rattle.std.specs.List.{list_any}
 use Rattle.std.proofs.lemmas.Bool.{and_parts, cases_Bool, eqb-true, eq-eqb, eqb-false, ltb-true, ltb-false, leb-true, leb-false, lt-ltb, le-leb}
 use Rattle.std.proofs.lemmas.List.Sums.{sum_by-cons}
-use Rattle.mb_base.specs.Shapes.{IsShape, tally, host_count, client_count, max_faults, quorum, primary}
+use Rattle.mb_base.specs.Shapes.{IsShape, tally, host_count, max_faults, quorum, primary}
 use Rattle.mb_base.specs.declared.names.Ui.{Ui}
 use Rattle.mb_parts.specs.declared.floor.Floor.{Floor}
-use Rattle.mb_parts.specs.declared.request.Request.{Request}
+use Rattle.mb_parts.specs.declared.batch.Batch.{Batch}
 use Rattle.mb_parts.specs.declared.certificates.Evidence.{Evidence}
 use Rattle.mb_parts.specs.Bares.{Bare}
 use Rattle.mb_parts.specs.Ordered.{current_view, is_opened, is_entered as entered_in, is_opening, is_entering, phase_from, phase_is_open, phase_is_entered}
@@ -28,10 +28,11 @@ use Rattle.mb_model.specs.Histories.{Stamped, History, Identity, origin, taken_o
 use Rattle.mb_model.specs.Held.{wish_of, quorum_wish, new_view_of, evidence_of, evidence_view, plan_held, plan_from, chosen, new_view_in_view, evidence_in, evidence_for, evidence_with, enters_for, plan_at}
 use Rattle.mb_model.specs.Stable.{stable_of, low_of, log_floor}
 use Rattle.mb_model.specs.OwnLog.{own_log, is_normal, has_room, has_other_room, is_unspent}
-use Rattle.mb_model.specs.Positions.{exec_of, slot_at, in_window}
+use Rattle.mb_model.specs.Positions.{exec_of, slot_at}
+use Rattle.mb_model.specs.Batches.{first_batch}
 use Rattle.mb_model.specs.Sending.{Progress, signed, next_ui, no_ui}
 use Rattle.mb_model.specs.Making.{new_view, view_change, enter, opening, join, join_evidence}
-use Rattle.mb_model.specs.EnabledRules.{Rule, ChangeView, Announce, Enter, Open, Join, Commit, Execute, Prepare, target, new_view_number, change_enabled, announce_enabled, enter_enabled, open_enabled, join_enabled, commit_enabled, execute_enabled, prepare_enabled, next_rule, open_with, is_evidence_of, may_open, lags_behind, is_past_plan, has_evidence, with_request, next_position, unordered, if_committed, is_committed}
+use Rattle.mb_model.specs.EnabledRules.{Rule, ChangeView, Announce, Enter, Open, Join, Commit, Execute, Prepare, target, new_view_number, change_enabled, announce_enabled, enter_enabled, open_enabled, join_enabled, commit_enabled, execute_enabled, prepare_enabled, next_rule, open_with, is_evidence_of, may_open, lags_behind, is_past_plan, has_evidence, with_batch, next_position, unordered, may_order, if_committed, is_committed}
 use Rattle.mb_model.specs.CarriedOut.{carry_out, run_rules, enough}
 use Rattle.mb_model.proofs.Options.{option_cases, or_some, if_some, map_some}
 use Rattle.mb_model.proofs.StepPotential.{reach, calls, ahead, places, normal_in, others_in, potential, not_above, reach_within, log_with, quorum_same, max_none, few_places, commit_rule, prepare_rule, execute_rule}
@@ -86,7 +87,7 @@ entered_not_changing : (o : Bool) → changing_of o true ≡ false
 entered_not_changing true = refl
 entered_not_changing false = refl
 
-tally_more : (p q : ℕ → Bool) (n : ℕ) → ((h : ℕ) → p h ≡ true → q h ≡ true) → tally p n ≤ tally q n
+pub tally_more : (p q : ℕ → Bool) (n : ℕ) → ((h : ℕ) → p h ≡ true → q h ≡ true) → tally p n ≤ tally q n
 tally_more p q zero f = omega arith
 tally_more p q (suc n) f = elim (cases_Bool (p n)) [
   | inl holds ↦ rw (holds, f n holds) (omega (arith, tally_more p q n f))
@@ -369,7 +370,7 @@ module _ {S : Type 0} (self : Identity S) where
       let c = and_parts (may_open self d) (has_other_room self d) t.0 in
       let m = open_shape (evidence_for self d (view_of self d)) (plan_at self d (view_of self d)) rule t.1 in
       let there : m.0.view ≡ view_of self d = evidence_view_is d (view_of self d) m.0 m.2 in
-      let v : SameView d (Stamped (signed self d (opening m.0 m.1)) ∷ d) = opens d (record { evidence = m.0; body = Whole (record { stable = m.1.base; requests = m.1.requests }); ui = no_ui }) there in
+      let v : SameView d (Stamped (signed self d (opening m.0 m.1)) ∷ d) = opens d (record { evidence = m.0; body = Whole (record { stable = m.1.base; batches = m.1.batches }); ui = no_ui }) there in
       subst (λ (r : Rule). Lowers x r) m.3 (lower_other d _ v refl refl refl (others_lower d (signed self d (opening m.0 m.1)) refl refl c.1))
 
   lowers_join : (x : Progress) (rule : Rule) → join_enabled self x.history ≡ Some rule → Lowers x rule
@@ -383,15 +384,15 @@ module _ {S : Type 0} (self : Identity S) where
       let v : SameView d (Stamped (signed self d (join self d)) ∷ d) = joins d (record { view = view_of self d; evidence = join_evidence self d; stable = stable_of self d; ui = no_ui }) in
       subst (λ (r : Rule). Lowers x r) (some_is Join rule t.1) (lower_other d _ v refl refl refl (others_lower d (signed self d (join self d)) refl refl c.1))
 
-  commit_shape : (q : ℕ) (k : Option KnownSlot) (rule : Rule) → with_request (Commit q) k ≡ Some rule → (j : KnownSlot) × (r : Request) × (Commit q j r ≡ rule)
+  commit_shape : (q : ℕ) (k : Option KnownSlot) (rule : Rule) → with_batch (Commit q) k ≡ Some rule → (j : KnownSlot) × (b : Batch) × (Commit q j b ≡ rule)
   commit_shape q None rule e = absurd cc
-  commit_shape q (Some j) rule e = let m = map_some (Commit q j) j.request rule e in (j, m.0, m.2)
+  commit_shape q (Some j) rule e = let m = map_some (Commit q j) j.batch rule e in (j, m.0, m.2)
 
   lowers_commit : (x : Progress) (rule : Rule) → commit_enabled self x.history ≡ Some rule → Lowers x rule
   unfolding commit_enabled
   lowers_commit x rule e =
       let d : History = x.history in
-      let t = if_some (is_open self d && (not (is_primary self d) && has_room self d)) (with_request (Commit (next_position self d)) (slot_at self d (next_position self d))) rule e in
+      let t = if_some (is_open self d && (not (is_primary self d) && has_room self d)) (with_batch (Commit (next_position self d)) (slot_at self d (next_position self d))) rule e in
       let m = commit_shape (next_position self d) (slot_at self d (next_position self d)) rule t.1 in
       let enabled : commit_enabled self d ≡ Some (Commit (next_position self d) m.0 m.1) = e ∙ ap (λ (r : Rule). Some r) (sym m.2) in
       subst (λ (r : Rule). Lowers x r) m.2 (commit_rule self x (next_position self d) m.0 m.1 enabled)
@@ -400,17 +401,16 @@ module _ {S : Type 0} (self : Identity S) where
   unfolding prepare_enabled
   lowers_prepare x rule e =
       let d : History = x.history in
-      let t = if_some (is_open self d && (is_primary self d && (in_window self d (next_position self d) && has_room self d)))
-      (option_map (Prepare (next_position self d)) (unordered self d (range_with_len 0 (client_count self.shape)))) rule e in
-      let m = map_some (Prepare (next_position self d)) (unordered self d (range_with_len 0 (client_count self.shape))) rule t.1 in
+      let t = if_some (may_order self d) (option_map (Prepare (next_position self d)) (first_batch (unordered self d))) rule e in
+      let m = map_some (Prepare (next_position self d)) (first_batch (unordered self d)) rule t.1 in
       let enabled : prepare_enabled self d ≡ Some (Prepare (next_position self d) m.0) = e ∙ ap (λ (r : Rule). Some r) (sym m.2) in
       subst (λ (r : Rule). Lowers x r) m.2 (prepare_rule self x (next_position self d) m.0 enabled)
 
-  execute_shape : (d : History) (q : ℕ) (k : Option KnownSlot) (rule : Rule) → if_committed self d q k ≡ Some rule → (r : Request) × (Execute q r ≡ rule)
+  execute_shape : (d : History) (q : ℕ) (k : Option KnownSlot) (rule : Rule) → if_committed self d q k ≡ Some rule → (b : Batch) × (Execute q b ≡ rule)
   execute_shape d q None rule e = absurd cc
   execute_shape d q (Some k) rule e =
-      let t = if_some (is_committed self d q k) (option_map (Execute q) k.request) rule e in
-      let m = map_some (Execute q) k.request rule t.1 in (m.0, m.2)
+      let t = if_some (is_committed self d q k) (option_map (Execute q) k.batch) rule e in
+      let m = map_some (Execute q) k.batch rule t.1 in (m.0, m.2)
 
   lowers_execute : IsShape self.shape → (x : Progress) (rule : Rule) → execute_enabled self x.history ≡ Some rule → Lowers x rule
   unfolding execute_enabled

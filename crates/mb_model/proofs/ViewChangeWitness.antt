@@ -10,7 +10,7 @@ use Rattle.mb_base.specs.Shapes.{Bytes, primary}
 use Rattle.mb_usig.specs.Tags.{same_bytes}
 use Rattle.mb_usig.proofs.OnLiterals.{tags_on_literals}
 use Rattle.mb_parts.specs.declared.certificates.Evidence.{Evidence}
-use Rattle.mb_parts.specs.Bares.{Bare, bare_bytes, request_digest}
+use Rattle.mb_parts.specs.Bares.{Bare, bare_bytes, batch_digest}
 use Rattle.mb_parts.specs.Bares as bare
 use Rattle.mb_parts.specs.BareReading.{bare_of_bytes, bares_of}
 use Rattle.mb_parts.specs.Counters.{at_counter}
@@ -22,13 +22,13 @@ use Rattle.mb_parts.proofs.IssuedLaws.{are_prefixes, says}
 use Rattle.mb_parts.proofs.LongestOrdered.{prefix_whole}
 use Rattle.mb_msg.specs.Plans.{plan_end}
 use Rattle.mb_model.specs.declared.known.Vote.{Vote}
-use Rattle.mb_model.specs.Verified.{verifies}
+use Rattle.mb_model.specs.Verified.{verifies, are_rightly_tagged}
 use Rattle.mb_model.specs.Committed.{Plans, planned, IsCommitted}
 use Rattle.mb_model.specs.Plans.{ShownLog, plan_of}
 use Rattle.mb_model.specs.Agreement.{text_of, IsUsableLog, IsMadeOf, IsConsistentRecord}
 use Rattle.mb_model.specs.ViewChangeRecord.{HasViewChange}
 use Rattle.mb_model.proofs.OnRecords.{logs_on_literals, readings_on_literals}
-use Rattle.mb_model.proofs.ViewChangeData.{secret, three, asked_digest, prepare_cert, shown_by_1, shown_by_2, plan_1, new_view_body, open_body, evidence_1, log_1, log_2}
+use Rattle.mb_model.proofs.ViewChangeData.{secret, three, asked, asked_digest, prepare_cert, shown_by_1, shown_by_2, plan_1, new_view_body, open_body, evidence_1, log_1, log_2}
 
 -- ---- what the three hosts stamped, newest first
 
@@ -189,6 +189,11 @@ committed_vote = record { counter = 1; request = asked_digest }
 committed : IsCommitted plans three prefix 0 1 committed_vote
 unfolding logs_on_literals readings_on_literals tags_on_literals
 committed = record { voted = lit≤ tt; led = refl }
+
+-- It is the batch of two requests, each with its client's tag.
+two_in_one : (length asked.requests ≡ 2) × (batch_digest asked ≡ committed_vote.request) × (are_rightly_tagged secret asked ≡ true)
+unfolding logs_on_literals tags_on_literals
+two_in_one = (refl, refl, refl)
 
 evident : is_evidence three (both (verifies secret) issued) evidence_1 ≡ true
 unfolding logs_on_literals readings_on_literals tags_on_literals

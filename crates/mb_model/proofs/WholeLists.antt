@@ -12,7 +12,7 @@ use Rattle.std.proofs.lemmas.Option.{slice_get_within}
 use Rattle.mb_base.specs.declared.shape.Shape.{Shape}
 use Rattle.mb_base.specs.Shapes.{Bytes, primary}
 use Rattle.mb_parts.specs.declared.certificates.Evidence.{Evidence}
-use Rattle.mb_parts.specs.Bares.{Bare, request_digest}
+use Rattle.mb_parts.specs.Bares.{Bare, batch_digest}
 use Rattle.mb_parts.specs.Bares as bare
 use Rattle.mb_parts.specs.Ordered.{initial_floor, permits, is_ordered, current_view, is_opened, last_position, top_position, is_opening, end_of}
 use Rattle.mb_parts.specs.Claims.{Claim}
@@ -68,10 +68,10 @@ module _ (s : Shape) (secret : Bytes) (plans : Plans) (issued : Claim → Bool) 
   has_plan e ok =
       let b = facts.evidences e ok in
       record {
-        text = record { base = (plan_of s b.0).base.pos; digests = map request_digest (plan_of s b.0).requests };
+        text = record { base = (plan_of s b.0).base.pos; digests = map batch_digest (plan_of s b.0).batches };
         is = b.1.plan;
         base = sym b.1.base;
-        end = ap (λ n. (plan_of s b.0).base.pos + n) (length-map (plan_of s b.0).requests request_digest) ∙ sym b.1.end;
+        end = ap (λ n. (plan_of s b.0).base.pos + n) (length-map (plan_of s b.0).batches batch_digest) ∙ sym b.1.end;
       }
 
   pub planned_within : (e : Evidence) (p : ℕ) (d : Bytes) → is_evidence s issued e ≡ true → planned (plans e.plan) p ≡ Some d → (e.base < p) × (p ≤ e.end)

@@ -4,13 +4,13 @@ use Rattle.std.specs.Prelude.{ℕ, Bool, true, false, nat_le}
 pub record Built : Type 0 where
   pub kinds : ℕ → Bool  -- whether hosts act on messages of this kind; of another kind they tell it, and do nothing
   pub signals : Bool  -- lost patience and Nudges; without it they do nothing
-  pub gates : Bool  -- that a stamped message may not stand behind those before it; without it none is refused for that
+  pub order : Bool  -- that a stamped message may not stand behind those before it; without it none is refused for that
   pub checkpoints : Bool  -- CHECKPOINTs; without it none is stamped
 
 -- the whole protocol
 abbrev pub everything : Built
-everything = record { kinds = λ kind. true; signals = true; gates = true; checkpoints = true }
+everything = record { kinds = λ kind. true; signals = true; order = true; checkpoints = true }
 
 -- REQUEST, PREPARE, COMMIT and REPLY, which are kinds 1 to 4
 abbrev pub first_path : Built
-first_path = record { kinds = λ kind. nat_le kind 4; signals = false; gates = false; checkpoints = false }
+first_path = record { kinds = λ kind. nat_le kind 4; signals = false; order = false; checkpoints = false }

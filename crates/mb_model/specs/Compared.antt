@@ -3,8 +3,6 @@ use Rattle.std.specs.Prelude.{ℕ, Bool, true, ◌&&◌, not, List, [], ◌∷�
 use Rattle.mb_base.specs.Shapes.{Bytes}
 use Rattle.mb_parts.specs.declared.floor.Floor.{Floor}
 use Rattle.mb_parts.specs.declared.certificates.Evidence.{Evidence}
-use Rattle.mb_msg.specs.declared.message.Body.{Body}
-use Rattle.mb_msg.specs.declared.message.Body.TheVariants.{Whole, Bare as Short}
 use Rattle.mb_msg.specs.declared.change.OpenBody.{OpenBody}
 use Rattle.mb_msg.specs.declared.change.ChangeBody.{ChangeBody}
 use Rattle.mb_msg.specs.declared.change.NewViewBody.{NewViewBody}
@@ -13,6 +11,7 @@ use Rattle.mb_msg.specs.declared.stamped.Shown.{Shown}
 use Rattle.mb_msg.specs.declared.stamped.Shown.TheVariants as shown
 use Rattle.mb_msg.specs.declared.stamped.Stamped.{Stamped as StampedMessage}
 use Rattle.mb_msg.specs.declared.stamped.Stamped.TheVariants as stamped
+use Rattle.mb_msg.specs.Bodies.{inside_whole}
 use Rattle.mb_msg.specs.Plans.{plan_text}
 use Rattle.mb_model.specs.UsableLogs.{is_comparable_body, is_ill_founded, is_too_long, entry_fault, floor_of}
 use Rattle.mb_model.specs.Histories.{History, Identity}
@@ -23,13 +22,10 @@ use Rattle.mb_model.specs.KindChecks.{is_member, member_fault, members_fault}
 abbrev pub strings_where : Bool → List Bytes → List Bytes
 strings_where test strings = if test then strings else []
 
-abbrev pub in_whole : {B : Type 0} → (B → List Bytes) → Body B → List Bytes
-in_whole f (Whole b) = f b
-in_whole f (Short digest) = []
-
-abbrev pub in_some : {A : Type 0} → (A → List Bytes) → Option A → List Bytes
-in_some f None = []
-in_some f (Some x) = f x
+-- what is in a part that may be absent
+abbrev pub inside_some : {A B : Type 0} → (A → List B) → Option A → List B
+inside_some f None = []
+inside_some f (Some x) = f x
 
 -- The check of an entry comes to its body, which is the last one.
 abbrev pub reaches_body : Option ℕ → Bool
@@ -40,12 +36,12 @@ module _ {S : Type 0} (self : Identity S) where
   -- ---- in a whole OPEN: where all that is asked before the digest holds
 
   abbrev pub compared_in_open : Evidence → OpenBody → List Bytes
-  compared_in_open e b = strings_where (is_comparable_body self.shape self.secret (valid self) e.base e.end b) (plan_text (record { base = b.stable; requests = b.requests }) ∷ [])
+  compared_in_open e b = strings_where (is_comparable_body self.shape self.secret (valid self) e.base e.end b) (plan_text (record { base = b.stable; batches = b.batches }) ∷ [])
 
   -- ---- in a VIEW_CHANGE: its entries up to the first that fails
 
   abbrev pub compared_in_entry : Shown → List Bytes
-  compared_in_entry (shown.Open m) = in_whole (compared_in_open m.evidence) m.body
+  compared_in_entry (shown.Open m) = inside_whole (compared_in_open m.evidence) m.body
   compared_in_entry _ = []
 
   abbrev pub fault_at : ℕ → ℕ → Floor → List Shown → Shown → List Shown → Option ℕ
@@ -63,10 +59,10 @@ module _ {S : Type 0} (self : Identity S) where
 
   abbrev pub compared_in_body : ℕ → ChangeBody → List Bytes
   compared_in_body host b = strings_where (reaches_entries b)
-      (in_some (λ o. compared_in_entries host b.stable.pos o [] b.entries) (floor_of self.shape (valid self) host b.floor))
+      (inside_some (λ o. compared_in_entries host b.stable.pos o [] b.entries) (floor_of self.shape (valid self) host b.floor))
 
   abbrev pub compared_in_change : ViewChange → List Bytes
-  compared_in_change m = in_whole (compared_in_body m.ui.host) m.body
+  compared_in_change m = inside_whole (compared_in_body m.ui.host) m.body
 
   -- ---- in a NEW_VIEW: its members up to the first that fails, and its plan where none does
 
@@ -85,8 +81,8 @@ module _ {S : Type 0} (self : Identity S) where
 
   abbrev pub compared_in_kind : History → StampedMessage → List Bytes
   compared_in_kind d (stamped.ViewChange m) = strings_where (is_current self d m.view) (compared_in_change m)
-  compared_in_kind d (stamped.NewView m) = strings_where (is_current self d m.view) (in_whole (compared_in_new_view m.view) m.body)
-  compared_in_kind d (stamped.Open m) = strings_where (is_current self d m.evidence.view) (in_whole (compared_in_open m.evidence) m.body)
+  compared_in_kind d (stamped.NewView m) = strings_where (is_current self d m.view) (inside_whole (compared_in_new_view m.view) m.body)
+  compared_in_kind d (stamped.Open m) = strings_where (is_current self d m.evidence.view) (inside_whole (compared_in_open m.evidence) m.body)
   compared_in_kind d _ = []
 
   unfoldable pub compared_in : History → StampedMessage → List Bytes

@@ -1,14 +1,13 @@
 -- Why a stamped message is refused by its certificate, its counter, or the gate of its sender: a test for each reason, in the order in
 -- which they are asked.
-use Rattle.std.specs.Prelude.{ℕ, ◌+◌, Bool, ◌&&◌, not, nat_lt, nat_le, ◌==◌, Option, Some, None, if◌then◌else◌, option_map}
+use Rattle.std.specs.Prelude.{ℕ, ◌+◌, Bool, ◌&&◌, not, nat_lt, nat_le, ◌==◌, Option, option_map}
 use Rattle.std.specs.Bool.{then_some}
 use Rattle.std.specs.Option.{option_or}
 use Rattle.mb_base.specs.declared.names.Ui.{Ui}
-use Rattle.mb_parts.specs.Bares.{Bare}
-use Rattle.mb_parts.specs.Bares as bare
 use Rattle.mb_parts.specs.Claims.{Claim}
 use Rattle.mb_parts.specs.Certificates.{inner_valid}
 use Rattle.mb_parts.specs.Ordered.{permits}
+use Rattle.mb_parts.specs.Rules.{rule_of, shut_before}
 use Rattle.mb_msg.specs.declared.stamped.Stamped.{Stamped as StampedMessage}
 use Rattle.mb_msg.specs.Stamps.{bare_of, ui_of}
 use Rattle.mb_model.specs.Verified.{verifies}
@@ -20,22 +19,6 @@ use Rattle.mb_model.specs.Sending.{next_of}
 -- what a stamped message claims: that its sender stamped it
 abbrev pub stamp_claim : StampedMessage → Claim
 stamp_claim m = record { host = (ui_of m).host; counter = (ui_of m).counter; says = bare_of m; cert = (ui_of m).cert }
-
--- the number that is told of a kind that may not stand there
-abbrev pub rule_of : Bare → ℕ
-rule_of (bare.ViewChange view digest) = 1
-rule_of (bare.NewView view base end plan digest) = 2
-rule_of (bare.Enter view counter plan) = 3
-rule_of (bare.Open evidence digest) = 4
-rule_of (bare.Join view evidence stable) = 5
-rule_of (bare.Prepare view pos digest) = 6
-rule_of (bare.Commit view pos counter cert digest) = 7
-rule_of (bare.Checkpoint pos state digest) = 8
-
--- where a gate is closed at a counter that is not above this one: that counter
-abbrev pub shut_before : Option ℕ → ℕ → Option ℕ
-shut_before None counter = None
-shut_before (Some x) counter = if nat_le x counter then Some x else None
 
 module _ {S : Type 0} (self : Identity S) where
   -- a claim whose tag verifies
@@ -70,7 +53,7 @@ module _ {S : Type 0} (self : Identity S) where
       option_or (option_map outcome.Convicted (conviction d (ui_of m)))
       (option_or (then_some (is_stale d (ui_of m)) (outcome.Stale (next_of d (ui_of m).host)))
       (option_or (then_some (is_ahead d (ui_of m)) (outcome.Ahead (next_of d (ui_of m).host)))
-      (then_some (self.built.gates && not (is_permitted d m)) (outcome.Illegal (rule_of (bare_of m))))))
+      (then_some (self.built.order && not (is_permitted d m)) (outcome.Illegal (rule_of (bare_of m))))))
 
   -- before its kind is looked at
   unfoldable pub identifier_refusal : History → StampedMessage → Option Outcome

@@ -1,13 +1,11 @@
 -- What a host holds of view changes: wishes, VIEW_CHANGEs, ENTERs, OPENs of hosts, the NEW_VIEW, the evidence, and the plan.
-use Rattle.std.specs.Prelude.{ℕ, zero, suc, ◌+◌, ◌-◌, ◌^◌, Bool, false, ◌&&◌, ◌||◌, not, List, [], ◌∷◌, ◌++◌, length, map, max, take, filter, filter_map, find, nat_lt, nat_le, ◌==◌, Option, Some, None, if◌then◌else◌, option_map, option_and_then, is_none}
+use Rattle.std.specs.Prelude.{ℕ, zero, suc, ◌+◌, Bool, false, ◌&&◌, ◌||◌, not, List, [], ◌∷◌, ◌++◌, length, map, max, take, filter, filter_map, find, nat_lt, nat_le, ◌==◌, Option, Some, None, if◌then◌else◌, option_map, option_and_then, is_none}
 use Rattle.std.specs.List.{range_with_len}
 use Rattle.std.specs.Option.{option_or}
 use Rattle.mb_base.specs.Shapes.{max_faults, quorum, host_count, tally}
 use Rattle.mb_usig.specs.Tags.{same_bytes}
 use Rattle.mb_parts.specs.declared.certificates.Evidence.{Evidence}
 use Rattle.mb_parts.specs.declared.certificates.EvidenceMember.{EvidenceMember}
-use Rattle.mb_msg.specs.declared.message.Body.{Body}
-use Rattle.mb_msg.specs.declared.message.Body.TheVariants.{Whole, Bare as Short}
 use Rattle.mb_msg.specs.declared.message.Message.TheVariants as message
 use Rattle.mb_msg.specs.declared.change.ViewChange.{ViewChange}
 use Rattle.mb_msg.specs.declared.change.NewView.{NewView}
@@ -15,8 +13,9 @@ use Rattle.mb_msg.specs.declared.change.Enter.{Enter}
 use Rattle.mb_msg.specs.declared.change.Open.{Open}
 use Rattle.mb_msg.specs.declared.change.Plan.{Plan}
 use Rattle.mb_msg.specs.declared.stamped.Stamped.TheVariants as stamped
-use Rattle.mb_msg.specs.Bodies.{body_digest}
+use Rattle.mb_msg.specs.Bodies.{body_digest, whole_body}
 use Rattle.mb_msg.specs.Spelling.{new_view_body_bytes}
+use Rattle.mb_parts.specs.declared.limits.TheConstants.{MAX_PLACE}
 use Rattle.mb_model.specs.Verified.{verifies}
 use Rattle.mb_model.specs.UsableLogs.{Fault, log_fault, is_whole}
 use Rattle.mb_model.specs.Plans.{ShownLog, plan_of}
@@ -24,11 +23,7 @@ use Rattle.mb_model.specs.Histories.{Entry, Accepted, Stamped, LostPatience, His
 
 -- the greatest view of all
 abbrev pub view_limit : ℕ
-view_limit = 2 ^ 63 - 1
-
-abbrev pub whole_body : {B : Type 0} → Body B → Option B
-whole_body (Whole b) = Some b
-whole_body (Short digest) = None
+view_limit = MAX_PLACE
 
 -- ---- the last ENTER and the last OPEN of a host
 
@@ -157,7 +152,7 @@ abbrev pub logs_of : List ViewChange → List ShownLog
 logs_of changes = filter_map shown_log changes
 
 abbrev pub plan_in_open : Open → Option (ℕ × Plan)
-plan_in_open m = option_map (λ b. (m.evidence.view, record { base = b.stable; requests = b.requests })) (whole_body m.body)
+plan_in_open m = option_map (λ b. (m.evidence.view, record { base = b.stable; batches = b.batches })) (whole_body m.body)
 
 abbrev pub is_plan_of : ℕ → Option (ℕ × Plan) → Bool
 is_plan_of view None = false

@@ -7,6 +7,7 @@ use Rattle.mb_parts.specs.declared.floor.Floor.{Floor}
 use Rattle.mb_parts.specs.Bares.{Bare}
 use Rattle.mb_parts.specs.Bares as bare
 use Rattle.mb_parts.specs.Ordered.{initial_floor, floor_after, phase_is_open, phase_is_entered}
+use Rattle.mb_msg.specs.declared.event.Placed.{Placed}
 use Rattle.mb_msg.specs.declared.event.Slot.{Slot}
 use Rattle.mb_msg.specs.declared.message.Message.{Message}
 use Rattle.mb_msg.specs.declared.stamped.Stamped.{Stamped as StampedMessage}
@@ -20,7 +21,8 @@ pub data Entry : Type 0 where
   Stamped : StampedMessage → Entry  -- by this host's USIG, whole
   Jumped : ℕ → Floor → Entry  -- the gate of a host, to a floor
   Closed : ℕ → ℕ → Entry  -- the gate of a host, at a counter
-  Executed : Slot → Entry
+  Served : ℕ → Placed → Entry  -- a request of the batch at a position
+  Executed : Slot → Entry  -- the batch at a position, behind its requests
   Installed : ℕ → List Bytes → Entry  -- a state: its position and its 65 parts
   DroppedParts : Entry  -- all parts of a state that was fetched
   LostPatience : Entry
@@ -56,6 +58,7 @@ stamped_in (Accepted m) = as_stamped m
 stamped_in (Stamped m) = Some m
 stamped_in (Jumped h floor) = None
 stamped_in (Closed h counter) = None
+stamped_in (Served pos placed) = None
 stamped_in (Executed slot) = None
 stamped_in (Installed pos parts) = None
 stamped_in DroppedParts = None

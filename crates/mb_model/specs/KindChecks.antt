@@ -4,6 +4,7 @@ use Rattle.std.specs.Bool.{then_some}
 use Rattle.std.specs.Option.{option_or}
 use Rattle.mb_base.specs.Shapes.{span}
 use Rattle.mb_parts.specs.declared.request.Request.{Request}
+use Rattle.mb_parts.specs.declared.batch.Batch.{Batch}
 use Rattle.mb_parts.specs.declared.certificates.Evidence.{Evidence}
 use Rattle.mb_msg.specs.declared.message.Body.{Body}
 use Rattle.mb_msg.specs.declared.message.Body.TheVariants.{Whole, Bare as Short}
@@ -14,13 +15,14 @@ use Rattle.mb_msg.specs.declared.change.NewView.{NewView}
 use Rattle.mb_msg.specs.declared.change.Plan.{Plan}
 use Rattle.mb_msg.specs.declared.stamped.Stamped.{Stamped as StampedMessage}
 use Rattle.mb_msg.specs.declared.stamped.Stamped.TheVariants as stamped
-use Rattle.mb_model.specs.Verified.{is_rightly_tagged}
+use Rattle.mb_model.specs.Verified.{is_rightly_tagged, are_rightly_tagged}
 use Rattle.mb_model.specs.UsableLogs.{Fault, is_plan_body}
-use Rattle.mb_model.specs.Plans.{describe}
+use Rattle.mb_model.specs.Plans.{are_of_plan}
 use Rattle.mb_msg.specs.declared.event.Outcome.{Outcome}
 use Rattle.mb_msg.specs.declared.event.Outcome.TheVariants as outcome
 use Rattle.mb_model.specs.Histories.{History, Identity, view_of}
-use Rattle.mb_model.specs.Held.{whole_body, plan_from, change_fault, is_current}
+use Rattle.mb_model.specs.Held.{plan_from, change_fault, is_current}
+use Rattle.mb_msg.specs.Bodies.{whole_body}
 use Rattle.mb_model.specs.Stable.{low_of}
 use Rattle.mb_model.specs.Positions.{exec_of}
 use Rattle.mb_model.specs.GateChecks.{valid, stamp_claim, identifier_refusal}
@@ -51,13 +53,17 @@ module _ {S : Type 0} (self : Identity S) where
   abbrev pub is_of_view : History → ℕ → Bool
   is_of_view d view = view_of self d == view
 
-  -- A request that came as its digest is of use only where its position is executed.
-  abbrev pub body_refusal : History → ℕ → Body Request → Option Outcome
+  -- The tag of one of its requests is not that of the client's key.
+  abbrev pub has_bad_tag : Batch → Bool
+  has_bad_tag b = not (are_rightly_tagged self.secret b)
+
+  -- A batch that came as its digest is of use only where its position is executed.
+  abbrev pub body_refusal : History → ℕ → Body Batch → Option Outcome
   body_refusal d pos (Short digest) = then_some (nat_lt (exec_of d) pos) (outcome.NeedBody (view_of self d) (exec_of d))
-  body_refusal d pos (Whole r) = then_some (is_badly_tagged r) outcome.BadTag
+  body_refusal d pos (Whole b) = then_some (has_bad_tag b) outcome.BadTag
 
   -- A vote of an earlier view says nothing here.
-  unfoldable pub vote_refusal : History → ℕ → ℕ → Body Request → Option Outcome
+  unfoldable pub vote_refusal : History → ℕ → ℕ → Body Batch → Option Outcome
   vote_refusal d view pos body =
       option_or (then_some (is_of_later_view d view) (outcome.LaterView (view_of self d)))
       (only_where (is_of_view d view)
@@ -91,7 +97,7 @@ module _ {S : Type 0} (self : Identity S) where
 
   -- It has base, end and digest of the plan.
   abbrev pub announces : NewView → Plan → Bool
-  announces m plan = describe m.base m.end m.plan plan
+  announces m plan = are_of_plan m.base m.end m.plan plan
 
   -- 255 and 11 where it announces another plan than that of its members
   unfoldable pub new_view_fault : NewView → NewViewBody → Option Fault

@@ -1,4 +1,5 @@
 pub mod Service
+pub mod Batches
 pub mod Votes
 pub mod Quorums
 pub mod Verified

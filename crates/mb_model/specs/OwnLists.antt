@@ -40,6 +40,6 @@ module _ {S : Type 0} (self : Identity S) where
 -- grammar or on the shape.
 pub record OwnLists (S : Type 0) : Type 0 where
   -- The gate for its own messages stands where its list leads.
-  pub gate : (self : Identity S) → self.built.gates ≡ true → (events : List Event) → gate_of (after self events) self.host ≡ floor_after initial_floor (said (after self events))
-  pub list : (self : Identity S) → self.built.gates ≡ true → (events : List Event) → IsOwnList self (after self events)
+  pub gate : (self : Identity S) → self.built.order ≡ true → (events : List Event) → gate_of (after self events) self.host ≡ floor_after initial_floor (said (after self events))
+  pub list : (self : Identity S) → self.built.order ≡ true → (events : List Event) → IsOwnList self (after self events)
   pub numbered : (self : Identity S) → (events : List Event) → AreNumbered self (stamped (after self events))

@@ -1,6 +1,7 @@
 -- What a message has passed that is not refused, test by test.
 use Rattle.std.specs.Prelude.{◌≡◌, ℕ, ◌+◌, true, false, ◌∷◌, nat_lt, ◌==◌, None, is_some, option_and_then}
 use Rattle.mb_parts.specs.declared.request.Request.{Request}
+use Rattle.mb_parts.specs.declared.batch.Batch.{Batch}
 use Rattle.mb_parts.specs.Certificates.{is_stable}
 use Rattle.mb_msg.specs.declared.message.Body.{Body}
 use Rattle.mb_msg.specs.declared.message.Body.TheVariants.{Whole, Bare as Short}
@@ -15,11 +16,12 @@ use Rattle.mb_msg.specs.declared.stamped.Stamped.{Stamped as StampedMessage}
 use Rattle.mb_msg.specs.declared.stamped.Stamped.TheVariants as stamped
 use Rattle.mb_msg.specs.Stamps.{ui_of}
 use Rattle.mb_model.specs.Histories.{Accepted, History, Identity, gate}
-use Rattle.mb_model.specs.Held.{whole_body, change_fault, is_current, wish_of}
+use Rattle.mb_model.specs.Held.{change_fault, is_current, wish_of}
+use Rattle.mb_msg.specs.Bodies.{whole_body}
 use Rattle.mb_model.specs.Positions.{exec_of}
 use Rattle.mb_model.specs.Execution.{pending, snapshot_of}
 use Rattle.mb_model.specs.GateChecks.{valid, stamp_claim, is_own_future, conviction, is_permitted}
-use Rattle.mb_model.specs.KindChecks.{is_badly_tagged, is_beyond, is_of_later_view, is_of_view, new_view_fault, opening_fault}
+use Rattle.mb_model.specs.KindChecks.{is_badly_tagged, has_bad_tag, is_beyond, is_of_later_view, is_of_view, new_view_fault, opening_fault}
 use Rattle.mb_model.specs.PlainChecks.{last_seq, is_behind_pending, is_bad_wish, has_news_for, is_certified_floor, is_certified_evidence, is_wanted, is_list_right, wrong_part, are_all_held, bad_state}
 
 module _ {S : Type 0} (self : Identity S) where
@@ -32,15 +34,15 @@ module _ {S : Type 0} (self : Identity S) where
     pub not_future : is_own_future self d (ui_of m) ≡ false
     pub not_convicted : conviction self d (ui_of m) ≡ None
     pub next : (ui_of m).counter ≡ (gate d (ui_of m).host).counter + 1
-    pub permitted : self.built.gates ≡ true → is_permitted self d m ≡ true
+    pub permitted : self.built.order ≡ true → is_permitted self d m ≡ true
 
-  -- A request came whole, with the tag of its client, or its position is executed.
-  abbrev pub PassesBody : History → ℕ → Body Request → Type 0
-  PassesBody d pos (Whole r) = is_badly_tagged self r ≡ false
+  -- A batch came whole, each request with the tag of its client, or its position is executed.
+  abbrev pub PassesBody : History → ℕ → Body Batch → Type 0
+  PassesBody d pos (Whole b) = has_bad_tag self b ≡ false
   PassesBody d pos (Short digest) = nat_lt (exec_of d) pos ≡ false
 
   -- It is of no later view; in the host's view it is not beyond the window, and its body passes.
-  pub record PassesVote (d : History) (view pos : ℕ) (body : Body Request) : Type 0 where
+  pub record PassesVote (d : History) (view pos : ℕ) (body : Body Batch) : Type 0 where
     pub not_later : is_of_later_view self d view ≡ false
     pub within : is_of_view self d view ≡ true → is_beyond self d pos ≡ false
     pub shown : is_of_view self d view ≡ true → PassesBody d pos body

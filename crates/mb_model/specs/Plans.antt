@@ -7,9 +7,10 @@ use Rattle.mb_usig.specs.Tags.{same_bytes}
 use Rattle.mb_parts.specs.declared.floor.Floor.{Floor}
 use Rattle.mb_parts.specs.declared.certificates.FloorCert.{FloorCert}
 use Rattle.mb_parts.specs.declared.certificates.StableCert.{StableCert}
-use Rattle.mb_parts.specs.declared.request.Request.{Request}
+use Rattle.mb_parts.specs.declared.batch.Batch.{Batch}
 use Rattle.mb_parts.specs.Certificates.{first_floor}
 use Rattle.mb_parts.specs.Ordered.{phase_is_open}
+use Rattle.mb_msg.specs.Bodies.{whole_body}
 use Rattle.mb_msg.specs.declared.message.Body.{Body}
 use Rattle.mb_msg.specs.declared.message.Body.TheVariants.{Whole, Bare as Short}
 use Rattle.mb_msg.specs.declared.change.OpenBody.{OpenBody}
@@ -25,13 +26,13 @@ pub record ShownLog : Type 0 where
   pub host : ℕ
   pub body : ChangeBody
 
--- a vote that a log shows: the primary's counter, and the request
+-- a vote that a log shows: the primary's counter, and the batch
 abbrev pub ShownVote : Type 0
-ShownVote = ℕ × Request
+ShownVote = ℕ × Batch
 
 -- Base, end and digest are those of a plan.
-abbrev pub describe : ℕ → ℕ → Bytes → Plan → Bool
-describe base end digest plan = base == plan.base.pos && (end == plan_end plan && same_bytes digest (plan_digest plan))
+abbrev pub are_of_plan : ℕ → ℕ → Bytes → Plan → Bool
+are_of_plan base end digest plan = base == plan.base.pos && (end == plan_end plan && same_bytes digest (plan_digest plan))
 
 -- ---- one log, its entries newest first
 
@@ -72,18 +73,13 @@ base_shown (shown.Open m ∷ l) = body_base m.body
 base_shown (shown.Join m ∷ l) = Some m.stable
 base_shown (_ ∷ l) = base_shown l
 
--- the request of a vote, where it is shown
-abbrev pub request_of : Body Request → Option Request
-request_of (Whole r) = Some r
-request_of (Short digest) = None
-
--- a vote with this counter, where its request is shown
-abbrev pub vote_with : ℕ → Body Request → Option ShownVote
-vote_with counter body = option_map (λ r. (counter, r)) (request_of body)
+-- a vote with this counter, where its batch is shown
+abbrev pub vote_with : ℕ → Body Batch → Option ShownVote
+vote_with counter body = option_map (λ b. (counter, b)) (whole_body body)
 
 -- an OPEN's vote for a position behind the base of its plan
 abbrev pub plan_vote : ℕ → ℕ → ℕ → Body OpenBody → Option ShownVote
-plan_vote base counter p (Whole b) = if nat_lt base p then option_map (λ r. (counter, r)) (slice_get b.requests (p - base - 1)) else None
+plan_vote base counter p (Whole b) = if nat_lt base p then option_map (λ x. (counter, x)) (slice_get b.batches (p - base - 1)) else None
 plan_vote base counter p (Short digest) = None
 
 -- the vote for a position since the last opening, or in it
@@ -137,15 +133,15 @@ abbrev pub lowest_vote : ℕ → List ShownLog → Option ShownVote
 lowest_vote p [] = None
 lowest_vote p (log ∷ logs) = lower_vote (vote_since p (newest log)) (lowest_vote p logs)
 
--- A list of requests ends where there is no vote.
-abbrev pub if_voted : Option ShownVote → List Request → List Request
+-- A list of batches ends where there is no vote.
+abbrev pub if_voted : Option ShownVote → List Batch → List Batch
 if_voted None more = []
 if_voted (Some v) more = v.1 ∷ more
 
--- the requests voted for from this position on, as far as they are consecutive; at most `most`
-unfoldable pub requests_from : List ShownLog → ℕ → ℕ → List Request
-requests_from logs p zero = []
-requests_from logs p (suc most) = if_voted (lowest_vote p logs) (requests_from logs (p + 1) most)
+-- the batches voted for from this position on, as far as they are consecutive; at most `most`
+unfoldable pub batches_from : List ShownLog → ℕ → ℕ → List Batch
+batches_from logs p zero = []
+batches_from logs p (suc most) = if_voted (lowest_vote p logs) (batches_from logs (p + 1) most)
 
 -- the stable certificate that a log shows
 abbrev pub stable_of : ShownLog → StableCert
@@ -179,9 +175,9 @@ base_of logs = unwrap_or (cert_at (greatest_position (all_bases logs)) (all_base
 
 -- of logs that stand by rising host
 unfoldable pub plan_in_order : Shape → List ShownLog → Plan
-plan_in_order s logs = record { base = base_of logs; requests = requests_from (of_view (highest_view logs) logs) ((base_of logs).pos + 1) (span s) }
+plan_in_order s logs = record { base = base_of logs; batches = batches_from (of_view (highest_view logs) logs) ((base_of logs).pos + 1) (span s) }
 
--- What the view carries on: the base, and behind it at each position, up to the first that has no vote, the request that the hosts of
+-- What the view carries on: the base, and behind it at each position, up to the first that has no vote, the batch that the hosts of
 -- the highest opened view voted for with the lowest counter.
 abbrev pub plan_of : Shape → List ShownLog → Plan
 plan_of s logs = plan_in_order s (by_host s logs)

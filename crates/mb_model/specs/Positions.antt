@@ -1,30 +1,31 @@
 -- What a host knows of the positions of its view: the last executed one, the window above the stable one, slots and votes.
-use Rattle.std.specs.Prelude.{ℕ, ◌+◌, ◌-◌, ◌^◌, Bool, true, false, ◌&&◌, List, [], ◌∷◌, nat_lt, nat_le, ◌==◌, Option, Some, None, if◌then◌else◌, option_map, option_and_then, slice_get}
+use Rattle.std.specs.Prelude.{ℕ, ◌+◌, ◌-◌, Bool, true, false, ◌&&◌, List, [], ◌∷◌, nat_lt, nat_le, ◌==◌, Option, Some, None, if◌then◌else◌, option_map, option_and_then, slice_get}
 use Rattle.std.specs.Option.{option_or}
 use Rattle.mb_base.specs.Shapes.{span, host_count, tally}
 use Rattle.mb_usig.specs.Tags.{same_bytes}
-use Rattle.mb_parts.specs.declared.request.Request.{Request}
+use Rattle.mb_parts.specs.declared.batch.Batch.{Batch}
 use Rattle.mb_parts.specs.declared.certificates.Evidence.{Evidence}
-use Rattle.mb_parts.specs.Spelling.{request_bytes}
-use Rattle.mb_parts.specs.Bares.{request_digest}
+use Rattle.mb_parts.specs.Spelling.{batch_bytes}
+use Rattle.mb_parts.specs.Bares.{batch_digest}
+use Rattle.mb_parts.specs.declared.limits.TheConstants.{MAX_PLACE}
 use Rattle.mb_msg.specs.declared.message.Body.{Body}
 use Rattle.mb_msg.specs.declared.message.Message.TheVariants as message
 use Rattle.mb_msg.specs.declared.normal.Prepare.{Prepare}
 use Rattle.mb_msg.specs.declared.change.Open.{Open}
 use Rattle.mb_msg.specs.declared.change.Plan.{Plan}
 use Rattle.mb_msg.specs.declared.stamped.Stamped.TheVariants as stamped
-use Rattle.mb_msg.specs.Bodies.{body_digest}
+use Rattle.mb_msg.specs.Bodies.{body_digest, whole_body}
 use Rattle.mb_msg.specs.Plans.{plan_digest}
 use Rattle.mb_model.specs.declared.known.Vote.{Vote}
 use Rattle.mb_model.specs.declared.known.KnownSlot.{KnownSlot}
 use Rattle.mb_model.specs.Votes.{is_vote}
 use Rattle.mb_model.specs.Histories.{Entry, Accepted, Stamped, Executed, Installed, History, Identity, view_of}
-use Rattle.mb_model.specs.Held.{whole_body, opened_by, plan_at}
+use Rattle.mb_model.specs.Held.{opened_by, plan_at}
 use Rattle.mb_model.specs.Stable.{low_of}
 
 -- the greatest position of all
 abbrev pub position_limit : ℕ
-position_limit = 2 ^ 63 - 1
+position_limit = MAX_PLACE
 
 -- ---- the last executed position; that of a state that was installed
 
@@ -40,24 +41,24 @@ exec_of (_ ∷ d) = exec_of d
 abbrev pub slot_vote : KnownSlot → Vote
 slot_vote k = record { counter = k.counter; request = k.digest }
 
--- the request at a position of a list that begins behind a base
-abbrev pub request_from : ℕ → ℕ → List Request → Option Request
-request_from base p requests = if nat_lt base p then slice_get requests (p - base - 1) else None
+-- the batch at a position of a list that begins behind a base
+abbrev pub batch_from : ℕ → ℕ → List Batch → Option Batch
+batch_from base p batches = if nat_lt base p then slice_get batches (p - base - 1) else None
 
 abbrev pub slot_of_prepare : Prepare → ℕ → ℕ → Option KnownSlot
 slot_of_prepare m v p = if m.view == v && m.pos == p then Some (record {
   counter = m.ui.counter;
   cert = m.ui.cert;
-  digest = body_digest request_bytes m.body;
-  request = whole_body m.body;
+  digest = body_digest batch_bytes m.body;
+  batch = whole_body m.body;
 }) else None
 
--- a request that an OPEN carries on, as the NEW_VIEW of its evidence ordered it
-abbrev pub slot_of_plan : Evidence → Request → KnownSlot
-slot_of_plan e r = record { counter = e.counter; cert = e.cert; digest = request_digest r; request = Some r }
+-- a batch that an OPEN carries on, as the NEW_VIEW of its evidence ordered it
+abbrev pub slot_of_plan : Evidence → Batch → KnownSlot
+slot_of_plan e b = record { counter = e.counter; cert = e.cert; digest = batch_digest b; batch = Some b }
 
 abbrev pub slot_of_open : Open → ℕ → ℕ → Option KnownSlot
-slot_of_open m v p = if m.evidence.view == v then option_map (slot_of_plan m.evidence) (option_and_then (λ b. request_from m.evidence.base p b.requests) (whole_body m.body)) else None
+slot_of_open m v p = if m.evidence.view == v then option_map (slot_of_plan m.evidence) (option_and_then (λ b. batch_from m.evidence.base p b.batches) (whole_body m.body)) else None
 
 -- A PREPARE is the slot of its position, and the own OPEN makes slots of the positions of its plan.
 abbrev pub slot_by : Entry → ℕ → ℕ → Option KnownSlot
@@ -67,8 +68,8 @@ slot_by (Stamped (stamped.Open m)) v p = slot_of_open m v p
 slot_by _ v p = None
 
 -- the vote of a message of one host, as a vote of the host that is asked for
-abbrev pub vote_with : ℕ → ℕ → ℕ → ℕ → ℕ → ℕ → Body Request → ℕ → Option Vote
-vote_with voter h v p view pos body counter = if view == v && (pos == p && voter == h) then Some (record { counter = counter; request = body_digest request_bytes body }) else None
+abbrev pub vote_with : ℕ → ℕ → ℕ → ℕ → ℕ → ℕ → Body Batch → ℕ → Option Vote
+vote_with voter h v p view pos body counter = if view == v && (pos == p && voter == h) then Some (record { counter = counter; request = body_digest batch_bytes body }) else None
 
 -- A PREPARE is its sender's vote at its own counter, a COMMIT at the counter of its PREPARE. What this host stamps is its own vote, its
 -- OPEN at the counter of the NEW_VIEW.
@@ -92,7 +93,7 @@ counts_opens _ = false
 -- the vote of a host's last OPEN, where it is of this view, and the plan that has its digest is held
 abbrev pub open_vote : Option Evidence → Option Plan → ℕ → ℕ → Option Vote
 open_vote (Some e) (Some plan) v p = if e.view == v && same_bytes (plan_digest plan) e.plan
-    then option_map (λ r. record { counter = e.counter; request = request_digest r }) (request_from plan.base.pos p plan.requests) else None
+    then option_map (λ b. record { counter = e.counter; request = batch_digest b }) (batch_from plan.base.pos p plan.batches) else None
 open_vote e plan v p = None
 
 module _ {S : Type 0} (self : Identity S) where
@@ -125,10 +126,14 @@ module _ {S : Type 0} (self : Identity S) where
   vote_of [] h v p = None
   vote_of (e ∷ d) h v p = option_or (vote_of d h v p) (if_counts_at (e ∷ d) v p (option_or (vote_by self.host e h v p) (open_vote_by (e ∷ d) e h v p)))
 
-  -- how many hosts have this vote
-  abbrev pub matching : History → ℕ → ℕ → Vote → ℕ
-  matching d v p x = tally (λ h. is_vote (vote_of d h v p) x) (host_count self.shape)
+  -- what is known of a position of the window in this host's view: its slot, and the vote of each host
 
-  -- the slot of a position of the window in this host's view
   abbrev pub slot_at : History → ℕ → Option KnownSlot
   slot_at d p = if in_window d p then slot_in d (view_of self d) p else None
+
+  abbrev pub vote_at : History → ℕ → ℕ → Option Vote
+  vote_at d h p = if in_window d p then vote_of d h (view_of self d) p else None
+
+  -- how many hosts have this vote
+  abbrev pub matching : History → ℕ → Vote → ℕ
+  matching d p x = tally (λ h. is_vote (vote_at d h p) x) (host_count self.shape)

@@ -24,7 +24,7 @@ pub fn plans_ignore_order()
 {}
 
 /// What is committed in a view stays in each later one, whatever logs faulty hosts showed.
-/// One position has one committed request in all views.
+/// One position has one committed batch in all views.
 pub fn views_agree()
     ensures { RecordsAgree }
 {}

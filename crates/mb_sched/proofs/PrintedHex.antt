@@ -6,7 +6,7 @@ use Rattle.hex.specs.Hex.{IsBytes, encode_with, encode_lower, lower_digits}
 use Rattle.hex.proofs.HexLemmas.{length-encode_with, decode_of-encode_lower, decode_sized-encode_lower}
 use Rattle.mb_base.specs.Shapes.{Bytes}
 use Rattle.mb_sched.specs.Words.{is, is_lower_hex_digit, operation_of, digest_of}
-use Rattle.mb_sched.specs.ScheduleText.{hex_text}
+use Rattle.mb_sched.specs.Printing.{hex_word}
 use Rattle.mb_sched.proofs.PrintedWords.{IsWord, weaker}
 
 -- the first n digits of the table are lower-case digits
@@ -38,9 +38,9 @@ no_dash [] lt = absurd (omega arith)
 no_dash (b ∷ []) lt = absurd (omega arith)
 no_dash (b ∷ c ∷ bs) lt = and_right (eqb b 45) false refl
 
-pub operation_of-hex_text : (op : Bytes) → IsBytes op → length op ≤ 1024 → operation_of (hex_text op) ≡ Some op
-operation_of-hex_text [] fits le = refl
-operation_of-hex_text (b ∷ bs) fits le =
+pub operation_of-hex_word : (op : Bytes) → IsBytes op → length op ≤ 1024 → operation_of (hex_word op) ≡ Some op
+operation_of-hex_word [] fits le = refl
+operation_of-hex_word (b ∷ bs) fits le =
     let len : length (encode_lower (b ∷ bs)) ≡ 2 * length (b ∷ bs) = length-encode_with lower_digits (b ∷ bs) in
     let even : eqb (length (encode_lower (b ∷ bs)) % 2) 0 ≡ true = eq-eqb _ _ (omega arith) in
     let some : ltb 0 (length (encode_lower (b ∷ bs))) ≡ true = lt-ltb _ _ (omega arith) in
@@ -61,6 +61,6 @@ digit_in_word b e =
 pub IsWord-encode_lower : (bytes : Bytes) → IsBytes bytes → IsWord (encode_lower bytes)
 IsWord-encode_lower bytes fits = weaker is_lower_hex_digit (leb 33) digit_in_word (encode_lower bytes) (lower bytes fits)
 
-pub IsWord-hex_text : (bytes : Bytes) → IsBytes bytes → IsWord (hex_text bytes)
-IsWord-hex_text [] fits = refl
-IsWord-hex_text (b ∷ bs) fits = IsWord-encode_lower (b ∷ bs) fits
+pub IsWord-hex_word : (bytes : Bytes) → IsBytes bytes → IsWord (hex_word bytes)
+IsWord-hex_word [] fits = refl
+IsWord-hex_word (b ∷ bs) fits = IsWord-encode_lower (b ∷ bs) fits

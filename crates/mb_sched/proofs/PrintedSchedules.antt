@@ -14,9 +14,10 @@ use Rattle.mb_sched.specs.Lines.{Fault, ◌>>=◌, lines, is_ended, says, read_l
 use Rattle.mb_sched.specs.Headers.{number_line, secret_line, header_by, header_of, HeaderContents}
 use Rattle.mb_sched.specs.EventLines.{event_line}
 use Rattle.mb_sched.specs.Schedules.{Contents, with_events, events_from, schedule_of, contents}
-use Rattle.mb_sched.specs.ScheduleText.{line_text, host_text, client_text, marked, hex_text, event_words, event_text, schedule_text, FitsEvent, KeepsLimits}
+use Rattle.mb_sched.specs.Printing.{host_name, client_name, hex_word}
+use Rattle.mb_sched.specs.ScheduleText.{line_text, marked, event_words, event_text, schedule_text, FitsEvent, KeepsLimits}
 use Rattle.mb_sched.proofs.Pieces.{line_first, same_end}
-use Rattle.mb_sched.proofs.PrintedHex.{operation_of-hex_text, digest_of-encode_lower, IsWord-encode_lower, IsWord-hex_text}
+use Rattle.mb_sched.proofs.PrintedHex.{operation_of-hex_word, digest_of-encode_lower, IsWord-encode_lower, IsWord-hex_word}
 use Rattle.mb_sched.proofs.PrintedNumbers.{number_in-decimal, IsWord-decimal}
 use Rattle.mb_sched.proofs.PrintedWords.{IsWord, words-join, line_text-piece}
 
@@ -30,18 +31,18 @@ is_ended-line_text word more rest is more_is = sym (same_end (line_text (word �
 
 -- ---- events
 
-host_in-host_text : (hosts host : ℕ) → hosts ≤ 2 ^ 64 → host < hosts → host_in hosts (host_text host) ≡ Some host
-host_in-host_text hosts host few lt = number_in-decimal 0 (hosts - 1) host (omega arith) (omega arith) (omega arith)
+host_in-host_name : (hosts host : ℕ) → hosts ≤ 2 ^ 64 → host < hosts → host_in hosts (host_name host) ≡ Some host
+host_in-host_name hosts host few lt = number_in-decimal 0 (hosts - 1) host (omega arith) (omega arith) (omega arith)
 
-client_in-client_text : (clients client : ℕ) → clients ≤ 2 ^ 64 → client < clients → client_in clients (client_text client) ≡ Some client
-client_in-client_text clients client few lt = number_in-decimal 0 (clients - 1) client (omega arith) (omega arith) (omega arith)
+client_in-client_name : (clients client : ℕ) → clients ≤ 2 ^ 64 → client < clients → client_in clients (client_name client) ≡ Some client
+client_in-client_name clients client few lt = number_in-decimal 0 (clients - 1) client (omega arith) (omega arith) (omega arith)
 
 module _ (hosts clients : ℕ) (few_hosts : hosts ≤ 2 ^ 64) (few_clients : clients ≤ 2 ^ 64) where
   event_line-event_words : (event : WorldEvent) → FitsEvent hosts clients event → event_line hosts clients (event_words event) ≡ says event
   unfolding event_line
-  event_line-event_words (Ask client op) fits = rw (client_in-client_text clients client few_clients fits.0, operation_of-hex_text op fits.2 fits.1) refl
+  event_line-event_words (Ask client op) fits = rw (client_in-client_name clients client few_clients fits.0, operation_of-hex_word op fits.2 fits.1) refl
   event_line-event_words (Give message host) fits =
-      rw (number_in-decimal 0 (2 ^ 64 - 1) message fits.0 (omega arith) (omega arith), host_in-host_text hosts host few_hosts fits.1) refl
+      rw (number_in-decimal 0 (2 ^ 64 - 1) message fits.0 (omega arith) (omega arith), host_in-host_name hosts host few_hosts fits.1) refl
 
   -- the first line of a text of events
   event_first : (event : WorldEvent) (rest : Bytes) → FitsEvent hosts clients event
@@ -50,14 +51,14 @@ module _ (hosts clients : ℕ) (few_hosts : hosts ≤ 2 ^ 64) (few_clients : cli
       × (is_ended (event_text event ++ rest) ≡ is_ended rest)
   event_first (Ask client op) rest fits =
       let client_is = IsWord-decimal client (omega (arith, fits.0)) in
-      let op_is = IsWord-hex_text op fits.2 in
-      let more : AllByRecursion IsWord (client_text client ∷ hex_text op ∷ []) = (client_is, (op_is, tt)) in
-      (words-join (codes "ask") (client_text client ∷ hex_text op ∷ []) refl more, lines-line_text (codes "ask") (client_text client ∷ hex_text op ∷ []) rest refl more, is_ended-line_text (codes "ask") (client_text client ∷ hex_text op ∷ []) rest refl more)
+      let op_is = IsWord-hex_word op fits.2 in
+      let more : AllByRecursion IsWord (client_name client ∷ hex_word op ∷ []) = (client_is, (op_is, tt)) in
+      (words-join (codes "ask") (client_name client ∷ hex_word op ∷ []) refl more, lines-line_text (codes "ask") (client_name client ∷ hex_word op ∷ []) rest refl more, is_ended-line_text (codes "ask") (client_name client ∷ hex_word op ∷ []) rest refl more)
   event_first (Give message host) rest fits =
       let message_is = IsWord-decimal message fits.0 in
       let host_is = IsWord-decimal host (omega (arith, fits.1)) in
-      let more : AllByRecursion IsWord (decimal message ∷ host_text host ∷ []) = (message_is, (host_is, tt)) in
-      (words-join (codes "give") (decimal message ∷ host_text host ∷ []) refl more, lines-line_text (codes "give") (decimal message ∷ host_text host ∷ []) rest refl more, is_ended-line_text (codes "give") (decimal message ∷ host_text host ∷ []) rest refl more)
+      let more : AllByRecursion IsWord (decimal message ∷ host_name host ∷ []) = (message_is, (host_is, tt)) in
+      (words-join (codes "give") (decimal message ∷ host_name host ∷ []) refl more, lines-line_text (codes "give") (decimal message ∷ host_name host ∷ []) rest refl more, is_ended-line_text (codes "give") (decimal message ∷ host_name host ∷ []) rest refl more)
 
   events_again : (n : ℕ) (events : List WorldEvent) → AllByRecursion (FitsEvent hosts clients) events
       → events_from hosts clients (is_ended (flat_map event_text events)) n (lines (flat_map event_text events)) ≡ Ok events
@@ -87,9 +88,9 @@ secret_again secret fits len =
     rw (words-join (codes "secret") (encode_lower secret ∷ []) refl (IsWord-encode_lower secret fits, tt), digest_of-encode_lower secret fits len) refl
 
 -- the lines of a text that begins with a title
-title_first : (rest : Bytes) → (lines (codes "minbft schedule 1\n" ++ rest) ≡ codes "minbft schedule 1" ∷ lines rest) × (is_ended (codes "minbft schedule 1\n" ++ rest) ≡ is_ended rest)
+title_first : (rest : Bytes) → (lines (codes "minbft schedule 2\n" ++ rest) ≡ codes "minbft schedule 2" ∷ lines rest) × (is_ended (codes "minbft schedule 2\n" ++ rest) ≡ is_ended rest)
 title_first rest =
-    (line_first (codes "minbft schedule 1\n" ++ rest) (codes "minbft schedule 1") rest refl, sym (same_end (codes "minbft schedule 1\n" ++ rest) (codes "minbft schedule 1") rest refl))
+    (line_first (codes "minbft schedule 2\n" ++ rest) (codes "minbft schedule 2") rest refl, sym (same_end (codes "minbft schedule 2\n" ++ rest) (codes "minbft schedule 2") rest refl))
 
 -- a line of a name and a word
 name_first : (name word rest : Bytes) → IsWord name → IsWord word
@@ -100,7 +101,7 @@ name_first name word rest name_is word_is =
 -- a text of a header and what stands behind it
 abbrev text_of : ℕ → ℕ → ℕ → Bytes → Bytes → Bytes
 text_of f k clients secret rest =
-    codes "minbft schedule 1\n"
+    codes "minbft schedule 2\n"
     ++ (line_text (codes "f" ∷ decimal f ∷ [])
     ++ (line_text (codes "k" ∷ decimal k ∷ [])
     ++ (line_text (codes "clients" ∷ decimal clients ∷ [])
@@ -109,7 +110,7 @@ text_of f k clients secret rest =
 
 abbrev lines_of : ℕ → ℕ → ℕ → Bytes → List Bytes
 lines_of f k clients secret =
-    codes "minbft schedule 1" ∷ join_with_byte 32 (codes "f" ∷ decimal f ∷ []) ∷ join_with_byte 32 (codes "k" ∷ decimal k ∷ []) ∷ join_with_byte 32 (codes "clients" ∷ decimal clients ∷ [])
+    codes "minbft schedule 2" ∷ join_with_byte 32 (codes "f" ∷ decimal f ∷ []) ∷ join_with_byte 32 (codes "k" ∷ decimal k ∷ []) ∷ join_with_byte 32 (codes "clients" ∷ decimal clients ∷ [])
     ∷ join_with_byte 32 (codes "secret" ∷ encode_lower secret ∷ []) ∷ codes "faulty" ∷ []
 
 module _ (f k clients : ℕ) (secret rest : Bytes) (f_lt : f < 2 ^ 64) (k_lt : k < 2 ^ 64) (clients_lt : clients < 2 ^ 64) (fits : IsBytes secret) where
@@ -126,7 +127,7 @@ module _ (f k clients : ℕ) (secret rest : Bytes) (f_lt : f < 2 ^ 64) (k_lt : k
       let e4 = name_first (codes "clients") (decimal clients) l5 refl (IsWord-decimal clients clients_lt) in
       let e5 = name_first (codes "secret") (encode_lower secret) l6 refl (IsWord-encode_lower secret fits) in
       let e6 = lines-line_text (codes "faulty") [] rest refl tt in (
-        e1.0 ∙ ap (λ (ls : List Bytes). codes "minbft schedule 1" ∷ ls) (e2.0 ∙ ap (λ (ls : List Bytes). join_with_byte 32 (codes "f" ∷ decimal f ∷ []) ∷ ls)
+        e1.0 ∙ ap (λ (ls : List Bytes). codes "minbft schedule 2" ∷ ls) (e2.0 ∙ ap (λ (ls : List Bytes). join_with_byte 32 (codes "f" ∷ decimal f ∷ []) ∷ ls)
             (e3.0 ∙ ap (λ (ls : List Bytes). join_with_byte 32 (codes "k" ∷ decimal k ∷ []) ∷ ls) (e4.0 ∙ ap (λ (ls : List Bytes). join_with_byte 32 (codes "clients" ∷ decimal clients ∷ []) ∷ ls)
             (e5.0 ∙ ap (λ (ls : List Bytes). join_with_byte 32 (codes "secret" ∷ encode_lower secret ∷ []) ∷ ls) e6)))),
         e1.1 ∙ e2.1 ∙ e3.1 ∙ e4.1 ∙ e5.1 ∙ is_ended-line_text (codes "faulty") [] rest refl tt,
@@ -157,7 +158,7 @@ lines_again f k clients secret rest events header head tail = rw (head, tail) re
 
 -- the text of a schedule of nobody faulty
 text_is : (s : Schedule) → KeepsLimits s → schedule_text s ≡ text_of (max_faults s.shape) (interval s.shape) (client_count s.shape) s.secret (flat_map event_text s.events)
-text_is s keeps = rw (keeps.no_faulty_hosts, keeps.no_faulty_clients, marked_none host_text 0 (host_count s.shape), marked_none client_text 0 (client_count s.shape)) refl
+text_is s keeps = rw (keeps.no_faulty_hosts, keeps.no_faulty_clients, marked_none host_name 0 (host_count s.shape), marked_none client_name 0 (client_count s.shape)) refl
 
 contents_are : (s : Schedule) → KeepsLimits s → with_events (record { f = max_faults s.shape; k = interval s.shape; clients = client_count s.shape; secret = s.secret }) s.events ≡ contents s
 contents_are s keeps = rw (keeps.no_faulty_hosts, keeps.no_faulty_clients) refl

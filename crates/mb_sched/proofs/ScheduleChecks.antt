@@ -10,7 +10,7 @@ use Rattle.mb_sched.specs.Schedules.{schedule_of, events_from}
 
 -- a header of three hosts and two clients
 abbrev header : Bytes
-header = codes "minbft schedule 1\nf 1\nk 4\nclients 2\nsecret 00000000000000000000000000000000000000000000000000000000000000fF\nfaulty\n"
+header = codes "minbft schedule 2\nf 1\nk 4\nclients 2\nsecret 00000000000000000000000000000000000000000000000000000000000000fF\nfaulty\n"
 
 -- one request, and its message given to host 2
 reads_two_events : schedule_of (header ++ codes "ask c1 01ff\ngive 1 h2\n") ≡ Ok (record {

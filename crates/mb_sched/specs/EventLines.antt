@@ -1,7 +1,7 @@
 -- What an event line says.
-use Rattle.std.specs.Prelude.{ℕ, ◌-◌, ◌^◌, Bool, true, false, ◌&&◌, ◌||◌, if◌then◌else◌, List, [], ◌∷◌, Option, Some, None, is_some}
-use Rattle.std.specs.List.{list_any}
-use Rattle.mb_base.specs.Shapes.{Bytes}
+use Rattle.std.specs.Prelude.{ℕ, ◌-◌, ◌^◌, Bool, true, false, ◌&&◌, ◌||◌, if◌then◌else◌, List, [], ◌∷◌, length, Option, Some, None, is_some}
+use Rattle.std.specs.List.{list_all, list_any}
+use Rattle.mb_base.specs.Shapes.{Bytes, is_within}
 use Rattle.mb_sched.specs.declared.schedule.WorldEvent.{WorldEvent}
 use Rattle.mb_sched.specs.declared.schedule.WorldEvent.TheVariants.{Ask, Give}
 use Rattle.mb_sched.specs.Lines.{Line, bad, unbuilt, says}
@@ -78,11 +78,27 @@ tag_forms hosts clients =
     ∷ (is "tag" ∷ is_host hosts ∷ is "wish" ∷ is_place 1 ∷ [])
     ∷ []
 
--- what a faulty host stamps
+-- as many messages as a batch may have requests
+abbrev pub are_messages : List Bytes → Bool
+are_messages words = is_within 1 16 (length words) && list_all is_message words
+
+-- whether a line has the words of a form, and such messages behind them
+abbrev pub fits_with_messages : List (Bytes → Bool) → List Bytes → Bool
+fits_with_messages [] words = are_messages words
+fits_with_messages (test ∷ tests) [] = false
+fits_with_messages (test ∷ tests) (word ∷ words) = test word && fits_with_messages tests words
+
+-- `stamp H prepare V P M..`: the requests of these messages are the batch
+abbrev pub prepare_form : ℕ → List (Bytes → Bool)
+prepare_form hosts = is "stamp" ∷ is_host hosts ∷ is "prepare" ∷ is_place 0 ∷ is_place 1 ∷ []
+
+abbrev pub is_stamped_prepare : ℕ → List Bytes → Bool
+is_stamped_prepare hosts words = fits_with_messages (prepare_form hosts) words
+
+-- what else a faulty host stamps
 abbrev pub stamp_forms : ℕ → List (List (Bytes → Bool))
 stamp_forms hosts =
-    (is "stamp" ∷ is_host hosts ∷ is "prepare" ∷ is_place 0 ∷ is_place 1 ∷ is_message ∷ [])
-    ∷ (is "stamp" ∷ is_host hosts ∷ is "commit" ∷ is_message ∷ [])
+    (is "stamp" ∷ is_host hosts ∷ is "commit" ∷ is_message ∷ [])
     ∷ (is "stamp" ∷ is_host hosts ∷ is "checkpoint" ∷ is_place 1 ∷ is_digest ∷ [])
     ∷ (is "stamp" ∷ is_host hosts ∷ is "change" ∷ is_place 1 ∷ is_message ∷ [])
     ∷ (is "stamp" ∷ is_host hosts ∷ is "as" ∷ is_message ∷ [])
@@ -93,7 +109,7 @@ abbrev pub is_tag : ℕ → ℕ → List Bytes → Bool
 is_tag hosts clients words = fits_one (tag_forms hosts clients) words
 
 abbrev pub is_stamp : ℕ → List Bytes → Bool
-is_stamp hosts words = fits_one (stamp_forms hosts) words
+is_stamp hosts words = is_stamped_prepare hosts words || fits_one (stamp_forms hosts) words
 
 abbrev pub is_unbuilt : ℕ → ℕ → List Bytes → Bool
 is_unbuilt hosts clients words =

@@ -9,9 +9,9 @@ use Rattle.mb_sched.specs.declared.words.Party.TheVariants.{Host, Client}
 use Rattle.mb_sched.specs.Words.{words, is, number_in, host_in, client_in, digest_of}
 use Rattle.mb_sched.specs.Lines.{Line, bad, unbuilt, says, some_or_bad, Fault, ◌>>=◌, read_line}
 
--- `minbft schedule 1`
+-- `minbft schedule 2`
 abbrev pub title_line : Bytes → Line Unit
-title_line line = if is "minbft schedule 1" line then says tt else bad
+title_line line = if is "minbft schedule 2" line then says tt else bad
 
 -- a name and a number from low to high, as `f 1`
 abbrev pub number_by_name : Bytes → ℕ → ℕ → List Bytes → Option ℕ

@@ -1,8 +1,9 @@
 -- The text of a report.
-use Rattle.std.specs.Prelude.{ℕ, Bool, true, false, List, [], ◌∷◌, ◌++◌, length, map, codes, Option, Some, None}
+use Rattle.std.specs.Prelude.{ℕ, ◌+◌, Bool, true, false, List, [], ◌∷◌, ◌++◌, length, map, codes, Option, Some, None}
 use Rattle.std.specs.List.{flat_map}
 use Rattle.std.specs.Fmt.{decimal}
 use Rattle.mb_base.specs.Shapes.{Bytes}
+use Rattle.mb_msg.specs.declared.event.Placed.{Placed}
 use Rattle.mb_msg.specs.declared.event.Slot.{Slot}
 use Rattle.mb_parts.specs.declared.floor.Phase.{Phase}
 use Rattle.mb_parts.specs.declared.floor.Phase.TheVariants.{Changing, Entered, Open}
@@ -14,17 +15,9 @@ use Rattle.mb_sched.specs.declared.report.RefusedLine.{RefusedLine}
 use Rattle.mb_sched.specs.declared.report.Report.{Report}
 use Rattle.mb_sched.specs.declared.report.Word.{Word}
 use Rattle.mb_sched.specs.declared.report.Word.TheVariants.{Malformed, Unbuilt, BadUi, BadTag, Stale, Ahead, Illegal, Convicted, NeedBody, LaterView, BeyondWindow, Unusable, WrongDigest, BadState, Old, OtherSeq}
-use Rattle.mb_sched.specs.Printing.{line_of, hex_word}
+use Rattle.mb_sched.specs.Printing.{client_name, host_name, line_of, hex_word}
 
--- client 3 is named c3
-abbrev pub client_name : ℕ → Bytes
-client_name client = codes "c" ++ decimal client
-
--- host 2 is named h2
-abbrev pub host_name : ℕ → Bytes
-host_name host = codes "h" ++ decimal host
-
--- whether a slot's request changed the state
+-- whether a request changed the state
 abbrev pub fresh_name : Bool → Bytes
 fresh_name true = codes "fresh"
 fresh_name false = codes "again"
@@ -54,9 +47,18 @@ phase_name Changing = codes "changing"
 phase_name Entered = codes "entered"
 phase_name Open = codes "open"
 
--- a slot: its position, the client, the number of the request, and the operation
-abbrev pub slot_line : Slot → Bytes
-slot_line s = line_of (codes "slot" ∷ decimal s.pos ∷ client_name s.request.client ∷ decimal s.request.seq ∷ fresh_name s.fresh ∷ hex_word s.request.op ∷ [])
+-- a request of a slot: the position, its place in the batch from 0, the client, the number, and the operation
+abbrev pub placed_line : ℕ → ℕ → Placed → Bytes
+placed_line pos i p = line_of (codes "slot" ∷ decimal pos ∷ decimal i ∷ client_name p.request.client ∷ decimal p.request.seq ∷ fresh_name p.fresh ∷ hex_word p.request.op ∷ [])
+
+-- the requests of a slot, of which the first has this place
+abbrev pub placed_lines : ℕ → ℕ → List Placed → Bytes
+placed_lines pos i [] = []
+placed_lines pos i (p ∷ ps) = placed_line pos i p ++ placed_lines pos (i + 1) ps
+
+-- a slot: one line for each request
+abbrev pub slot_lines : Slot → Bytes
+slot_lines s = placed_lines s.pos 0 s.requests
 
 -- a refused event: its number, the outcome, and the numbers of the outcome
 abbrev pub refused_line : RefusedLine → Bytes
@@ -83,10 +85,10 @@ client_lines c = line_of (codes "client" ∷ client_name c.client ∷ codes "ask
 -- a report: its head, the slots, the refused events, the hosts, the clients, and its end
 unfoldable pub report_text : Report → Bytes
 report_text r =
-    line_of (codes "minbft" ∷ codes "report" ∷ codes "1" ∷ [])
+    line_of (codes "minbft" ∷ codes "report" ∷ codes "2" ∷ [])
     ++ (line_of (codes "events" ∷ decimal r.events ∷ codes "messages" ∷ decimal r.messages ∷ [])
     ++ (line_of (codes "line" ∷ decimal (length r.line) ∷ [])
-    ++ (flat_map slot_line r.line
+    ++ (flat_map slot_lines r.line
     ++ (flat_map refused_line r.refused
     ++ (flat_map host_line r.hosts
     ++ (flat_map client_lines r.clients

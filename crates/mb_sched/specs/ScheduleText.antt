@@ -8,18 +8,11 @@ use Rattle.mb_base.specs.Shapes.{Bytes, max_faults, interval, client_count, host
 use Rattle.mb_sched.specs.declared.schedule.Schedule.{Schedule}
 use Rattle.mb_sched.specs.declared.schedule.WorldEvent.{WorldEvent}
 use Rattle.mb_sched.specs.declared.schedule.WorldEvent.TheVariants.{Ask, Give}
+use Rattle.mb_sched.specs.Printing.{client_name, host_name, hex_word}
 
 -- words with a space between each two, and the LF behind them
 abbrev pub line_text : List Bytes → Bytes
 line_text words = join_with_byte (byte " ") words ++ codes "\n"
-
--- host 2 is named h2
-abbrev pub host_text : ℕ → Bytes
-host_text host = codes "h" ++ decimal host
-
--- client 2 is named c2
-abbrev pub client_text : ℕ → Bytes
-client_text client = codes "c" ++ decimal client
 
 -- the names of those that are marked, of whom the first has the number n
 abbrev pub marked : (ℕ → Bytes) → ℕ → List Bool → List Bytes
@@ -27,15 +20,10 @@ marked name n [] = []
 marked name n (true ∷ marks) = name n ∷ marked name (n + 1) marks
 marked name n (false ∷ marks) = marked name (n + 1) marks
 
--- bytes in lower-case hexadecimal, and a dash where there are none
-abbrev pub hex_text : Bytes → Bytes
-hex_text [] = codes "-"
-hex_text (b ∷ bs) = encode_lower (b ∷ bs)
-
 -- the words of an event's line
 abbrev pub event_words : WorldEvent → List Bytes
-event_words (Ask client op) = codes "ask" ∷ client_text client ∷ hex_text op ∷ []
-event_words (Give message host) = codes "give" ∷ decimal message ∷ host_text host ∷ []
+event_words (Ask client op) = codes "ask" ∷ client_name client ∷ hex_word op ∷ []
+event_words (Give message host) = codes "give" ∷ decimal message ∷ host_name host ∷ []
 
 abbrev pub event_text : WorldEvent → Bytes
 event_text event = line_text (event_words event)
@@ -43,12 +31,12 @@ event_text event = line_text (event_words event)
 -- the six lines of the header, and one for each event
 abbrev pub schedule_text : Schedule → Bytes
 schedule_text s =
-    codes "minbft schedule 1\n"
+    codes "minbft schedule 2\n"
     ++ (line_text (codes "f" ∷ decimal (max_faults s.shape) ∷ [])
     ++ (line_text (codes "k" ∷ decimal (interval s.shape) ∷ [])
     ++ (line_text (codes "clients" ∷ decimal (client_count s.shape) ∷ [])
     ++ (line_text (codes "secret" ∷ encode_lower s.secret ∷ [])
-    ++ (line_text (codes "faulty" ∷ (marked host_text 0 s.faulty_hosts ++ marked client_text 0 s.faulty_clients))
+    ++ (line_text (codes "faulty" ∷ (marked host_name 0 s.faulty_hosts ++ marked client_name 0 s.faulty_clients))
     ++ flat_map event_text s.events)))))
 
 -- an event's numbers and its operation are within the limits of a system of so many hosts and clients

@@ -1,9 +1,10 @@
 //! What an event line says.
 
 ghost use Rattle.std.specs.Prelude.{◌≡◌, IfOk};
+ghost use Rattle.std.specs.List.{list_all};
 ghost use Rattle.mb_base.specs.Shapes.{host_count, client_count};
 ghost use Rattle.mb_sched.specs.Words.{words, texts};
-ghost use Rattle.mb_sched.specs.EventLines.{ask_of, give_of, fits, is_tag, is_stamp, is_unbuilt, event_line};
+ghost use Rattle.mb_sched.specs.EventLines.{ask_of, give_of, fits, is_message, are_messages, fits_with_messages, is_stamped_prepare, is_tag, is_stamp, is_unbuilt, event_line};
 ghost use Rattle.mb_sched.specs.Forms.{passes, tests_of};
 
 use crate::lines::Line;
@@ -12,6 +13,7 @@ use crate::words::{
     client_in, digest_of, host_in, is_hex, is_operation, is_word, number_in, operation_of, words_of,
 };
 use mb_base::{NoMemory, Shape};
+use mb_parts::MAX_REQUESTS;
 use std::alloc::Global;
 
 /// What a word of a line has to be.
@@ -160,41 +162,79 @@ fn is_tag(shape: Shape, words: &[&[u8]]) -> bool
     )
 }
 
+/// Whether each word is the number of a message.
+fn are_numbers(words: &[&[u8]]) -> bool
+    ensures { result ≡ list_all is_message (texts words.now) }
+{
+    match words {
+        [] => true,
+        [word, words @ ..] => number_in(0, u64::MAX, word).is_some() && are_numbers(words),
+    }
+}
+
+/// As many messages as a batch may have requests.
+fn are_messages(words: &[&[u8]]) -> bool
+    ensures { result ≡ are_messages (texts words.now) }
+{
+    1 <= words.len() && words.len() <= usize::from(MAX_REQUESTS) && are_numbers(words)
+}
+
+/// Whether a line has the words of a form, and such messages behind them.
+fn fits_with_messages(shape: Shape, form: &[Field], words: &[&[u8]]) -> bool
+    ensures { result
+        ≡ fits_with_messages (tests_of (host_count shape) (client_count shape) form.now) (texts words.now) }
+{
+    match form {
+        [] => are_messages(words),
+        [field, form @ ..] => match words {
+            [] => false,
+            [word, words @ ..] => {
+                passes(shape, *field, word) && fits_with_messages(shape, form, words)
+            }
+        },
+    }
+}
+
+/// `stamp H prepare V P M..`: the requests of these messages are the batch
+fn is_stamped_prepare(shape: Shape, words: &[&[u8]]) -> bool
+    ensures { result ≡ is_stamped_prepare (host_count shape) (texts words.now) }
+{
+    use Field::{Host, Word};
+    fits_with_messages(
+        shape,
+        &[Word(b"stamp"), Host, Word(b"prepare"), PLACE, PLACE_FROM_1],
+        words,
+    )
+}
+
 /// `stamp H` and what is stamped
 fn is_stamp(shape: Shape, words: &[&[u8]]) -> bool
     ensures { result ≡ is_stamp (host_count shape) (texts words.now) }
 {
     use Field::{Digest, Hex, Host, Word};
-    fits(
-        shape,
-        &[
-            Word(b"stamp"),
-            Host,
-            Word(b"prepare"),
-            PLACE,
-            PLACE_FROM_1,
-            MESSAGE,
-        ],
-        words,
-    ) || fits(
-        shape,
-        &[Word(b"stamp"), Host, Word(b"commit"), MESSAGE],
-        words,
-    ) || fits(
-        shape,
-        &[
-            Word(b"stamp"),
-            Host,
-            Word(b"checkpoint"),
-            PLACE_FROM_1,
-            Digest,
-        ],
-        words,
-    ) || fits(
-        shape,
-        &[Word(b"stamp"), Host, Word(b"change"), PLACE_FROM_1, MESSAGE],
-        words,
-    ) || fits(shape, &[Word(b"stamp"), Host, Word(b"as"), MESSAGE], words)
+    is_stamped_prepare(shape, words)
+        || fits(
+            shape,
+            &[Word(b"stamp"), Host, Word(b"commit"), MESSAGE],
+            words,
+        )
+        || fits(
+            shape,
+            &[
+                Word(b"stamp"),
+                Host,
+                Word(b"checkpoint"),
+                PLACE_FROM_1,
+                Digest,
+            ],
+            words,
+        )
+        || fits(
+            shape,
+            &[Word(b"stamp"), Host, Word(b"change"), PLACE_FROM_1, MESSAGE],
+            words,
+        )
+        || fits(shape, &[Word(b"stamp"), Host, Word(b"as"), MESSAGE], words)
         || fits(shape, &[Word(b"stamp"), Host, Word(b"raw"), Hex], words)
 }
 

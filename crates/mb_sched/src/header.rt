@@ -61,12 +61,12 @@ fn header_by(
     Ok(Header { shape, secret })
 }
 
-/// Line 1: `minbft schedule 1`.
+/// Line 1: `minbft schedule 2`.
 fn read_title(line: Option<&[u8]>) -> Result<(), BadText>
     ensures { Answers (λ x. x) result (read_line 1 title_line (option_copied line.entry)) }
 {
     match line {
-        Some(line) if is_word(line, b"minbft schedule 1") => Ok(()),
+        Some(line) if is_word(line, b"minbft schedule 2") => Ok(()),
         _ => Err(BadText::BadLine { number: 1 }),
     }
 }

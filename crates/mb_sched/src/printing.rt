@@ -3,21 +3,22 @@
 ghost use Rattle.std.specs.Prelude.{◌≡◌, ◌∷◌, ◌++◌, map, decimal, IfOk, OnOk, string_bytes};
 ghost use Rattle.std.specs.List.{flat_map};
 ghost use Rattle.mb_sched.specs.Printing.{line_of, hex_word, spaced_number};
-ghost use Rattle.mb_sched.specs.Report.{report_text, slot_line, refused_line, host_line, client_lines, result_line, word_name, phase_name, fresh_name};
+ghost use Rattle.mb_sched.specs.Report.{report_text, placed_line, placed_lines, slot_lines, refused_line, host_line, client_lines, result_line, word_name, phase_name, fresh_name};
 
 use crate::report::{ClientLine, HostLine, HostState, LastResult, RefusedLine, Report, Word};
-use mb_base::{Client, Host, NoMemory};
-use mb_msg::{Phase, Slot};
+use mb_base::{Client, Host, NoMemory, Pos};
+use mb_msg::{Phase, Placed, Slot};
 use std::alloc::Global;
 use std::fmt::Write;
 
 /// The text of a report. Each line ends with LF, its words are parted by one space, and numbers are decimal:
 ///
 /// ```text
-/// minbft report 1
+/// minbft report 2
 /// events E messages M
 /// line L                               the number of slots
-/// slot P cC SEQ fresh OP               for each slot; `again` in place of `fresh` where it changed nothing
+/// slot P I cC SEQ fresh OP             for each request of each slot, I counting from 0 in the slot;
+///                                      `again` in place of `fresh` where it changed nothing
 /// refused E NAME NUMBER..              for each refused event, with the numbers of its outcome
 /// host hH view V PHASE exec X low W log N longest G
 ///                                      for each host; only `host hH faulty` for a faulty one
@@ -32,7 +33,7 @@ pub fn print_report(alloc: Global, report: &Report) -> Result<Vec<u8>, NoMemory>
     ensures { IfOk result (λ v. v.items ≡ report_text report.now) }
 {
     let mut out = String::new(alloc);
-    writeln!(out, "minbft report 1")?;
+    writeln!(out, "minbft report 2")?;
     writeln!(out, "events {} messages {}", report.events, report.messages)?;
     writeln!(out, "line {}", report.line.len())?;
     print_slots(alloc, &mut out, report.line.as_slice())?;
@@ -44,7 +45,7 @@ pub fn print_report(alloc: Global, report: &Report) -> Result<Vec<u8>, NoMemory>
 }
 
 fn print_slots(alloc: Global, out: &mut String, slots: &[Slot]) -> Result<(), NoMemory>
-    ensures { OnOk result (string_bytes out.new ≡ string_bytes out.old ++ flat_map slot_line slots.now) }
+    ensures { OnOk result (string_bytes out.new ≡ string_bytes out.old ++ flat_map slot_lines slots.now) }
 {
     for slot in slots {
         print_slot(alloc, out, slot)?;
@@ -52,16 +53,32 @@ fn print_slots(alloc: Global, out: &mut String, slots: &[Slot]) -> Result<(), No
     Ok(())
 }
 
+/// A line for each request of a slot.
 fn print_slot(alloc: Global, out: &mut String, slot: &Slot) -> Result<(), NoMemory>
-    ensures { OnOk result (string_bytes out.new ≡ string_bytes out.old ++ slot_line slot.now) }
+    ensures { OnOk result (string_bytes out.new ≡ string_bytes out.old ++ slot_lines slot.now) }
 {
-    let request = &slot.request;
-    let fresh = fresh_name(slot.fresh);
+    for (i, placed) in slot.requests.as_slice().iter().enumerate() {
+        print_placed(alloc, out, slot.pos, i, placed)?;
+    }
+    Ok(())
+}
+
+fn print_placed(
+    alloc: Global,
+    out: &mut String,
+    pos: Pos,
+    i: usize,
+    placed: &Placed,
+) -> Result<(), NoMemory>
+    ensures { OnOk result (string_bytes out.new ≡ string_bytes out.old ++ placed_line pos i placed.now) }
+{
+    let request = &placed.request;
+    let fresh = fresh_name(placed.fresh);
     let op = hex_word(alloc, request.op.as_slice())?;
     writeln!(
         out,
-        "slot {} c{} {} {fresh} {op}",
-        slot.pos, request.client, request.seq
+        "slot {pos} {i} c{} {} {fresh} {op}",
+        request.client, request.seq
     )?;
     Ok(())
 }
@@ -226,14 +243,14 @@ fn print_result(
 #[cfg(test)]
 mod tests {
     use super::*;
-    use mb_base::{Items, Pos};
+    use mb_base::{Items, Seq};
     use mb_msg::Request;
     use std::test::Fail;
 
-    const ONE_PUT: &str = "minbft report 1
+    const ONE_PUT: &str = "minbft report 2
 events 5 messages 7
 line 1
-slot 1 c0 1 fresh 010161000131
+slot 1 0 c0 1 fresh 010161000131
 host h0 view 0 open exec 1 low 0 log 1 longest 1
 host h1 view 0 open exec 1 low 0 log 1 longest 1
 host h2 view 0 open exec 1 low 0 log 1 longest 1
@@ -241,10 +258,12 @@ client c0 asked 1 accepted 0
 end
 ";
 
-    const WITH_FAULTS: &str = "minbft report 1
+    const WITH_FAULTS: &str = "minbft report 2
 events 9 messages 18446744073709551615
-line 1
-slot 2 c0 1 again -
+line 2
+slot 2 0 c0 1 again -
+slot 3 0 c0 2 fresh 00
+slot 3 1 c1 1 again -
 refused 3 unbuilt 16
 refused 5 stale 2
 refused 7 needbody 1 5
@@ -254,18 +273,20 @@ result c0 1 1 00
 end
 ";
 
-    fn slot(alloc: Global, pos: Pos, fresh: bool, op: &[u8]) -> Result<Slot, NoMemory> {
+    fn placed(
+        alloc: Global,
+        client: Client,
+        seq: Seq,
+        fresh: bool,
+        op: &[u8],
+    ) -> Result<Placed, NoMemory> {
         let request = Request {
-            client: 0,
-            seq: 1,
+            client,
+            seq,
             op: Items::from_vec(op.to_vec(alloc)?),
             tag: [0; 32],
         };
-        Ok(Slot {
-            pos,
-            request,
-            fresh,
-        })
+        Ok(Placed { request, fresh })
     }
 
     fn refused(
@@ -298,7 +319,11 @@ end
     }
 
     fn one_put(alloc: Global) -> Result<Report, NoMemory> {
-        let slot = slot(alloc, 1, true, b"\x01\x01a\x00\x011")?;
+        let put = placed(alloc, 0, 1, true, b"\x01\x01a\x00\x011")?;
+        let slot = Slot {
+            pos: 1,
+            requests: Items::from_vec(vec![in alloc; put]?),
+        };
         let client = ClientLine {
             client: 0,
             asked: 1,
@@ -330,7 +355,17 @@ end
     }
 
     fn with_faults(alloc: Global) -> Result<Report, NoMemory> {
-        let slot = slot(alloc, 2, false, &[])?;
+        let again = placed(alloc, 0, 1, false, &[])?;
+        let first = Slot {
+            pos: 2,
+            requests: Items::from_vec(vec![in alloc; again]?),
+        };
+        let fresh = placed(alloc, 0, 2, true, &[0])?;
+        let again = placed(alloc, 1, 1, false, &[])?;
+        let second = Slot {
+            pos: 3,
+            requests: Items::from_vec(vec![in alloc; fresh, again]?),
+        };
         let unbuilt = refused(alloc, 3, Word::Unbuilt, &[16])?;
         let stale = refused(alloc, 5, Word::Stale, &[2])?;
         let need_body = refused(alloc, 7, Word::NeedBody, &[1, 5])?;
@@ -342,7 +377,7 @@ end
         Ok(Report {
             events: 9,
             messages: u64::MAX,
-            line: Items::from_vec(vec![in alloc; slot]?),
+            line: Items::from_vec(vec![in alloc; first, second]?),
             refused: Items::from_vec(vec![in alloc; unbuilt, stale, need_body]?),
             hosts: Items::from_vec(vec![in alloc; faulty]?),
             clients: Items::from_vec(vec![in alloc; client]?),

@@ -10,7 +10,7 @@ pub struct Report {
     pub events: u64,
     /// The number of messages that were made.
     pub messages: u64,
-    /// The one list of executed requests.
+    /// The one list of executed batches.
     pub line: Items<Slot>,
     /// The refused events, in the order in which they came.
     pub refused: Items<RefusedLine>,

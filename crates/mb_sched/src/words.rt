@@ -39,10 +39,13 @@ pub(crate) fn cut(text: &[u8], separator: u8) -> (&[u8], Option<&[u8]>)
     }
 }
 
-/// The words of a line that has at most seven, as each event line has.
-pub(crate) fn words_of(line: &[u8]) -> Option<ArrayVec<&[u8], 7>>
+/// The most words of an event line: five, and the numbers of 16 messages.
+const MAX_WORDS: usize = 21;
+
+/// The words of a line that has no more than an event line may have.
+pub(crate) fn words_of(line: &[u8]) -> Option<ArrayVec<&[u8], MAX_WORDS>>
     ensures { MatchOption result
-        (7 < length (words line.now)) (λ list. texts list.items ≡ words line.now) }
+        (21 < length (words line.now)) (λ list. texts list.items ≡ words line.now) }
 {
     let mut list = ArrayVec::new();
     let mut rest = Some(line);

@@ -1,38 +1,25 @@
--- What clients have asked in each world: it fits, has its tag and was hashed, so that different requests have different digests where the premise holds.
-use Rattle.std.proofs.Common.{◌≡◌, ℕ, zero, suc, ◌+◌, ◌≤◌, ◌<◌, ◌^◌, false, List, ◌++◌, length, refl, sym, ap, subst, ◌∙◌, inl, inr, arith, eqb, Option, Some, None}
+-- What clients have asked in each world: it fits, and has its tag.
+use Rattle.std.proofs.Common.{◌≡◌, ℕ, zero, suc, ◌+◌, ◌≤◌, ◌<◌, ◌^◌, false, List, length, refl, sym, ap, subst, ◌∙◌, inl, inr, arith, eqb, Option, Some, None}
 use Rattle.std.specs.Prelude.{slice_get, unwrap_or, replicate, option_map}
-use Rattle.std.specs.List.{flat_map}
 use Rattle.std.proofs.lemmas.Bool.{cases_Bool}
 use Rattle.std.proofs.lemmas.Option.{slice_get-map}
 use Rattle.mb_base.specs.Shapes.{Bytes, host_count}
 use Rattle.mb_usig.specs.Tags.{request_text, request_tag}
 use Rattle.mb_usig.proofs.Laws.{length-signed_request}
 use Rattle.mb_parts.specs.declared.request.Request.{Request}
-use Rattle.mb_parts.specs.Spelling.{request_bytes}
 use Rattle.mb_parts.specs.Fits.{FitsRequest}
-use Rattle.mb_msg.specs.declared.message.Message.TheVariants as message
 use Rattle.mb_msg.specs.declared.event.Event.TheVariants as event
-use Rattle.mb_msg.specs.Spelling.{spelling}
-use Rattle.mb_model.specs.Sending.{Progress}
-use Rattle.mb_model.specs.HostStep.{transition}
 use Rattle.mb_model.specs.Clients.{Asker, asks}
-use Rattle.mb_model.proofs.Members.{In, contained, in_left, in_right}
-use Rattle.mb_sched.specs.declared.schedule.WorldEvent.{WorldEvent as BuiltEvent}
-use Rattle.mb_sched.specs.declared.schedule.WorldEvent.TheVariants as built
+use Rattle.mb_model.proofs.Members.{In}
+use Rattle.mb_sched.specs.declared.schedule.WorldEvent.{WorldEvent as ReadEvent}
+use Rattle.mb_sched.specs.declared.schedule.WorldEvent.TheVariants as read_event
 use Rattle.mb_sched.specs.Limits.{EventFits, ScheduleFits}
-use Rattle.mb_theory.specs.Inside.{requests_in, strings_in}
-use Rattle.mb_theory.specs.Hashed.{HashesApart}
 use Rattle.mb_theory.specs.WorldEvents.{is_faulty}
-use Rattle.mb_theory.specs.World.{World, update, numbered, made_strings, given_strings, request_of, arrives, steps, give_host}
+use Rattle.mb_theory.specs.World.{World, update, numbered, request_of, arrives, steps, give_host}
 use Rattle.mb_theory.specs.WorldSteps.{with_message, happens, world}
 use Rattle.mb_theory.specs.FirstPath.{event_of}
 use Rattle.mb_theory.proofs.Lists.{get_there}
-use Rattle.mb_msg.proofs.Messages.{message_again}
-use Rattle.mb_msg.proofs.Sizes.{small_request}
-use Rattle.mb_msg.proofs.Injective.{request_injective}
-use Rattle.mb_theory.proofs.Invariant.{Run, system, self}
-use Rattle.mb_theory.proofs.Executed.{Apart}
-use Rattle.mb_model.proofs.EarlyHistories.{shape_fits}
+use Rattle.mb_theory.proofs.Invariant.{Run, system}
 
 all_false : (n i : ℕ) → unwrap_or (slice_get (replicate n false) i) false ≡ false
 all_false zero i = refl
@@ -50,17 +37,16 @@ module _ {S : Type 0} (run : Run S) where
   unfolding give_host
   makes_step h bytes w = rw (nobody_faulty h) refl
 
-  pub event_there : (k : ℕ) (e : BuiltEvent) → slice_get run.schedule.events k ≡ Some e → slice_get (system run).schedule.events k ≡ Some (event_of e)
+  pub event_there : (k : ℕ) (e : ReadEvent) → slice_get run.schedule.events k ≡ Some e → slice_get (system run).schedule.events k ≡ Some (event_of e)
   event_there k e at = slice_get-map event_of run.schedule.events k ∙ ap (option_map event_of) at
 
   -- ---- what was asked
 
-  -- No client asked more than once in an event. Each request fits, has its tag, and was hashed.
+  -- No client asked more than once in an event. Each request fits, and has its tag.
   pub record AskedFine (k : ℕ) (w : World) : Type 0 where
     pub few : (c : ℕ) → (w.askers c).number ≤ k
     pub fitting : (r : Request) → In w.asked r → FitsRequest run.schedule.shape r
     pub tagged : (r : Request) → In w.asked r → r.tag ≡ request_tag run.schedule.secret r.client r.seq r.op
-    pub was_hashed : (r : Request) → In w.asked r → In w.hashed (request_bytes r)
 
   -- ---- a client asks
 
@@ -68,7 +54,7 @@ module _ {S : Type 0} (run : Run S) where
   abbrev pub next_request : World → ℕ → Bytes → Request
   next_request w c op = request_of (system run).schedule c ((w.askers c).number + 1) op
 
-  request_fits : (k : ℕ) (w : World) (c : ℕ) (op : Bytes) → AskedFine k w → EventFits run.schedule.shape (built.Ask c op) → k < 2 ^ 63 → FitsRequest run.schedule.shape (next_request w c op)
+  request_fits : (k : ℕ) (w : World) (c : ℕ) (op : Bytes) → AskedFine k w → EventFits run.schedule.shape (read_event.Ask c op) → k < 2 ^ 63 → FitsRequest run.schedule.shape (next_request w c op)
   request_fits k w c op x fits short =
       let few = x.few c in
       record { client = fits.0; seq = (omega arith, omega arith); op = fits.1; tag = length-signed_request run.schedule.secret c (request_text c ((w.askers c).number + 1) op) }
@@ -79,47 +65,29 @@ module _ {S : Type 0} (run : Run S) where
     | inr other ↦ rw other (let before = few g in omega arith)
   ]
 
-  string_made : (r : Request) → FitsRequest run.schedule.shape r → In (made_strings (system run).schedule (spelling (message.Request r))) (request_bytes r)
-  unfolding strings_in requests_in
-  string_made r fits = rw (message_again run.schedule.shape (shape_fits run.schedule.shape) (message.Request r) (small_request run.schedule.shape r fits)) (inl refl)
-
-  asks_fine : (k : ℕ) (w : World) (c : ℕ) (op : Bytes) → AskedFine k w → EventFits run.schedule.shape (built.Ask c op) → k < 2 ^ 63 → AskedFine (suc k) (happens (system run) w (event_of (built.Ask c op)))
+  asks_fine : (k : ℕ) (w : World) (c : ℕ) (op : Bytes) → AskedFine k w → EventFits run.schedule.shape (read_event.Ask c op) → k < 2 ^ 63 → AskedFine (suc k) (happens (system run) w (event_of (read_event.Ask c op)))
   unfolding happens
   asks_fine k w c op x fits short =
       let r : Request = next_request w c op in
-      let strings : List Bytes = made_strings (system run).schedule (spelling (message.Request r)) in
       let new : FitsRequest run.schedule.shape r = request_fits k w c op x fits short in
       record {
         few = one_more k w.askers c x.few;
         fitting = λ q i. elim i [ inl is ↦ subst (FitsRequest run.schedule.shape) is new | inr before ↦ x.fitting q before ];
         tagged = λ q i. elim i [ inl is ↦ subst (λ (y : Request). y.tag ≡ request_tag run.schedule.secret y.client y.seq y.op) is refl | inr before ↦ x.tagged q before ];
-        was_hashed = λ q i. elim i [
-          | inl is ↦ subst (λ (y : Request). In (w.hashed ++ strings) (request_bytes y)) is (in_right w.hashed strings (request_bytes r) (string_made r new))
-          | inr before ↦ in_left w.hashed strings (request_bytes q) (x.was_hashed q before)
-        ];
       }
 
   -- ---- a message is given
 
-  -- What was asked stays as it was, and what was hashed stays hashed.
+  -- What was asked stays as it was.
   pub record KeepsAsked (w v : World) : Type 0 where
     pub same_asked : v.asked ≡ w.asked
     pub same_askers : v.askers ≡ w.askers
-    pub still_hashed : (b : Bytes) → In w.hashed b → In v.hashed b
 
   host_keeps : (h : ℕ) (bytes : Bytes) (w : World) → KeepsAsked w (give_host (system run) h bytes w)
-  host_keeps h bytes w =
-      let arrived : World = arrives (system run).schedule h bytes w in
-      let made : Progress = (transition (self run h) (w.histories h) (event.Given bytes)).left in
-      subst (KeepsAsked w) (sym (makes_step h bytes w)) (record {
-        same_asked = refl;
-        same_askers = refl;
-        still_hashed = λ b i. in_left (arrived.hashed ++ made.hashed) (flat_map (λ letter. strings_in run.schedule.shape letter.says) made.sent) b
-            (in_left arrived.hashed made.hashed b (in_left w.hashed (given_strings (system run).schedule bytes) b i));
-      })
+  host_keeps h bytes w = subst (KeepsAsked w) (sym (makes_step h bytes w)) (record { same_asked = refl; same_askers = refl })
 
   pub given_keeps : (w : World) (h : ℕ) (o : Option Bytes) → KeepsAsked w (with_message (give_host (system run) h) o w)
-  given_keeps w h None = record { same_asked = refl; same_askers = refl; still_hashed = λ b i. i }
+  given_keeps w h None = record { same_asked = refl; same_askers = refl }
   given_keeps w h (Some bytes) = host_keeps h bytes w
 
   asked_later : (k : ℕ) (w v : World) → KeepsAsked w v → AskedFine k w → AskedFine (suc k) v
@@ -127,30 +95,21 @@ module _ {S : Type 0} (run : Run S) where
     few = λ c. let few = x.few c in omega (arith, ap (λ (f : ℕ → Asker). (f c).number) e.same_askers);
     fitting = λ r i. x.fitting r (before r i);
     tagged = λ r i. x.tagged r (before r i);
-    was_hashed = λ r i. e.still_hashed _ (x.was_hashed r (before r i));
   } where
     before : (r : Request) → In v.asked r → In w.asked r
     before r i = subst (λ (l : List Request). In l r) e.same_asked i
 
   -- ---- every world
 
-  happens_fine : (k : ℕ) (w : World) (e : BuiltEvent) → EventFits run.schedule.shape e → k < 2 ^ 63 → AskedFine k w → AskedFine (suc k) (happens (system run) w (event_of e))
+  happens_fine : (k : ℕ) (w : World) (e : ReadEvent) → EventFits run.schedule.shape e → k < 2 ^ 63 → AskedFine k w → AskedFine (suc k) (happens (system run) w (event_of e))
   unfolding happens
-  happens_fine k w (built.Ask c op) fits short x = asks_fine k w c op x fits short
-  happens_fine k w (built.Give m h) fits short x = asked_later k w _ (given_keeps w h (numbered w.pool m)) x
+  happens_fine k w (read_event.Ask c op) fits short x = asks_fine k w c op x fits short
+  happens_fine k w (read_event.Give m h) fits short x = asked_later k w _ (given_keeps w h (numbered w.pool m)) x
 
   pub asked_fine : (k : ℕ) → ScheduleFits run.schedule → k ≤ length run.schedule.events → AskedFine k (world (system run) k)
   unfolding world
-  asked_fine zero fits le = record { few = λ c. omega arith; fitting = λ r i. absurd i; tagged = λ r i. absurd i; was_hashed = λ r i. absurd i }
+  asked_fine zero fits le = record { few = λ c. omega arith; fitting = λ r i. absurd i; tagged = λ r i. absurd i }
   asked_fine (suc k) fits le =
       let there = get_there run.schedule.events k (omega arith) in
       let short = fits.count in
       rw (event_there k there.0 there.1) (happens_fine k (world (system run) k) there.0 (fits.events k there.0 there.1) (omega arith) (asked_fine k fits (omega arith)))
-
-  -- ---- digests
-
-  -- where no two hashed strings share a digest, no two asked requests do
-  pub apart_from : (k : ℕ) (w : World) → AskedFine k w → HashesApart w.hashed → Apart w.asked
-  apart_from k w x apart q r i j e =
-      let bytes : request_bytes q ≡ request_bytes r = apart (request_bytes q) (request_bytes r) (contained _ _ (x.was_hashed q i)) (contained _ _ (x.was_hashed r j)) e in
-      request_injective run.schedule.shape (shape_fits run.schedule.shape) q r (x.fitting q i) (x.fitting r j) bytes

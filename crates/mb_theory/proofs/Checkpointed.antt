@@ -3,22 +3,21 @@ use Rattle.std.proofs.Common.{◌≡◌, ℕ, Bool, true, false, ◌&&◌, [], �
 use Rattle.std.specs.Prelude.{◌==◌, ◌%◌}
 use Rattle.std.proofs.lemmas.Bool.{cases_Bool, eq-eqb}
 use Rattle.mb_base.specs.Shapes.{interval}
-use Rattle.mb_parts.specs.declared.request.Request.{Request}
+use Rattle.mb_parts.specs.declared.batch.Batch.{Batch}
 use Rattle.mb_msg.specs.declared.event.Slot.{Slot}
 use Rattle.mb_msg.specs.declared.message.Message.TheVariants as message
 use Rattle.mb_msg.specs.declared.stamped.Stamped.{Stamped as StampedMessage}
 use Rattle.mb_msg.specs.declared.message.Body.TheVariants.{Whole}
 use Rattle.mb_msg.specs.Stamps.{bare_of}
-use Rattle.mb_model.specs.Service.{is_fresh}
 use Rattle.mb_model.specs.States.{state_digest}
-use Rattle.mb_model.specs.Histories.{Entry, Accepted, Stamped, Executed, History, Identity}
+use Rattle.mb_model.specs.Histories.{Entry, Accepted, Stamped, Served, Executed, History, Identity}
 use Rattle.mb_model.specs.OwnLog.{has_room}
-use Rattle.mb_model.specs.Execution.{state_of}
 use Rattle.mb_model.specs.Sending.{Progress, signed, next_ui}
 use Rattle.mb_model.specs.Making.{checkpoint, present_parts, floors_under}
-use Rattle.mb_model.specs.CarriedOut.{slot_for, execute}
-use Rattle.mb_theory.specs.NothingLeft.{IsCheckpointed, StampsCheckpoints}
-use Rattle.mb_theory.proofs.KeptByEvents.{is_plain, IsKept, state_keeps}
+use Rattle.mb_model.specs.CarriedOut.{serve_all, slot_for, close_slot, at_interval, execute}
+use Rattle.mb_theory.specs.NothingLeft.{HasRoom, IsCheckpointed, StampsCheckpoints}
+use Rattle.mb_theory.proofs.KeptByEvents.{is_plain, IsKept, served_keep, state_keeps}
+use Rattle.mb_theory.proofs.Words.{room_is}
 
 -- An executed slot of a list is its first entry, or stands behind it.
 split : (e : Entry) (d later before : History) (slot : Slot) → e ∷ d ≡ later ++ Executed slot ∷ before
@@ -49,12 +48,12 @@ module _ {S : Type 0} (self : Identity S) where
   ]
 
   -- An execution without a CHECKPOINT: between multiples, or without room.
-  alone : (s : Slot) (d : History) → (self.built.checkpoints ≡ true → s.pos % interval self.shape ≡ 0 → has_room self (Executed s ∷ d) ≡ true → ⊥) → StampsCheckpoints self d → StampsCheckpoints self (Executed s ∷ d)
+  alone : (s : Slot) (d : History) → (self.built.checkpoints ≡ true → s.pos % interval self.shape ≡ 0 → HasRoom self (Executed s ∷ d) → ⊥) → StampsCheckpoints self d → StampsCheckpoints self (Executed s ∷ d)
   alone s d none all on later before slot is multiple room = elim (split (Executed s) d later before slot is) [
     | inl (first, same, rest) ↦
         let it : s ≡ slot = same_slot s slot same in
         absurd (none on (subst (λ (x : Slot). x.pos % interval self.shape ≡ 0) (sym it) multiple)
-        (subst (λ (x : Slot). has_room self (Executed x ∷ d) ≡ true) (sym it) (subst (λ (l : History). has_room self (Executed slot ∷ l) ≡ true) (sym rest) room)))
+        (subst (λ (x : Slot). HasRoom self (Executed x ∷ d)) (sym it) (subst (λ (l : History). HasRoom self (Executed slot ∷ l)) (sym rest) room)))
     | inr (more, first, rest) ↦ subst (λ (l : History). IsCheckpointed self (Executed s ∷ d) l before slot) (sym first) (further d (Executed s) more before slot (all on more before slot rest multiple room))
   ]
 
@@ -92,30 +91,21 @@ module _ {S : Type 0} (self : Identity S) where
         ])
       ]
 
-  executed_checks : (pos : ℕ) (r : Request) (x : Progress) → StampsCheckpoints self x.history → StampsCheckpoints self (execute self pos r x).history
-  unfolding execute
-  executed_checks pos r x all =
-      let s : Slot = slot_for self x.history pos r in
+  closed_checks : (pos : ℕ) (x : Progress) → StampsCheckpoints self x.history → StampsCheckpoints self (at_interval self pos (close_slot self pos x)).history
+  closed_checks pos x all =
+      let s : Slot = slot_for self x.history pos in
       elim (cases_Bool (self.built.checkpoints && pos % interval self.shape == 0)) [
-        | inr between ↦
-            let without = alone s x.history (λ on multiple room. not_both _ _ between on (eq-eqb (pos % interval self.shape) 0 multiple)) all in
-            rw between (elim (cases_Bool (is_fresh (state_of self x.history) r)) [
-              | inl fresh ↦ rw fresh (rw fresh at without)
-              | inr again ↦ rw again (rw again at without)
-            ])
+        | inr between ↦ rw between (alone s x.history (λ on multiple room. not_both _ _ between on (eq-eqb (pos % interval self.shape) 0 multiple)) all)
         | inl at ↦ rw at (elim (cases_Bool (has_room self (Executed s ∷ x.history))) [
-          | inl room ↦ elim (cases_Bool (is_fresh (state_of self x.history) r)) [
-            | inl fresh ↦ rw fresh (rw (rw fresh at room) (rw fresh at (accompanied s x.history all)))
-            | inr again ↦ rw again (rw (rw again at room) (rw again at (accompanied s x.history all)))
-          ]
-          | inr full ↦
-              let without = alone s x.history (λ on multiple room. absurd cc) all in
-              elim (cases_Bool (is_fresh (state_of self x.history) r)) [
-                | inl fresh ↦ rw fresh (rw (rw fresh at full) (rw fresh at without))
-                | inr again ↦ rw again (rw (rw again at full) (rw again at without))
-              ]
+          | inl room ↦ rw room (accompanied s x.history all)
+          | inr full ↦ rw full (alone s x.history (λ on multiple room. let is = room_is self (Executed s ∷ x.history) room in absurd cc) all)
         ])
       ]
+
+  executed_checks : (pos : ℕ) (b : Batch) (x : Progress) → StampsCheckpoints self x.history → StampsCheckpoints self (execute self pos b x).history
+  unfolding execute
+  executed_checks pos b x all = closed_checks pos (serve_all self pos b.requests x)
+      (served_keep self (λ d. StampsCheckpoints self d) (λ p placed d y. in_front (Served p placed) d (λ slot same. absurd cc) y) pos b.requests x all)
 
   pub begins_checkpointed : StampsCheckpoints self []
   begins_checkpointed on [] before slot is multiple room = absurd cc

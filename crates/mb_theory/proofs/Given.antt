@@ -14,12 +14,10 @@ use Rattle.mb_msg.specs.declared.message.Message.{Message}
 use Rattle.mb_msg.specs.declared.message.Message.TheVariants as message
 use Rattle.mb_msg.specs.declared.stamped.Stamped.{Stamped as StampedMessage}
 use Rattle.mb_msg.specs.declared.stamped.Stamped.TheVariants as stamped
-use Rattle.mb_parts.specs.Bares as bare
-use Rattle.mb_parts.specs.Bares.{Bare, request_digest}
 use Rattle.mb_msg.specs.Stamps.{ui_of}
 use Rattle.mb_msg.specs.Reading.{message_of}
 use Rattle.mb_msg.specs.Spelling.{spelling}
-use Rattle.mb_model.specs.Histories.{Accepted, History, said, taken_of}
+use Rattle.mb_model.specs.Histories.{Accepted, History, said, taken_of, stamped as stamped_of}
 use Rattle.mb_model.specs.Sending.{Progress, begin, note, write}
 use Rattle.mb_model.specs.Compared.{compared_in}
 use Rattle.mb_model.specs.KindChecks.{stamped_refusal}
@@ -34,7 +32,7 @@ use Rattle.mb_model.proofs.StepPassed.{passes_stamped}
 use Rattle.mb_theory.proofs.Counters.{at_counter, at_bound}
 use Rattle.mb_theory.proofs.Legal.{Stamps, PrepareMade, CommitMade, IsMade, InTurn, legal_early}
 use Rattle.mb_theory.proofs.Growth.{prepare_grows, commit_grows}
-use Rattle.mb_theory.proofs.Searches.{own_taken}
+use Rattle.mb_theory.proofs.Searches.{said_length, own_taken}
 use Rattle.mb_msg.proofs.Messages.{message_again}
 use Rattle.mb_msg.proofs.Sizes.{small_request, small_prepare, small_commit}
 use Rattle.mb_theory.proofs.ReadBack.{reply_read}
@@ -47,7 +45,7 @@ module _ {S : Type 0} (run : Run S) (w : Before run) where
   -- ---- what is accepted
 
   -- a message that was stamped and is not refused is another host's next one
-  in_turn : (d : History) (m : StampedMessage) (b : Bare) → LegalNow run w d → at_counter (now run w d (ui_of m).host) (ui_of m).counter ≡ Some b → stamped_refusal (me run w) d m ≡ None → InTurn w.host (ui_of m) d
+  in_turn : (d : History) (m b : StampedMessage) → LegalNow run w d → at_counter (now run w d (ui_of m).host) (ui_of m).counter ≡ Some b → stamped_refusal (me run w) d m ≡ None → InTurn w.host (ui_of m) d
   in_turn d m b l issued e =
       let u : Ui = ui_of m in
       let next : u.counter ≡ length (taken_of d u.host) + 1 = (passes_stamped (me run w) d m e).gate.next ∙ ap (λ (n : ℕ). n + 1) (early_counter d (legal_early (me run w) (now run w d) w.requests d l) u.host) in
@@ -55,17 +53,17 @@ module _ {S : Type 0} (run : Run S) (w : Before run) where
         next = next;
         other = λ own.
             let bound = (at_bound (now run w d u.host) u.counter b issued).1 in
-            let mine : now run w d u.host ≡ said d = ap (now run w d) own ∙ ap said (at_same w.histories w.host d) in
+            let mine : now run w d u.host ≡ stamped_of d = ap (now run w d) own ∙ ap stamped_of (at_same w.histories w.host d) in
             let taken : taken_of d u.host ≡ said d = ap (taken_of d) own ∙ own_taken (me run w) (now run w d) w.requests d l in
-            omega (arith, next, bound, ap length mine, ap length taken);
+            omega (arith, next, bound, ap length mine, ap length taken, said_length d);
       }
 
   accepts_prepare : (x : Progress) (m : Prepare) → Part run w x → PrepareMade run.schedule.shape (now run w x.history) w.requests m → stamped_refusal (me run w) x.history (stamped.Prepare m) ≡ None
       → Part run w (write (Accepted (message.Prepare m)) x)
   accepts_prepare x m i made e =
       let u = now run w x.history in
-      let issued : at_counter (u m.ui.host) m.ui.counter ≡ Some (bare.Prepare 0 m.pos (request_digest made.request)) =
-      subst (λ (g : ℕ). at_counter (u g) m.ui.counter ≡ Some (bare.Prepare 0 m.pos (request_digest made.request))) (sym made.leads) made.orders.issued in
+      let issued : at_counter (u m.ui.host) m.ui.counter ≡ Some (stamped.Prepare made.orders.message) =
+      subst (λ (g : ℕ). at_counter (u g) m.ui.counter ≡ Some (stamped.Prepare made.orders.message)) (sym made.leads) made.orders.issued in
       let turn = in_turn x.history (stamped.Prepare m) _ (legal_now run w x i) issued e in
       let grows = entry_grows run w.requests w.histories w.host x.history (Accepted (message.Prepare m)) in
       writes run w x (Accepted (message.Prepare m)) refl i (prepare_grows run.schedule.shape u w.requests (now run w (Accepted (message.Prepare m) ∷ x.history)) w.requests grows m made, turn)
@@ -82,7 +80,7 @@ module _ {S : Type 0} (run : Run S) (w : Before run) where
   -- the PREPARE that a COMMIT names was made too
   named_made : (u : Stamps) (m : Commit) → CommitMade run.schedule.shape u w.requests m → PrepareMade run.schedule.shape u w.requests (named_prepare (me run w) m)
   named_made u m x = record {
-    request = x.request;
+    batch = x.batch;
     body = x.body;
     orders = x.orders;
     in_view = x.in_view;

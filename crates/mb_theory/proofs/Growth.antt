@@ -4,12 +4,13 @@ use Rattle.std.specs.List.{AllByRecursion}
 use Rattle.mb_base.specs.declared.shape.Shape.{Shape}
 use Rattle.mb_base.specs.Shapes.{Bytes, primary}
 use Rattle.mb_parts.specs.declared.request.Request.{Request}
+use Rattle.mb_parts.specs.declared.batch.Batch.{Batch}
 use Rattle.mb_msg.specs.declared.normal.Prepare.{Prepare}
 use Rattle.mb_msg.specs.declared.normal.Commit.{Commit}
 use Rattle.mb_msg.specs.declared.message.Message.{Message}
 use Rattle.mb_msg.specs.declared.message.Message.TheVariants as message
 use Rattle.mb_msg.specs.declared.stamped.Stamped.TheVariants as stamped
-use Rattle.mb_model.specs.Histories.{Entry, Accepted, Stamped, Executed, History, Identity}
+use Rattle.mb_model.specs.Histories.{Entry, Accepted, Stamped, Served, Executed, History, Identity}
 use Rattle.mb_model.proofs.Members.{In}
 use Rattle.mb_theory.proofs.Counters.{IsOnce, at_once}
 use Rattle.mb_theory.proofs.Legal.{Stamps, Orders, PrepareMade, CommitMade, IsMade, SpellsMade, Justified, Legal}
@@ -20,15 +21,22 @@ pub record Grows (stamps : Stamps) (requests : List Request) (stamps' : Stamps) 
   pub asked_more : (r : Request) → In requests r → In requests' r
 
 module _ (shape : Shape) (stamps : Stamps) (requests : List Request) (stamps' : Stamps) (requests' : List Request) (g : Grows stamps requests stamps' requests') where
-  pub orders_grows : (p n : ℕ) (r : Request) → Orders shape stamps requests p n r → Orders shape stamps' requests' p n r
-  orders_grows p n r o = record { was_asked = g.asked_more r o.was_asked; issued = at_once _ _ n _ (g.stamped_more (primary shape 0)) o.issued }
+  pub orders_grows : (p n : ℕ) (b : Batch) → Orders shape stamps requests p n b → Orders shape stamps' requests' p n b
+  orders_grows p n b o = record {
+    message = o.message;
+    issued = at_once _ _ n _ (g.stamped_more (primary shape 0)) o.issued;
+    place = o.place;
+    body = o.body;
+    fits = o.fits;
+    was_asked = λ r i. g.asked_more r (o.was_asked r i);
+  }
 
   pub prepare_grows : (m : Prepare) → PrepareMade shape stamps requests m → PrepareMade shape stamps' requests' m
-  prepare_grows m x = record { request = x.request; body = x.body; orders = orders_grows _ _ _ x.orders; in_view = x.in_view; leads = x.leads; fits = x.fits }
+  prepare_grows m x = record { batch = x.batch; body = x.body; orders = orders_grows _ _ _ x.orders; in_view = x.in_view; leads = x.leads; fits = x.fits }
 
   pub commit_grows : (m : Commit) → CommitMade shape stamps requests m → CommitMade shape stamps' requests' m
   commit_grows m x = record {
-    request = x.request;
+    batch = x.batch;
     body = x.body;
     orders = orders_grows _ _ _ x.orders;
     in_view = x.in_view;
@@ -57,7 +65,8 @@ module _ {S : Type 0} (self : Identity S) (stamps : Stamps) (requests : List Req
   justified_grows (Stamped (stamped.Prepare m)) d x = (prepare_grows self.shape stamps requests stamps' requests' g m x.0, x.1)
   justified_grows (Stamped (stamped.Commit m)) d x = (commit_grows self.shape stamps requests stamps' requests' g m x.0, x.1)
   justified_grows (Stamped _) d x = absurd x
-  justified_grows (Executed slot) d x = record { counter = x.counter; orders = orders_grows self.shape stamps requests stamps' requests' g _ _ _ x.orders; place = x.place; fresh = x.fresh; voted = x.voted }
+  justified_grows (Served pos placed) d x = tt
+  justified_grows (Executed slot) d x = tt
   justified_grows _ d x = absurd x
 
   pub legal_grows : (d : History) → Legal self stamps requests d → Legal self stamps' requests' d

@@ -7,6 +7,8 @@ use Rattle.mb_base.specs.Shapes.{interval}
 use Rattle.mb_base.specs.declared.names.Ui.{Ui}
 use Rattle.mb_parts.specs.declared.floor.Floor.{Floor}
 use Rattle.mb_parts.specs.declared.request.Request.{Request}
+use Rattle.mb_parts.specs.declared.batch.Batch.{Batch}
+use Rattle.mb_msg.specs.declared.event.Placed.{Placed}
 use Rattle.mb_msg.specs.declared.event.Slot.{Slot}
 use Rattle.mb_msg.specs.declared.normal.Prepare.{Prepare}
 use Rattle.mb_msg.specs.declared.message.Message.{Message}
@@ -25,7 +27,7 @@ use Rattle.mb_msg.specs.declared.event.Event.{Event}
 use Rattle.mb_msg.specs.declared.event.Outcome.{Outcome}
 use Rattle.mb_msg.specs.declared.event.Event.TheVariants as event
 use Rattle.mb_msg.specs.declared.event.Outcome.TheVariants as outcome
-use Rattle.mb_model.specs.Histories.{Entry, Accepted, Stamped, Jumped, Closed, Executed, Installed, DroppedParts, LostPatience, Nudged, History, Identity, gate, closed_at, view_of}
+use Rattle.mb_model.specs.Histories.{Entry, Accepted, Stamped, Jumped, Closed, Served, Executed, Installed, DroppedParts, LostPatience, Nudged, History, Identity, gate, closed_at, view_of}
 use Rattle.mb_model.specs.Held.{view_limit, wish_of}
 use Rattle.mb_model.specs.Stable.{low_of}
 use Rattle.mb_model.specs.OwnLog.{is_normal, has_room, has_other_room}
@@ -37,7 +39,7 @@ use Rattle.mb_model.specs.KindChecks.{stamped_refusal}
 use Rattle.mb_model.specs.PlainChecks.{request_refusal, wish_refusal, resend_refusal, log_refusal, fetch_refusal, state_refusal}
 use Rattle.mb_model.specs.EnabledRules.{Rule, next_rule}
 use Rattle.mb_model.specs.EnabledRules as rule
-use Rattle.mb_model.specs.CarriedOut.{slot_for, with_slot, with_reply, state_strings, with_checkpoint, at_interval, execute, carry_out, run_rules, enough}
+use Rattle.mb_model.specs.CarriedOut.{placed_in, with_reply, serve_all, slot_for, close_slot, state_strings, with_checkpoint, at_interval, execute, carry_out, run_rules, enough}
 use Rattle.mb_model.specs.Given.{Answer, closing, offer_prepare, named_prepare, casts_vote, accept, give_stamped, give_request, give_wish, give_resend, give_fetch, give_state, install_where_all, jump, floor_shown, go_on, give_entries, give_log, give}
 use Rattle.mb_model.specs.Positions.{is_behind}
 use Rattle.mb_model.specs.HostStep.{on_patience, on_nudge, wish_again, with_fetch, low_rose, finished_where, on_message, on_bytes, if_built, transition}
@@ -56,7 +58,7 @@ module _ {S : Type 0} (self : Identity S) (P : History → Type 0) where
     pub plain : (e : Entry) (d : History) → is_plain e ≡ true → P d → P (e ∷ d)
     pub normal : (m : StampedMessage) (d : History) → is_normal m ≡ true → has_room self d ≡ true → P d → P (Stamped m ∷ d)
     pub change : (m : StampedMessage) (d : History) → is_normal m ≡ false → has_other_room self d ≡ true → P d → P (Stamped m ∷ d)
-    pub executed : (pos : ℕ) (r : Request) (x : Progress) → P x.history → P (execute self pos r x).history
+    pub executed : (pos : ℕ) (b : Batch) (x : Progress) → P x.history → P (execute self pos b x).history
     pub state : (m : StateMsg) (x : Progress) → P x.history → P (give_state self m x).left.history
 
   abbrev Has : Progress → Type 0
@@ -180,9 +182,9 @@ module _ {S : Type 0} (self : Identity S) (P : History → Type 0) where
     carried_keeps (rule.Enter n) x room p = kept.change (signed self x.history (enter n)) x.history refl room p
     carried_keeps (rule.Open e plan) x room p = kept.change (signed self x.history (opening e plan)) x.history refl room p
     carried_keeps rule.Join x room p = kept.change (signed self x.history (join self x.history)) x.history refl room p
-    carried_keeps (rule.Commit pos k r) x room p = kept.normal (signed self x.history (commit self x.history pos k r)) x.history refl room p
-    carried_keeps (rule.Execute pos r) x room p = kept.executed pos r x p
-    carried_keeps (rule.Prepare pos r) x room p = kept.normal (signed self x.history (prepare self x.history pos r)) x.history refl room p
+    carried_keeps (rule.Commit pos k b) x room p = kept.normal (signed self x.history (commit self x.history pos k b)) x.history refl room p
+    carried_keeps (rule.Execute pos b) x room p = kept.executed pos b x p
+    carried_keeps (rule.Prepare pos b) x room p = kept.normal (signed self x.history (prepare self x.history pos b)) x.history refl room p
 
     rules_keep : (n : ℕ) (x : Progress) → Has x → Has (run_rules self n x)
     unfolding run_rules
@@ -240,11 +242,25 @@ module _ {S : Type 0} (self : Identity S) (P : History → Type 0) where
     event_keeps d event.Patience p = signal_keeps d _ p (finished_keeps _ false d (on_patience self (begin d)) (patience_keeps (begin d) p))
     event_keeps d event.Nudge p = signal_keeps d _ p (finished_keeps true true d (on_nudge self (begin d)) (nudge_keeps (begin d) p))
 
--- ---- an execution, by the slot and the CHECKPOINT that it may bring
+-- ---- an execution, by its requests, the slot and the CHECKPOINT that it may bring
 
 module _ {S : Type 0} (self : Identity S) (P : History → Type 0) where
+  module _ (serves : (pos : ℕ) (p : Placed) (d : History) → P d → P (Served pos p ∷ d)) where
+    reply_keeps : (p : Placed) (x : Progress) → P x.history → P (with_reply self p x).history
+    reply_keeps p x h = elim (cases_Bool p.fresh) [
+      | inl fresh ↦ rw fresh h
+      | inr again ↦ rw again h
+    ]
+
+    pub served_keep : (pos : ℕ) (requests : List Request) (x : Progress) → P x.history → P (serve_all self pos requests x).history
+    unfolding serve_all
+    served_keep pos [] x h = h
+    served_keep pos (r ∷ rs) x h =
+        let p : Placed = placed_in self x.history r in
+        served_keep pos rs (with_reply self p (write (Served pos p) x)) (reply_keeps p (write (Served pos p) x) (serves pos p x.history h))
+
   module _ (stamps : (m : StampedMessage) (d : History) → is_normal m ≡ true → has_room self d ≡ true → P d → P (Stamped m ∷ d))
-      (executes : (slot : Slot) (d : History) → P d → P (Executed slot ∷ d)) where
+      (serves : (pos : ℕ) (p : Placed) (d : History) → P d → P (Served pos p ∷ d)) (executes : (slot : Slot) (d : History) → P d → P (Executed slot ∷ d)) where
     checkpoint_keeps : (pos : ℕ) (x : Progress) → P x.history → P (with_checkpoint self pos x).history
     checkpoint_keeps pos x p = elim (cases_Bool (has_room self x.history)) [
       | inl room ↦ rw room (stamps (signed self x.history (checkpoint self x.history pos)) x.history refl room p)
@@ -257,17 +273,11 @@ module _ {S : Type 0} (self : Identity S) (P : History → Type 0) where
       | inr between ↦ rw between p
     ]
 
-    reply_keeps : (slot : Slot) (x : Progress) → P x.history → P (with_reply self slot x).history
-    reply_keeps slot x p = elim (cases_Bool slot.fresh) [
-      | inl fresh ↦ rw fresh p
-      | inr again ↦ rw again p
-    ]
-
-    pub execution_keeps : (pos : ℕ) (r : Request) (x : Progress) → P x.history → P (execute self pos r x).history
+    pub execution_keeps : (pos : ℕ) (b : Batch) (x : Progress) → P x.history → P (execute self pos b x).history
     unfolding execute
-    execution_keeps pos r x p =
-        let slot : Slot = slot_for self x.history pos r in
-        interval_keeps pos (with_reply self slot (with_slot self slot x)) (reply_keeps slot (with_slot self slot x) (executes slot x.history p))
+    execution_keeps pos b x h =
+        let y : Progress = serve_all self pos b.requests x in
+        interval_keeps pos (close_slot self pos y) (executes (slot_for self y.history pos) y.history (served_keep serves pos b.requests x h))
 
 -- ---- a STATE, by the entries that it may bring
 

@@ -13,9 +13,11 @@ use Rattle.mb_msg.specs.declared.event.Event.{Event}
 use Rattle.mb_msg.specs.declared.event.Event.TheVariants as event
 use Rattle.mb_model.specs.Histories.{History}
 use Rattle.mb_model.specs.HostStep.{transition}
+use Rattle.mb_model.proofs.StepArises.{Arises, ArisesWhole}
+use Rattle.mb_model.proofs.StepEventsArise.{transition_arises}
 use Rattle.mb_theory.specs.WorldEvents.{WorldEvent, HostName, ClientName, Ask, Give, Take, Raw, Patience, Nudge, Sign, TagReply, TagWish, StampPrepare, StampCommit, StampCheckpoint, StampChange, StampAs, StampRaw, is_faulty, is_faulty_client}
 use Rattle.mb_theory.specs.World.{update, numbered, World, System, self_of, steps, give_host, give_client, client_reads, heard, signal, arrives, made, request_of}
-use Rattle.mb_theory.specs.FaultyHosts.{stamp_some, stamp_content, stamp_bytes, content, prepare_with, commit_for, checkpoint_with, change_after, reply_of_host, wish_of_host}
+use Rattle.mb_theory.specs.FaultyHosts.{stamp_some, stamp_content, stamp_bytes, content, prepare_of, commit_for, checkpoint_with, change_after, reply_of_host, wish_of_host}
 use Rattle.mb_theory.specs.WorldSteps.{where_faulty, with_message, stamps_some, happens, after, world}
 
 module _ {S : Type 0} (system : System S) (Q : ℕ → History → Type 0) (begins : (h : ℕ) → Q h [])
@@ -87,7 +89,7 @@ module _ {S : Type 0} (system : System S) (Q : ℕ → History → Type 0) (begi
   happens_keeps w (Sign c seq op) q = faulty_keeps (is_faulty_client system.schedule c) (made system.schedule (spelling (message.Request (request_of system.schedule c seq op)))) w q q
   happens_keeps w (TagReply h c seq pos result) q = faulty_keeps (is_faulty system.schedule h) (made system.schedule (spelling (reply_of_host system.schedule h c seq pos result))) w q q
   happens_keeps w (TagWish h view) q = faulty_keeps (is_faulty system.schedule h) (made system.schedule (spelling (wish_of_host system.schedule h view))) w q q
-  happens_keeps w (StampPrepare h view pos m) q = stamps_keeps h (content system.schedule w m (prepare_with view pos)) w q
+  happens_keeps w (StampPrepare h view pos messages) q = stamps_keeps h (prepare_of system.schedule w view pos messages) w q
   happens_keeps w (StampCommit h m) q = stamps_keeps h (content system.schedule w m commit_for) w q
   happens_keeps w (StampCheckpoint h pos digest) q = faulty_keeps (is_faulty system.schedule h) (stamp_content system.schedule h (checkpoint_with (host_count system.schedule.shape) pos digest)) w q q
   happens_keeps w (StampChange h view counter) q = faulty_keeps (is_faulty system.schedule h) (stamp_content system.schedule h (change_after system.schedule w h view counter)) w q q
@@ -102,3 +104,7 @@ module _ {S : Type 0} (system : System S) (Q : ℕ → History → Type 0) (begi
   unfolding world
   world_keeps zero = λ h. begins h
   world_keeps (suc k) = after_keeps (world system k) (slice_get system.schedule.events k) (world_keeps k)
+
+-- Each history arose by events.
+pub world_arises : {S : Type 0} (system : System S) (k h : ℕ) → Arises (self_of system h) ((world system k).histories h)
+world_arises system k h = (world_keeps system (λ g d. ArisesWhole (self_of system g) d) (λ g. (tt, tt)) (λ g d e a. transition_arises (self_of system g) d e a) k h).0

@@ -1,57 +1,58 @@
 -- What each entry of a host's history rests on: on what stood before it, on what clients asked and on what the hosts stamped.
-use Rattle.std.proofs.Common.{◌≡◌, ℕ, ◌+◌, ◌≤◌, List, [], ◌∷◌, length, Some}
+use Rattle.std.proofs.Common.{◌≡◌, ℕ, ◌+◌, List, [], ◌∷◌, length, Some}
 use Rattle.mb_base.specs.declared.shape.Shape.{Shape}
 use Rattle.mb_base.specs.declared.names.Ui.{Ui}
-use Rattle.mb_base.specs.Shapes.{Bytes, primary, quorum}
+use Rattle.mb_base.specs.Shapes.{Bytes, primary}
 use Rattle.mb_parts.specs.declared.request.Request.{Request}
-use Rattle.mb_msg.specs.declared.event.Slot.{Slot}
+use Rattle.mb_parts.specs.declared.batch.Batch.{Batch}
 use Rattle.mb_msg.specs.declared.message.Body.TheVariants.{Whole}
 use Rattle.mb_msg.specs.declared.normal.Prepare.{Prepare}
 use Rattle.mb_msg.specs.declared.normal.Commit.{Commit}
 use Rattle.mb_msg.specs.declared.message.Message.{Message}
 use Rattle.mb_msg.specs.declared.message.Message.TheVariants as message
+use Rattle.mb_msg.specs.declared.stamped.Stamped.{Stamped as StampedMessage}
 use Rattle.mb_msg.specs.declared.stamped.Stamped.TheVariants as stamped
-use Rattle.mb_parts.specs.Bares as bare
-use Rattle.mb_parts.specs.Bares.{Bare, request_digest}
+use Rattle.mb_parts.specs.Fits.{FitsBatch}
 use Rattle.mb_msg.specs.Fits.{FitsPrepare, FitsCommit}
 use Rattle.mb_msg.specs.Spelling.{spelling}
-use Rattle.mb_model.specs.Service.{is_fresh}
-use Rattle.mb_model.specs.Histories.{Entry, Accepted, Stamped, Executed, History, Identity, taken_of, counter_of}
-use Rattle.mb_model.specs.Positions.{exec_of, matching}
-use Rattle.mb_model.specs.Execution.{state_of}
+use Rattle.mb_model.specs.Histories.{Entry, Accepted, Stamped, Served, Executed, History, Identity, taken_of, counter_of}
 use Rattle.mb_model.proofs.Members.{In}
 use Rattle.mb_model.proofs.EarlyHistories.{IsEarly}
 use Rattle.mb_theory.proofs.Counters.{at_counter}
 
 -- what each host stamped, newest first
 abbrev pub Stamps : Type 0
-Stamps = ℕ → List Bare
+Stamps = ℕ → List StampedMessage
 
 -- ---- what clients and hosts made
 
 module _ (shape : Shape) (stamps : Stamps) (requests : List Request) where
-  -- The primary of view 0 ordered an asked request at a position, under a counter.
-  pub record Orders (p n : ℕ) (r : Request) : Type 0 where
-    pub was_asked : In requests r
-    pub issued : at_counter (stamps (primary shape 0)) n ≡ Some (bare.Prepare 0 p (request_digest r))
+  -- The primary of view 0 ordered a batch of asked requests at a position, by the PREPARE that it stamped at a counter.
+  pub record Orders (p n : ℕ) (b : Batch) : Type 0 where
+    pub message : Prepare
+    pub issued : at_counter (stamps (primary shape 0)) n ≡ Some (stamped.Prepare message)
+    pub place : message.pos ≡ p
+    pub body : message.body ≡ Whole b
+    pub fits : FitsBatch shape b
+    pub was_asked : (r : Request) → In b.requests r → In requests r
 
-  -- The primary of view 0 stamped this PREPARE, with the whole request.
+  -- The primary of view 0 ordered what this PREPARE says, which has the whole batch.
   pub record PrepareMade (m : Prepare) : Type 0 where
-    pub request : Request
-    pub body : m.body ≡ Whole request
-    pub orders : Orders m.pos m.ui.counter request
+    pub batch : Batch
+    pub body : m.body ≡ Whole batch
+    pub orders : Orders m.pos m.ui.counter batch
     pub in_view : m.view ≡ 0
     pub leads : m.ui.host ≡ primary shape 0
     pub fits : FitsPrepare shape m
 
-  -- A backup of view 0 stamped this COMMIT, with the whole request, for a PREPARE that the primary stamped.
+  -- A backup of view 0 stamped this COMMIT, with the whole batch, for a PREPARE that the primary stamped.
   pub record CommitMade (m : Commit) : Type 0 where
-    pub request : Request
-    pub body : m.body ≡ Whole request
-    pub orders : Orders m.pos m.counter request
+    pub batch : Batch
+    pub body : m.body ≡ Whole batch
+    pub orders : Orders m.pos m.counter batch
     pub in_view : m.view ≡ 0
     pub backs : m.ui.host ≡ primary shape 0 → ⊥
-    pub issued : at_counter (stamps m.ui.host) m.ui.counter ≡ Some (bare.Commit 0 m.pos m.counter m.cert (request_digest request))
+    pub issued : at_counter (stamps m.ui.host) m.ui.counter ≡ Some (stamped.Commit m)
     pub fits : FitsCommit shape m
 
   -- A client or a host made this message. Of a REPLY nothing is said, and other kinds are not made.
@@ -82,15 +83,8 @@ pub record IsOwn (h : ℕ) (u : Ui) (pos : ℕ) (d : History) : Type 0 where
   pub place : pos ≡ counter_of d + 1
 
 module _ {S : Type 0} (self : Identity S) (stamps : Stamps) (requests : List Request) where
-  -- A slot is the next one to execute, the primary ordered its request there, and f+1 votes for that were counted.
-  pub record IsSupported (slot : Slot) (d : History) : Type 0 where
-    pub counter : ℕ
-    pub orders : Orders self.shape stamps requests slot.pos counter slot.request
-    pub place : slot.pos ≡ exec_of d + 1
-    pub fresh : slot.fresh ≡ is_fresh (state_of self d) slot.request
-    pub voted : quorum self.shape ≤ matching self d 0 slot.pos (record { counter = counter; request = request_digest slot.request })
-
-  -- what an entry rests on, behind what stood before it; other entries are not in a history
+  -- what an entry rests on, behind what stood before it; what is served and executed is said of the whole history, and other entries are not
+  -- in it
   abbrev pub Justified : Entry → History → Type 0
   Justified (Accepted (message.Request r)) d = In requests r
   Justified (Accepted (message.Prepare m)) d = PrepareMade self.shape stamps requests m × InTurn self.host m.ui d
@@ -99,7 +93,8 @@ module _ {S : Type 0} (self : Identity S) (stamps : Stamps) (requests : List Req
   Justified (Stamped (stamped.Prepare m)) d = PrepareMade self.shape stamps requests m × IsOwn self.host m.ui m.pos d
   Justified (Stamped (stamped.Commit m)) d = CommitMade self.shape stamps requests m × IsOwn self.host m.ui m.pos d
   Justified (Stamped _) d = ⊥
-  Justified (Executed slot) d = IsSupported slot d
+  Justified (Served pos placed) d = Unit {0}
+  Justified (Executed slot) d = Unit {0}
   Justified _ d = ⊥
 
   -- each entry is justified behind what stood before it
@@ -115,5 +110,6 @@ module _ {S : Type 0} (self : Identity S) (stamps : Stamps) (requests : List Req
   legal_early (Accepted (message.Commit m) ∷ d) l = (tt, legal_early d l.1)
   legal_early (Stamped (stamped.Prepare m) ∷ d) l = (tt, legal_early d l.1)
   legal_early (Stamped (stamped.Commit m) ∷ d) l = (tt, legal_early d l.1)
+  legal_early (Served pos placed ∷ d) l = (tt, legal_early d l.1)
   legal_early (Executed slot ∷ d) l = (tt, legal_early d l.1)
   legal_early (e ∷ d) l = absurd l.0

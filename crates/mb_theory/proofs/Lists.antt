@@ -4,6 +4,7 @@ use Rattle.std.specs.Prelude.{slice_get, take}
 use Rattle.std.specs.List.{AllByRecursion}
 use Rattle.std.proofs.lemmas.List.{take_more}
 use Rattle.std.proofs.lemmas.Option.{get_or_from_slice_get, slice_get_within}
+use Rattle.mb_model.proofs.Members.{In}
 
 module _ {A : Type 0} where
   -- ---- what holds of all elements
@@ -46,6 +47,12 @@ module _ {A : Type 0} where
 
   pub take_next : (xs : List A) (i : ℕ) (x : A) → slice_get xs i ≡ Some x → take (i + 1) xs ≡ take i xs ++ x ∷ []
   take_next xs i x e = take_more xs i x (slice_get_within xs i x e) ∙ ap (λ (y : A). take i xs ++ y ∷ []) (get_or_from_slice_get xs i x x e)
+
+  -- what stands at a place is a member
+  pub in_at : (xs : List A) (i : ℕ) (x : A) → slice_get xs i ≡ Some x → In xs x
+  in_at [] i x e = absurd cc
+  in_at (y ∷ xs) zero x e = inl cc
+  in_at (y ∷ xs) (suc i) x e = inr (in_at xs i x e)
 
   -- ---- lists that grow
 

@@ -1,6 +1,6 @@
 -- Logs keep their limits in each history that events lead to. Whatever the history, a log is what was stamped since its floor, and votes are
 -- kept at most two intervals above the stable position.
-use Rattle.std.proofs.Common.{◌≡◌, ℕ, zero, suc, ◌+◌, ◌-◌, ◌≤◌, Bool, true, false, ◌&&◌, not, cond, List, [], ◌∷◌, length, take, refl, ap, inl, inr, arith, Option, Some, None}
+use Rattle.std.proofs.Common.{◌≡◌, ℕ, zero, suc, ◌+◌, ◌-◌, ◌≤◌, ◌<◌, Bool, true, false, ◌&&◌, not, cond, List, [], ◌∷◌, length, take, refl, ap, inl, inr, arith, Option, Some, None}
 use Rattle.std.specs.Prelude.{count_by, nat_lt, nat_le, ◌==◌, if◌then◌else◌}
 use Rattle.std.specs.Option.{option_or}
 use Rattle.std.proofs.lemmas.Bool.{and_parts, cases_Bool, ltb-true, leb-true}
@@ -14,17 +14,19 @@ use Rattle.mb_msg.specs.declared.transfer.StateMsg.{StateMsg}
 use Rattle.mb_msg.specs.declared.stamped.Stamped.{Stamped as StampedMessage}
 use Rattle.mb_model.specs.declared.known.Vote.{Vote}
 use Rattle.mb_model.specs.UsableLogs.{normal_limit, other_limit}
-use Rattle.mb_model.specs.Histories.{Entry, Accepted, Stamped, Jumped, Closed, Executed, Installed, DroppedParts, LostPatience, Nudged, History, Identity, stamped as all_stamped, counter_of, view_of}
+use Rattle.mb_model.specs.Histories.{Entry, Accepted, Stamped, Jumped, Closed, Served, Executed, Installed, DroppedParts, LostPatience, Nudged, History, Identity, stamped as all_stamped, counter_of, view_of}
 use Rattle.mb_model.specs.Stable.{low_of, log_floor, floor_counter, floor_from, cut_by, is_kept, checkpoint_in}
 use Rattle.mb_model.specs.OwnLog.{own_log, log_start, is_normal, is_unspent, has_room, has_other_room}
-use Rattle.mb_model.specs.Positions.{vote_of, vote_by, open_vote_by, in_window, position_limit, counts_at}
+use Rattle.mb_model.specs.Positions.{vote_of, vote_at, vote_by, open_vote_by, in_window, position_limit, counts_at}
 use Rattle.mb_model.proofs.Options.{or_some, if_some}
+use Rattle.mb_model.proofs.StepArises.{Arises}
 use Rattle.mb_model.proofs.StepPotential.{start_bounded, grown_low}
 use Rattle.mb_theory.specs.World.{self_of}
 use Rattle.mb_theory.specs.WorldSteps.{world}
 use Rattle.mb_theory.specs.Bounds.{KeepsLimits, HostsKeepLimits}
 use Rattle.mb_theory.proofs.KeptByEvents.{is_plain, IsKept, event_keeps, execution_keeps, state_keeps}
-use Rattle.mb_theory.proofs.KeptByWorlds.{world_keeps}
+use Rattle.mb_theory.proofs.KeptByWorlds.{world_keeps, world_arises}
+use Rattle.mb_theory.proofs.LogFloor.{floor_is_certified}
 
 -- A shorter beginning has no more of a kind.
 count_take : {A : Type 0} (p : A → Bool) (l : List A) (m n : ℕ) → m ≤ n → count_by p (take m l) ≤ count_by p (take n l)
@@ -74,6 +76,7 @@ module _ {S : Type 0} (self : Identity S) where
   stamped_same (Stamped m) d plain = absurd cc
   stamped_same (Jumped h f) d plain = refl
   stamped_same (Closed h c) d plain = refl
+  stamped_same (Served pos placed) d plain = refl
   stamped_same (Executed slot) d plain = absurd cc
   stamped_same (Installed pos parts) d plain = refl
   stamped_same DroppedParts d plain = refl
@@ -127,7 +130,7 @@ module _ {S : Type 0} (self : Identity S) where
     plain = λ e d plain x. same_limits e d (stamped_same e d plain) x;
     normal = normal_limits;
     change = change_limits;
-    executed = λ pos r x p. execution_keeps self InLimits normal_limits (λ slot d y. same_limits (Executed slot) d (executed_same slot d) y) pos r x p;
+    executed = λ pos b x p. execution_keeps self InLimits normal_limits (λ p placed d y. same_limits (Served p placed) d (stamped_same (Served p placed) d refl) y) (λ slot d y. same_limits (Executed slot) d (executed_same slot d) y) pos b x p;
     state = λ m x p. state_keeps self InLimits (λ m d y. same_limits (Accepted (message.State m)) d (state_same m d) y) (λ e d plain y. same_limits e d (stamped_same e d plain) y) m x p;
   }
 
@@ -152,10 +155,19 @@ module _ {S : Type 0} (self : Identity S) where
             leb-true p (low_of self (e ∷ d) + span self.shape) b.0
       ]
 
-  keeps_limits : (d : History) → InLimits d → KeepsLimits self d
-  keeps_limits d x = record { normal = x.0; others = x.1; since = since_floor d; counted = λ g view pos y vote. vote_below d g view pos y vote }
+  -- One that counts lies in the window of today.
+  counted_above : (d : History) (h p : ℕ) (x : Vote) → vote_at self d h p ≡ Some x → (low_of self d < p) × (p ≤ low_of self d + span self.shape)
+  counted_above d h p x vote =
+      let t = if_some (in_window self d p) (vote_of self d h (view_of self d) p) x vote in
+      let a = and_parts (nat_lt (low_of self d) p) (nat_le p (low_of self d + span self.shape) && nat_le p position_limit) t.0 in
+      let b = and_parts (nat_le p (low_of self d + span self.shape)) (nat_le p position_limit) a.1 in
+      (ltb-true (low_of self d) p a.0, leb-true p (low_of self d + span self.shape) b.0)
+
+  keeps_limits : (d : History) → InLimits d → Arises self d → KeepsLimits self d
+  keeps_limits d x a = record { normal = x.0; others = x.1; since = since_floor d; floor = floor_is_certified self d a; taken = λ g view pos y vote. vote_below d g view pos y vote; counted = counted_above d }
 
 pub hosts_keep_limits : (S : Type 0) → HostsKeepLimits S
 hosts_keep_limits S system k h = keeps_limits (self_of system h) ((world system k).histories h)
     (world_keeps system (λ g d. InLimits (self_of system g) d) (λ g. begins_in_limits (self_of system g))
     (λ g d e x. event_keeps (self_of system g) (InLimits (self_of system g)) (limits_kept (self_of system g)) d e x) k h)
+    (world_arises system k h)

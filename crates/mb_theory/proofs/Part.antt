@@ -8,10 +8,10 @@ use Rattle.mb_parts.specs.declared.request.Request.{Request}
 use Rattle.mb_msg.specs.declared.event.Slot.{Slot}
 use Rattle.mb_msg.specs.declared.stamped.Stamped.{Stamped as StampedMessage}
 use Rattle.mb_msg.specs.declared.stamped.Stamped.TheVariants as stamped
-use Rattle.mb_msg.specs.Stamps.{bare_of, as_message}
+use Rattle.mb_msg.specs.Stamps.{as_message}
 use Rattle.mb_parts.specs.Fits.{FitsRequest}
 use Rattle.mb_msg.specs.Spelling.{spelling}
-use Rattle.mb_model.specs.Histories.{Entry, Stamped, History, Identity, said, counter_of}
+use Rattle.mb_model.specs.Histories.{Entry, Stamped, History, Identity, counter_of}
 use Rattle.mb_model.specs.Histories as history
 use Rattle.mb_model.specs.Sending.{Letter, Progress, write, send, to_all}
 use Rattle.mb_model.proofs.Members.{In}
@@ -20,14 +20,11 @@ use Rattle.mb_theory.specs.World.{update, extended}
 use Rattle.mb_theory.proofs.Lists.{all_append}
 use Rattle.mb_theory.proofs.Counters.{at_counter, at_newest}
 use Rattle.mb_theory.proofs.Legal.{Stamps, IsMade, SpellsMade, Justified, Legal, legal_early}
-use Rattle.mb_theory.proofs.Searches.{said_length}
 use Rattle.mb_theory.proofs.Invariant.{at_same, stamps_of, Run, self, Invariant, is_quiet, quiet_keeps}
-use Rattle.mb_theory.proofs.Executed.{Apart}
 
 -- The world before a step, and the host that makes it.
 pub record Before {S : Type 0} (run : Run S) : Type 0 where
   pub requests : List Request
-  pub apart : Apart requests
   pub fitting : (r : Request) → In requests r → FitsRequest run.schedule.shape r
   pub histories : ℕ → History
   pub pool : List Bytes
@@ -96,6 +93,6 @@ module _ {S : Type 0} (run : Run S) (w : Before run) where
       (record { says = as_message m; spelled = refl; made = made_of m x.history justified }, tt))
 
   -- what is stamped next stands at the next counter
-  pub own_issued : (d : History) (m : StampedMessage) → at_counter (now (Stamped m ∷ d) w.host) (counter_of d + 1) ≡ Some (bare_of m)
+  pub own_issued : (d : History) (m : StampedMessage) → at_counter (now (Stamped m ∷ d) w.host) (counter_of d + 1) ≡ Some m
   unfolding history.stamped
-  own_issued d m = rw (at_same w.histories w.host (Stamped m ∷ d)) (subst (λ (n : ℕ). at_counter (bare_of m ∷ said d) (n + 1) ≡ Some (bare_of m)) (said_length d) (at_newest (bare_of m) (said d)))
+  own_issued d m = rw (at_same w.histories w.host (Stamped m ∷ d)) (at_newest m (history.stamped d))

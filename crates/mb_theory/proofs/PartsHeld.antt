@@ -13,7 +13,7 @@ use Rattle.mb_msg.specs.declared.transfer.StateMsg.{StateMsg}
 use Rattle.mb_msg.specs.declared.stamped.Stamped.{Stamped as StampedMessage}
 use Rattle.mb_msg.specs.declared.event.Outcome.{Outcome}
 use Rattle.mb_msg.specs.declared.event.Outcome.TheVariants as outcome
-use Rattle.mb_model.specs.Histories.{Entry, Accepted, Stamped, Jumped, Closed, Executed, Installed, DroppedParts, LostPatience, Nudged, History, Identity}
+use Rattle.mb_model.specs.Histories.{Entry, Accepted, Stamped, Jumped, Closed, Served, Executed, Installed, DroppedParts, LostPatience, Nudged, History, Identity}
 use Rattle.mb_model.specs.Stable.{low_of}
 use Rattle.mb_model.specs.States.{part_count}
 use Rattle.mb_model.specs.Execution.{part_of, missing, parts_held}
@@ -68,6 +68,7 @@ module _ {S : Type 0} (self : Identity S) where
   plain_parts (Stamped m) d plain = absurd cc
   plain_parts (Jumped h f) d plain = inl (λ pos i. refl)
   plain_parts (Closed h c) d plain = inl (λ pos i. refl)
+  plain_parts (Served pos placed) d plain = inl (λ pos i. refl)
   plain_parts (Executed slot) d plain = absurd cc
   plain_parts (Installed pos parts) d plain = inr (λ pos i. refl)
   plain_parts DroppedParts d plain = inr (λ pos i. refl)
@@ -164,7 +165,7 @@ module _ {S : Type 0} (self : Identity S) where
     plain = λ e d plain x. entry_keeps e d (plain_parts e d plain) x;
     normal = λ m d kind room x. entry_keeps (Stamped m) d (stamped_parts m d) x;
     change = λ m d kind room x. entry_keeps (Stamped m) d (stamped_parts m d) x;
-    executed = λ pos r x p. execution_keeps self (λ d. IsIncomplete d) (λ m d kind room y. entry_keeps (Stamped m) d (stamped_parts m d) y)
-        (λ slot d y. entry_keeps (Executed slot) d (executed_parts slot d) y) pos r x p;
+    executed = λ pos b x p. execution_keeps self (λ d. IsIncomplete d) (λ m d kind room y. entry_keeps (Stamped m) d (stamped_parts m d) y)
+        (λ p placed d y. entry_keeps (Served p placed) d (plain_parts (Served p placed) d refl) y) (λ slot d y. entry_keeps (Executed slot) d (executed_parts slot d) y) pos b x p;
     state = given_keeps;
   }

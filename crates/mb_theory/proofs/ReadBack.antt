@@ -11,7 +11,7 @@ use Rattle.mb_msg.specs.declared.message.Message.{Message}
 use Rattle.mb_msg.specs.declared.message.Message.TheVariants as message
 use Rattle.mb_msg.specs.Spelling.{reply_bytes, spelling}
 use Rattle.mb_msg.specs.Reading.{reply_at, behind_kind_at, message_of}
-use Rattle.mb_msg.specs.Fits.{message_limit}
+use Rattle.mb_base.specs.declared.limits.TheConstants.{MESSAGE_LIMIT}
 
 passed : {A : Type 0} (b : Bool) (d : ℕ) (r : Result A ℕ) (y : A) → cond b (Err d) r ≡ Ok y → r ≡ Ok y
 passed true d r y e = absurd cc
@@ -31,7 +31,7 @@ reply_read s m x e =
     let text : Bytes = reply_bytes m in
     let first : Reads ℕ = number_in w8 1 16 (cursor 0 (number w8 4 ++ text)) in
     let behind : Cursor = cursor (0 + length (number w8 4)) text in
-    let read = passed (ltb message_limit (length (number w8 4 ++ text))) _ _ x e in
+    let read = passed (ltb MESSAGE_LIMIT (length (number w8 4 ++ text))) _ _ x e in
     let a = bind_ok first _ x read in
     let kind : first ≡ Ok (4, behind) = (within_field w8 (2 ^ 8) 1 17 (lit≤ tt) (lit≤ tt) wide8).again 4 0 text (lit≤ tt, lit< tt) in
     let four : a.0.0 ≡ 4 = ap (λ (p : ℕ × Cursor). p.0) (ok_is a.0 (4, behind) (sym a.1 ∙ kind)) in

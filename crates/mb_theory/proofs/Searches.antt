@@ -4,19 +4,19 @@ use Rattle.std.specs.Prelude.{◌&&◌, ◌==◌, if◌then◌else◌}
 use Rattle.std.proofs.lemmas.Bool.{cases_Bool, and_parts, eqb-true, eq-eqb, ne_eqb}
 use Rattle.std.proofs.lemmas.List.{length-map}
 use Rattle.mb_parts.specs.declared.request.Request.{Request}
+use Rattle.mb_parts.specs.declared.batch.Batch.{Batch}
 use Rattle.mb_msg.specs.declared.normal.Prepare.{Prepare}
 use Rattle.mb_msg.specs.declared.message.Message.TheVariants as message
 use Rattle.mb_msg.specs.declared.stamped.Stamped.TheVariants as stamped
-use Rattle.mb_parts.specs.Bares.{Bare, request_digest}
+use Rattle.mb_parts.specs.Bares.{Bare}
 use Rattle.mb_parts.specs.Ordered.{initial_floor, last_position}
-use Rattle.mb_parts.specs.Spelling.{request_bytes}
-use Rattle.mb_msg.specs.Bodies.{body_digest}
+use Rattle.mb_parts.specs.Spelling.{batch_bytes}
+use Rattle.mb_msg.specs.Bodies.{body_digest, whole_body}
 use Rattle.mb_msg.specs.Stamps.{bare_of}
 use Rattle.mb_parts.specs.Fits.{IsCounter, IsPosition, IsDigest}
 use Rattle.mb_model.specs.declared.known.KnownSlot.{KnownSlot}
-use Rattle.mb_model.specs.Histories.{Entry, Accepted, Stamped, Executed, History, Identity, said, taken_of, gate, counter_of}
+use Rattle.mb_model.specs.Histories.{Entry, Accepted, Stamped, Served, Executed, History, Identity, said, taken_of, gate, counter_of}
 use Rattle.mb_model.specs.Histories as history
-use Rattle.mb_model.specs.Held.{whole_body}
 use Rattle.mb_model.specs.Positions.{slot_of_prepare, slot_by, counts_at, slot_in}
 use Rattle.mb_model.specs.Execution.{if_above, pending}
 use Rattle.mb_model.proofs.Options.{or_some, if_some}
@@ -40,6 +40,7 @@ module _ {S : Type 0} (self : Identity S) (stamps : Stamps) (requests : List Req
   own_taken (Stamped (stamped.Prepare m) ∷ d) l = rw (eq-eqb m.ui.host self.host l.0.1.own) (rw (own_taken d l.1) refl)
   own_taken (Stamped (stamped.Commit m) ∷ d) l = rw (eq-eqb m.ui.host self.host l.0.1.own) (rw (own_taken d l.1) refl)
   own_taken (Stamped _ ∷ d) l = absurd l.0
+  own_taken (Served pos placed ∷ d) l = own_taken d l.1
   own_taken (Executed slot ∷ d) l = own_taken d l.1
   own_taken (e ∷ d) l = absurd l.0
 
@@ -51,6 +52,7 @@ module _ {S : Type 0} (self : Identity S) (stamps : Stamps) (requests : List Req
   last_said (Stamped (stamped.Prepare m) ∷ d) l = rw (l.0.0.in_view) (omega (arith, l.0.1.place))
   last_said (Stamped (stamped.Commit m) ∷ d) l = rw (l.0.0.in_view) (omega (arith, l.0.1.place))
   last_said (Stamped _ ∷ d) l = absurd l.0
+  last_said (Served pos placed ∷ d) l = last_said d l.1
   last_said (Executed slot ∷ d) l = last_said d l.1
   last_said (e ∷ d) l = absurd l.0
 
@@ -60,24 +62,22 @@ module _ {S : Type 0} (self : Identity S) (stamps : Stamps) (requests : List Req
 
   -- ---- slots
 
-  -- A slot has the whole request that the primary ordered there, and values that can be spelled.
+  -- A slot has the whole batch that the primary ordered there, and values that can be spelled.
   pub record SlotFine (p : ℕ) (k : KnownSlot) : Type 0 where
-    pub asking : Request
-    pub is : k.request ≡ Some asking
-    pub digested : k.digest ≡ request_digest asking
+    pub asking : Batch
+    pub is : k.batch ≡ Some asking
     pub orders : Orders self.shape stamps requests p k.counter asking
     pub place : IsPosition p
     pub counts : IsCounter k.counter
     pub certified : IsDigest k.cert
 
   abbrev known_of : Prepare → KnownSlot
-  known_of m = record { counter = m.ui.counter; cert = m.ui.cert; digest = body_digest request_bytes m.body; request = whole_body m.body }
+  known_of m = record { counter = m.ui.counter; cert = m.ui.cert; digest = body_digest batch_bytes m.body; batch = whole_body m.body }
 
   known_fine : (m : Prepare) → PrepareMade self.shape stamps requests m → SlotFine m.pos (known_of m)
   known_fine m x = record {
-    asking = x.request;
+    asking = x.batch;
     is = ap whole_body x.body;
-    digested = ap (body_digest request_bytes) x.body;
     orders = x.orders;
     place = x.fits.pos;
     counts = x.fits.ui.counter;
@@ -99,6 +99,7 @@ module _ {S : Type 0} (self : Identity S) (stamps : Stamps) (requests : List Req
   entry_slot (Stamped (stamped.Prepare m)) d v p k x e = prepare_slot m v p k x.0 e
   entry_slot (Stamped (stamped.Commit m)) d v p k x e = absurd cc
   entry_slot (Stamped _) d v p k x e = absurd x
+  entry_slot (Served pos placed) d v p k x e = absurd cc
   entry_slot (Executed slot) d v p k x e = absurd cc
   entry_slot _ d v p k x e = absurd x
 
@@ -131,5 +132,6 @@ module _ {S : Type 0} (self : Identity S) (stamps : Stamps) (requests : List Req
   pending_asked (Accepted (message.Request q) ∷ d) c r l e = pending_here q r c (pending self d c) l.0 (pending_asked d c r l.1) e
   pending_asked (Accepted _ ∷ d) c r l e = pending_asked d c r l.1 e
   pending_asked (Stamped m ∷ d) c r l e = pending_asked d c r l.1 e
-  pending_asked (Executed slot ∷ d) c r l e = pending_asked d c r l.1 (pending_left (slot.request.client == c) slot.request.seq (pending self d c) r e)
+  pending_asked (Served pos placed ∷ d) c r l e = pending_asked d c r l.1 (pending_left (placed.request.client == c) placed.request.seq (pending self d c) r e)
+  pending_asked (Executed slot ∷ d) c r l e = pending_asked d c r l.1 e
   pending_asked (e ∷ d) c r l f = absurd l.0

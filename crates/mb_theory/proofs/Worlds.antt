@@ -11,10 +11,11 @@ use Rattle.mb_model.specs.Service.{served_all}
 use Rattle.mb_model.specs.Histories.{History}
 use Rattle.mb_model.specs.Positions.{exec_of}
 use Rattle.mb_model.specs.Execution.{state_of}
+use Rattle.mb_model.specs.CarriedOut.{just_served}
 use Rattle.mb_model.specs.Sending.{begin}
 use Rattle.mb_model.proofs.Members.{In}
-use Rattle.mb_sched.specs.declared.schedule.WorldEvent.{WorldEvent as BuiltEvent}
-use Rattle.mb_sched.specs.declared.schedule.WorldEvent.TheVariants as built
+use Rattle.mb_sched.specs.declared.schedule.WorldEvent.{WorldEvent as ReadEvent}
+use Rattle.mb_sched.specs.declared.schedule.WorldEvent.TheVariants as read_event
 use Rattle.mb_sched.specs.Limits.{EventFits, ScheduleFits}
 use Rattle.mb_theory.specs.World.{World, nothing_happened, numbered, give_host}
 use Rattle.mb_theory.specs.WorldSteps.{with_message, happens, world}
@@ -24,10 +25,9 @@ use Rattle.mb_theory.proofs.Counters.{same_once}
 use Rattle.mb_theory.proofs.Legal.{Stamps, SpellsMade}
 use Rattle.mb_theory.proofs.Growth.{Grows, pool_grows, legal_grows}
 use Rattle.mb_theory.proofs.Invariant.{update_begins, stamps_of, Run, system, self, Invariant, in_line_grows}
-use Rattle.mb_theory.proofs.Executed.{Apart}
 use Rattle.mb_theory.proofs.Part.{Before, SpellsMadeNow, Part}
 use Rattle.mb_theory.proofs.Given.{transits}
-use Rattle.mb_theory.proofs.Asked.{makes_step, event_there, AskedFine, next_request, given_keeps, asked_fine}
+use Rattle.mb_theory.proofs.Asked.{makes_step, event_there, AskedFine, next_request, asked_fine}
 
 module _ {S : Type 0} (run : Run S) where
   abbrev pub Holds : World → Type 0
@@ -37,16 +37,16 @@ module _ {S : Type 0} (run : Run S) where
   world_at k = world (system run) k
 
   holds_first : Holds nothing_happened
-  unfolding exec_of state_of served_all
+  unfolding exec_of state_of served_all just_served
   holds_first = record {
     made = tt;
     legal = λ g. tt;
     in_line = λ q slot e. absurd cc;
-    hosts = λ g. record { short = omega arith; state = refl; slots = λ slot i. absurd i };
+    hosts = λ g. record { short = omega arith; state = refl; slots = λ slot i. absurd i; closed = refl };
   }
 
   -- a client asks
-  holds_asks : (w : World) (c : ℕ) (op : Bytes) → Holds w → Holds (happens (system run) w (event_of (built.Ask c op)))
+  holds_asks : (w : World) (c : ℕ) (op : Bytes) → Holds w → Holds (happens (system run) w (event_of (read_event.Ask c op)))
   unfolding happens
   holds_asks w c op x =
       let r : Request = next_request run w c op in
@@ -60,11 +60,11 @@ module _ {S : Type 0} (run : Run S) where
       }
 
   -- a message is given to a host
-  holds_given : (w : World) (h : ℕ) (o : Option Bytes) → h < host_count run.schedule.shape → Apart w.asked → ((r : Request) → In w.asked r → FitsRequest run.schedule.shape r)
+  holds_given : (w : World) (h : ℕ) (o : Option Bytes) → h < host_count run.schedule.shape → ((r : Request) → In w.asked r → FitsRequest run.schedule.shape r)
       → ((b : Bytes) → o ≡ Some b → (i : ℕ) × (slice_get w.pool i ≡ Some b)) → Holds w → Holds (with_message (give_host (system run) h) o w)
-  holds_given w h None is_host apart fitting there x = x
-  holds_given w h (Some bytes) is_host apart fitting there x =
-      let before : Before run = record { requests = w.asked; apart = apart; fitting = fitting; histories = w.histories; pool = w.pool; line = w.line; host = h; is_host = is_host } in
+  holds_given w h None is_host fitting there x = x
+  holds_given w h (Some bytes) is_host fitting there x =
+      let before : Before run = record { requests = w.asked; fitting = fitting; histories = w.histories; pool = w.pool; line = w.line; host = h; is_host = is_host } in
       let at = there bytes refl in
       let begins : Part run before (begin (w.histories h)) =
       subst (λ (f : ℕ → History). Invariant run w.asked f (w.pool ++ []) w.line) (sym (update_begins w.histories h))
@@ -76,22 +76,14 @@ module _ {S : Type 0} (run : Run S) where
   numbered_at pool zero b e = absurd cc
   numbered_at pool (suc m) b e = (m, e)
 
-  holds_next : (k : ℕ) (w : World) (e : BuiltEvent) → EventFits run.schedule.shape e → Apart w.asked → AskedFine run k w → Holds w → Holds (happens (system run) w (event_of e))
+  holds_next : (k : ℕ) (w : World) (e : ReadEvent) → EventFits run.schedule.shape e → AskedFine run k w → Holds w → Holds (happens (system run) w (event_of e))
   unfolding happens
-  holds_next k w (built.Ask c op) fits apart a x = holds_asks w c op x
-  holds_next k w (built.Give m h) fits apart a x = holds_given w h (numbered w.pool m) fits apart a.fitting (numbered_at w.pool m) x
+  holds_next k w (read_event.Ask c op) fits a x = holds_asks w c op x
+  holds_next k w (read_event.Give m h) fits a x = holds_given w h (numbered w.pool m) fits a.fitting (numbered_at w.pool m) x
 
-  asked_before : (w : World) (e : BuiltEvent) (r : Request) → In w.asked r → In (happens (system run) w (event_of e)).asked r
-  unfolding happens
-  asked_before w (built.Ask c op) r i = inr i
-  asked_before w (built.Give m h) r i = subst (λ (l : List Request). In l r) (sym (given_keeps run w h (numbered w.pool m)).same_asked) i
-
-  pub holds : (k : ℕ) → ScheduleFits run.schedule → k ≤ length run.schedule.events → Apart (world_at k).asked → Holds (world_at k)
+  pub holds : (k : ℕ) → ScheduleFits run.schedule → k ≤ length run.schedule.events → Holds (world_at k)
   unfolding world
-  holds zero fits le apart = holds_first
-  holds (suc k) fits le apart =
+  holds zero fits le = holds_first
+  holds (suc k) fits le =
       let there = get_there run.schedule.events k (omega arith) in
-      let happened = event_there run k there.0 there.1 in
-      let next : Apart (happens (system run) (world_at k) (event_of there.0)).asked = rw happened at apart in
-      let before : Apart (world_at k).asked = λ q r i j e. next q r (asked_before _ there.0 q i) (asked_before _ there.0 r j) e in
-      rw happened (holds_next k (world_at k) there.0 (fits.events k there.0 there.1) before (asked_fine run k fits (omega arith)) (holds k fits (omega arith) before))
+      rw (event_there run k there.0 there.1) (holds_next k (world_at k) there.0 (fits.events k there.0 there.1) (asked_fine run k fits (omega arith)) (holds k fits (omega arith)))

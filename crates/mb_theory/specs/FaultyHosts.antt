@@ -1,10 +1,12 @@
 -- What faulty hosts and clients make: tags for any reply, wish or request of their own, and stamps for any content.
-use Rattle.std.specs.Prelude.{ℕ, ◌+◌, ◌-◌, Bool, ◌&&◌, List, ◌∷◌, ◌++◌, length, map, take, reverse, filter_map, replicate, nat_le, Option, Some, None, option_map, option_and_then}
+use Rattle.std.specs.Prelude.{ℕ, ◌+◌, ◌-◌, Bool, false, ◌&&◌, List, [], ◌∷◌, ◌++◌, length, map, take, reverse, filter_map, replicate, nat_le, Option, Some, None, if◌then◌else◌, option_and_then, is_none}
 use Rattle.mb_base.specs.Shapes.{Bytes}
 use Rattle.mb_base.specs.declared.names.Ui.{Ui}
+use Rattle.mb_base.specs.declared.limits.TheConstants.{MESSAGE_LIMIT}
 use Rattle.mb_usig.specs.Tags.{certificate, reply_tag}
 use Rattle.mb_parts.specs.declared.request.Request.{Request}
-use Rattle.mb_parts.specs.Spelling.{ui_bytes}
+use Rattle.mb_parts.specs.declared.batch.Batch.{Batch}
+use Rattle.mb_parts.specs.Spelling.{ui_bytes, request_bytes}
 use Rattle.mb_parts.specs.Bares.{bare_bytes}
 use Rattle.mb_msg.specs.declared.message.Body.{Body}
 use Rattle.mb_msg.specs.declared.message.Body.TheVariants.{Whole, Bare as Short}
@@ -16,6 +18,7 @@ use Rattle.mb_msg.specs.declared.stamped.Stamped.{Stamped as StampedMessage}
 use Rattle.mb_msg.specs.declared.stamped.Stamped.TheVariants as stamped
 use Rattle.mb_msg.specs.Spelling.{spelling}
 use Rattle.mb_msg.specs.Stamps.{bare_of, with_ui, as_stamped, as_message}
+use Rattle.mb_model.specs.Batches.{has_place}
 use Rattle.mb_model.specs.OtherTags.{wish_tag}
 use Rattle.mb_model.specs.UsableLogs.{normal_limit, other_limit}
 use Rattle.mb_model.specs.Plans.{no_base}
@@ -31,13 +34,13 @@ abbrev pub request_in : Message → Option Request
 request_in (message.Request r) = Some r
 request_in m = None
 
--- the whole PREPARE of a request at a position of a view
-abbrev pub prepare_with : ℕ → ℕ → Message → Option StampedMessage
-prepare_with view pos m = option_map (λ r. stamped.Prepare (record { view = view; pos = pos; body = Whole r; ui = no_ui })) (request_in m)
+-- the whole PREPARE of a batch at a position of a view
+abbrev pub prepare_with : ℕ → ℕ → Batch → StampedMessage
+prepare_with view pos b = stamped.Prepare (record { view = view; pos = pos; body = Whole b; ui = no_ui })
 
--- the COMMIT of a PREPARE, where its request is there
-abbrev pub commit_with : Prepare → Body Request → Option StampedMessage
-commit_with m (Whole r) = Some (stamped.Commit (record { view = m.view; pos = m.pos; counter = m.ui.counter; cert = m.ui.cert; body = Whole r; ui = no_ui }))
+-- the COMMIT of a PREPARE, where its batch is there
+abbrev pub commit_with : Prepare → Body Batch → Option StampedMessage
+commit_with m (Whole b) = Some (stamped.Commit (record { view = m.view; pos = m.pos; counter = m.ui.counter; cert = m.ui.cert; body = Whole b; ui = no_ui }))
 commit_with m (Short digest) = None
 
 -- the whole COMMIT of a whole PREPARE
@@ -95,6 +98,34 @@ module _ (s : Schedule) where
   abbrev pub content : World → ℕ → (Message → Option StampedMessage) → Option StampedMessage
   content w n f = option_and_then f (message_at s w n)
 
+  -- ---- a PREPARE of the requests of several messages
+
+  -- the request that the message of a number is
+  abbrev pub request_at : World → ℕ → Option Request
+  request_at w n = option_and_then request_in (message_at s w n)
+
+  -- It is there, and goes into a batch whose requests before it have so many bytes.
+  abbrev pub goes_in : ℕ → Option Request → Bool
+  goes_in used None = false
+  goes_in used (Some r) = has_place used r
+
+  -- how many bytes it has
+  abbrev pub size_of : Option Request → ℕ
+  size_of None = 0
+  size_of (Some r) = length (request_bytes r)
+
+  -- the number of the first of these messages that is no REQUEST, or with which the requests have too many bytes for a batch
+  unfoldable pub misfit : World → ℕ → List ℕ → Option ℕ
+  misfit w used [] = None
+  misfit w used (n ∷ ns) = if goes_in used (request_at w n) then misfit w (used + size_of (request_at w n)) ns else Some n
+
+  abbrev pub batch_from : World → List ℕ → Batch
+  batch_from w ns = record { requests = filter_map (request_at w) ns }
+
+  -- Where one of the messages does not fit, nothing is stamped.
+  abbrev pub prepare_of : World → ℕ → ℕ → List ℕ → Option StampedMessage
+  prepare_of w view pos ns = if is_none (misfit w 0 ns) then Some (prepare_with view pos (batch_from w ns)) else None
+
   -- ---- a VIEW_CHANGE without floor and stable certificate
 
   -- what a faulty host stamped after a counter, newest first, as far as it is messages of the grammar
@@ -109,11 +140,7 @@ module _ (s : Schedule) where
   abbrev pub change_after : World → ℕ → ℕ → ℕ → StampedMessage
   change_after w h view counter = stamped.ViewChange (record { view = view; body = Whole (log_after w h counter); ui = no_ui })
 
-  -- the most bytes of a message
-  abbrev pub message_limit : ℕ
-  message_limit = 4194304
-
   -- It has neither too many entries nor too many bytes.
   abbrev pub is_sendable_change : World → ℕ → ℕ → ℕ → Bool
   is_sendable_change w h view counter = nat_le (length (log_after w h counter).entries) (normal_limit s.shape + other_limit)
-      && nat_le (length (faulty_message w h (change_after w h view counter))) message_limit
+      && nat_le (length (faulty_message w h (change_after w h view counter))) MESSAGE_LIMIT

@@ -5,9 +5,9 @@ use Rattle.mb_base.specs.Shapes.{host_count, client_count}
 use Rattle.mb_model.specs.Service.{Machine}
 use Rattle.mb_model.specs.States.{Snapshots}
 use Rattle.mb_model.specs.Built.{first_path}
-use Rattle.mb_sched.specs.declared.schedule.Schedule.{Schedule as BuiltSchedule}
-use Rattle.mb_sched.specs.declared.schedule.WorldEvent.{WorldEvent as BuiltEvent}
-use Rattle.mb_sched.specs.declared.schedule.WorldEvent.TheVariants as built
+use Rattle.mb_sched.specs.declared.schedule.Schedule.{Schedule as ReadSchedule}
+use Rattle.mb_sched.specs.declared.schedule.WorldEvent.{WorldEvent as ReadEvent}
+use Rattle.mb_sched.specs.declared.schedule.WorldEvent.TheVariants as read_event
 use Rattle.mb_sched.specs.Limits.{ScheduleFits}
 use Rattle.mb_theory.specs.Hashed.{HashesApart}
 use Rattle.mb_theory.specs.WorldEvents.{WorldEvent, Ask, Give, Schedule}
@@ -17,12 +17,12 @@ use Rattle.mb_theory.specs.Safety.{IsSafe}
 
 -- ---- the schedules that can be read so far
 
-abbrev pub event_of : BuiltEvent → WorldEvent
-event_of (built.Ask client op) = Ask client op
-event_of (built.Give message host) = Give message host
+abbrev pub event_of : ReadEvent → WorldEvent
+event_of (read_event.Ask client op) = Ask client op
+event_of (read_event.Give message host) = Give message host
 
 -- Nobody is named as faulty in them.
-abbrev pub schedule_of : BuiltSchedule → Schedule
+abbrev pub schedule_of : ReadSchedule → Schedule
 schedule_of s = record {
   shape = s.shape;
   secret = s.secret;
@@ -32,13 +32,13 @@ schedule_of s = record {
 }
 
 -- the hosts of such a schedule, with a service
-abbrev pub system_of : {S : Type 0} → Machine S → Snapshots S → S → BuiltSchedule → System S
+abbrev pub system_of : {S : Type 0} → Machine S → Snapshots S → S → ReadSchedule → System S
 system_of machine snapshots initial s = record { built = first_path; machine = machine; snapshots = snapshots; initial = initial; schedule = schedule_of s }
 
 -- ---- what is promised
 
 -- Whatever is lost, repeated and reordered, over any service: after each event, while no two of the strings hashed so far share a digest.
 abbrev pub HostsKeepOneHistory : Type 0 → Type 0
-HostsKeepOneHistory S = (machine : Machine S) (snapshots : Snapshots S) (initial : S) (s : BuiltSchedule) → ScheduleFits s → (k : ℕ) → k ≤ length s.events
+HostsKeepOneHistory S = (machine : Machine S) (snapshots : Snapshots S) (initial : S) (s : ReadSchedule) → ScheduleFits s → (k : ℕ) → k ≤ length s.events
     → HashesApart (world (system_of machine snapshots initial s) k).hashed
     → IsSafe (system_of machine snapshots initial s) (world (system_of machine snapshots initial s) k)

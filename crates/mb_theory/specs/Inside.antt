@@ -1,17 +1,17 @@
 -- What stands inside a message: its certificates in the order of the bytes, its requests, its whole bodies, its floor certificates, and its
 -- strings that are hashed.
-use Rattle.std.specs.Prelude.{List, [], ◌∷◌, ◌++◌, map, Option, Some, None}
+use Rattle.std.specs.Prelude.{List, [], ◌∷◌, ◌++◌, map}
 use Rattle.std.specs.List.{flat_map}
 use Rattle.mb_base.specs.Shapes.{Bytes}
 use Rattle.mb_base.specs.declared.names.Ui.{Ui}
 use Rattle.mb_base.specs.declared.shape.Shape.{Shape}
 use Rattle.mb_parts.specs.declared.request.Request.{Request}
+use Rattle.mb_parts.specs.declared.batch.Batch.{Batch}
 use Rattle.mb_parts.specs.declared.certificates.FloorCert.{FloorCert}
-use Rattle.mb_parts.specs.Spelling.{request_bytes, floors_bytes}
+use Rattle.mb_parts.specs.Spelling.{request_bytes, batch_bytes, floors_bytes}
 use Rattle.mb_parts.specs.Bares.{Bare, bare_bytes}
 use Rattle.mb_parts.specs.Claims.{Claim, stable_claims, floor_claims, evidence_claims, prepare_claim}
 use Rattle.mb_msg.specs.declared.message.Body.{Body}
-use Rattle.mb_msg.specs.declared.message.Body.TheVariants.{Whole, Bare as Short}
 use Rattle.mb_msg.specs.declared.message.Message.{Message}
 use Rattle.mb_msg.specs.declared.message.Message.TheVariants as message
 use Rattle.mb_msg.specs.declared.normal.Commit.{Commit}
@@ -25,19 +25,10 @@ use Rattle.mb_msg.specs.declared.stamped.Shown.{Shown}
 use Rattle.mb_msg.specs.declared.stamped.Shown.TheVariants as shown
 use Rattle.mb_msg.specs.declared.stamped.Stamped.{Stamped}
 use Rattle.mb_msg.specs.declared.stamped.Stamped.TheVariants as stamped
-use Rattle.mb_msg.specs.Bodies.{body_digest}
+use Rattle.mb_msg.specs.Bodies.{body_digest, inside_whole}
 use Rattle.mb_msg.specs.Spelling.{floors_body_bytes, change_body_bytes, new_view_body_bytes, open_body_bytes}
 use Rattle.mb_msg.specs.Stamps.{as_stamped, bare_of, bare_of_shown, ui_of, ui_of_shown}
-
--- what is in a part that may be absent
-abbrev pub inside_some : {A B : Type 0} → (A → List B) → Option A → List B
-inside_some f None = []
-inside_some f (Some x) = f x
-
--- what is in a body, where it came whole
-abbrev pub inside_whole : {A B : Type 0} → (A → List B) → Body A → List B
-inside_whole f (Whole b) = f b
-inside_whole f (Short digest) = []
+use Rattle.mb_model.specs.Compared.{inside_some}
 
 -- ---- certificates, as claims: those in the head, those in the body, then the message's own
 
@@ -52,7 +43,7 @@ open_body_claims b = stable_claims b.stable
 module _ (s : Shape) where
   -- that the primary stamped the PREPARE that a COMMIT names
   abbrev pub named_claim : Commit → Claim
-  named_claim m = prepare_claim s m.view m.pos m.counter m.cert (body_digest request_bytes m.body)
+  named_claim m = prepare_claim s m.view m.pos m.counter m.cert (body_digest batch_bytes m.body)
 
   -- in an OPEN, without its own
   abbrev pub open_claims : Open → List Claim
@@ -112,17 +103,17 @@ module _ (s : Shape) where
 -- ---- requests, each with its tag
 
 -- of a vote
-abbrev pub request_in_body : Body Request → List Request
-request_in_body = inside_whole (λ r. r ∷ [])
+abbrev pub batch_requests : Body Batch → List Request
+batch_requests = inside_whole (λ b. b.requests)
 
 -- of an OPEN
 abbrev pub open_requests : Body OpenBody → List Request
-open_requests = inside_whole (λ b. b.requests)
+open_requests = inside_whole (λ b. flat_map (λ x. x.requests) b.batches)
 
 -- Votes and OPENs alone have some.
 abbrev pub shown_requests : Shown → List Request
-shown_requests (shown.Prepare m) = request_in_body m.body
-shown_requests (shown.Commit m) = request_in_body m.body
+shown_requests (shown.Prepare m) = batch_requests m.body
+shown_requests (shown.Commit m) = batch_requests m.body
 shown_requests (shown.Open m) = open_requests m.body
 shown_requests _ = []
 
@@ -132,8 +123,8 @@ change_requests m = inside_whole (λ b. flat_map shown_requests b.entries) m.bod
 
 -- of a stamped message
 abbrev pub stamped_requests : Stamped → List Request
-stamped_requests (stamped.Prepare m) = request_in_body m.body
-stamped_requests (stamped.Commit m) = request_in_body m.body
+stamped_requests (stamped.Prepare m) = batch_requests m.body
+stamped_requests (stamped.Commit m) = batch_requests m.body
 stamped_requests (stamped.Checkpoint m) = []
 stamped_requests (stamped.ViewChange m) = change_requests m
 stamped_requests (stamped.NewView m) = inside_whole (λ b. flat_map change_requests b.changes) m.body
@@ -147,11 +138,15 @@ requests_in (message.Request r) = r ∷ []
 requests_in (message.Log m) = flat_map stamped_requests m.entries
 requests_in m = inside_some stamped_requests (as_stamped m)
 
--- ---- whole bodies, as bytes
+-- ---- whole bodies, as bytes; the batches of an OPEN stand in its body, and each has a digest of its own
 
 -- the body itself
 abbrev pub body_in : {B : Type 0} → (B → Bytes) → Body B → List Bytes
 body_in bytes = inside_whole (λ b. bytes b ∷ [])
+
+-- of an OPEN, and the batches in it
+abbrev pub open_bodies : Body OpenBody → List Bytes
+open_bodies body = body_in open_body_bytes body ++ inside_whole (λ b. map batch_bytes b.batches) body
 
 -- A floor certificate shows the bodies of its CHECKPOINTs.
 abbrev pub floor_bodies : FloorCert → List Bytes
@@ -159,9 +154,9 @@ floor_bodies c = map (λ m. floors_bytes m.floors) c.members
 
 -- in an entry of a shown log
 abbrev pub shown_bodies : Shown → List Bytes
-shown_bodies (shown.Prepare m) = body_in request_bytes m.body
-shown_bodies (shown.Commit m) = body_in request_bytes m.body
-shown_bodies (shown.Open m) = body_in open_body_bytes m.body
+shown_bodies (shown.Prepare m) = body_in batch_bytes m.body
+shown_bodies (shown.Commit m) = body_in batch_bytes m.body
+shown_bodies (shown.Open m) = open_bodies m.body
 shown_bodies _ = []
 
 -- in the body of a VIEW_CHANGE, without itself
@@ -174,13 +169,13 @@ change_bodies m = body_in change_body_bytes m.body ++ inside_whole bodies_in_cha
 
 -- in a stamped message
 abbrev pub stamped_bodies : Stamped → List Bytes
-stamped_bodies (stamped.Prepare m) = body_in request_bytes m.body
-stamped_bodies (stamped.Commit m) = body_in request_bytes m.body
+stamped_bodies (stamped.Prepare m) = body_in batch_bytes m.body
+stamped_bodies (stamped.Commit m) = body_in batch_bytes m.body
 stamped_bodies (stamped.Checkpoint m) = body_in floors_body_bytes m.body
 stamped_bodies (stamped.ViewChange m) = change_bodies m
 stamped_bodies (stamped.NewView m) = body_in new_view_body_bytes m.body ++ inside_whole (λ b. flat_map change_bodies b.changes) m.body
 stamped_bodies (stamped.Enter m) = []
-stamped_bodies (stamped.Open m) = body_in open_body_bytes m.body
+stamped_bodies (stamped.Open m) = open_bodies m.body
 stamped_bodies (stamped.Join m) = []
 
 -- in a message
@@ -205,7 +200,7 @@ unfoldable pub floors_in : Message → List FloorCert
 floors_in (message.Log m) = inside_some (λ c. c ∷ []) m.floor ++ flat_map stamped_floors m.entries
 floors_in m = inside_some stamped_floors (as_stamped m)
 
--- ---- what is hashed of a message: the requests, the bodies and the bare bytes of it, and of the messages, entries and members in it
+-- ---- what is hashed of a message: the requests, the bodies, the batches and the bare bytes of it, and of the messages, entries and members in it
 
 -- all of these strings
 unfoldable pub strings_in : Shape → Message → List Bytes

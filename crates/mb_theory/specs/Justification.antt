@@ -3,7 +3,7 @@ use Rattle.std.specs.Prelude.{◌≡◌, ℕ, ◌+◌, ◌<◌, ◌⊎◌, Bool,
 use Rattle.mb_base.specs.Shapes.{Bytes, quorum, host_count}
 use Rattle.mb_parts.specs.declared.floor.Floor.{Floor}
 use Rattle.mb_parts.specs.declared.certificates.FloorCert.{FloorCert}
-use Rattle.mb_parts.specs.Bares.{Bare, request_digest}
+use Rattle.mb_parts.specs.Bares.{Bare, batch_digest}
 use Rattle.mb_parts.specs.Bares as bare
 use Rattle.mb_parts.specs.Counters.{at_counter}
 use Rattle.mb_parts.specs.Claims.{Claim, are_rising}
@@ -12,6 +12,7 @@ use Rattle.mb_parts.specs.Ordered.{initial_floor, is_ordered, is_opened}
 use Rattle.mb_msg.specs.declared.event.Slot.{Slot}
 use Rattle.mb_msg.specs.declared.message.Message.{Message}
 use Rattle.mb_model.specs.declared.known.Vote.{Vote}
+use Rattle.mb_model.specs.Service.{batch_of}
 use Rattle.mb_model.specs.Verified.{verifies}
 use Rattle.mb_model.specs.Committed.{vote_by, vote_in}
 use Rattle.mb_model.specs.States.{state_digest}
@@ -85,12 +86,12 @@ module _ (s : Schedule) (w : World) where
 
   -- ---- executions, and states that are installed
 
-  -- f+1 hosts voted for the request at this position, in one view that the host had opened, at one counter of the primary.
+  -- f+1 hosts voted for the batch at this position, in one view that the host had opened, at one counter of the primary.
   pub record IsJustifiedSlot (h : ℕ) (before : History) (slot : Slot) : Type 0 where
     pub view : ℕ
     pub counter : ℕ
     pub opened : is_opened initial_floor (said before) view ≡ true
-    pub voted : EachOfQuorum (λ g. IsVoted h g view slot.pos (record { counter = counter; request = request_digest slot.request }))
+    pub voted : EachOfQuorum (λ g. IsVoted h g view slot.pos (record { counter = counter; request = batch_digest (batch_of slot) }))
 
   -- f+1 hosts stamped CHECKPOINTs of the position with the digest of this state.
   abbrev pub IsJustifiedState : ℕ → ℕ → List Bytes → Type 0

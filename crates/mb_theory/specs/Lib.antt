@@ -7,8 +7,10 @@ pub mod WorldSteps
 pub mod WorldRecord
 pub mod Forged
 pub mod Stops
+pub mod Refusals
 pub mod Justification
 pub mod NothingLeft
+pub mod CarriedOut
 pub mod Safety
 pub mod Bounds
 pub mod Headline

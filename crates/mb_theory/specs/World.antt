@@ -23,7 +23,8 @@ use Rattle.mb_model.specs.Sending.{Letter, Progress}
 use Rattle.mb_model.specs.Given.{Answer}
 use Rattle.mb_model.specs.HostStep.{transition}
 use Rattle.mb_model.specs.Clients.{Asker, Taken, no_asker, asks, taken, takes}
-use Rattle.mb_theory.specs.Inside.{inside_some, strings_in}
+use Rattle.mb_theory.specs.Inside.{strings_in}
+use Rattle.mb_model.specs.Compared.{inside_some}
 use Rattle.mb_theory.specs.WorldEvents.{Schedule, is_faulty, is_faulty_client}
 
 -- what an event answers
@@ -47,7 +48,7 @@ pub record World : Type 0 where
   pub histories : ℕ → History  -- of each correct host
   pub faulty_stamps : ℕ → List FaultyStamp  -- of each faulty host, newest first
   pub askers : ℕ → Asker  -- of each client
-  pub line : List Slot  -- the one list of executed requests, oldest first
+  pub line : List Slot  -- the one list of executed batches, oldest first
   pub given : ℕ → List Bytes  -- what was delivered to each correct host, newest first
   pub hashed : List Bytes  -- the strings whose digests were made or compared, oldest first
   pub seen : List Seen  -- of each event, newest first

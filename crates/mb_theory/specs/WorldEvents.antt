@@ -3,7 +3,8 @@
 use Rattle.std.specs.Prelude.{◌≡◌, ℕ, ◌≤◌, ◌<◌, ◌^◌, Bool, false, List, length, Option, Some, None, slice_get, unwrap_or}
 use Rattle.mb_base.specs.Shapes.{Bytes, host_count, client_count, max_faults, tally}
 use Rattle.mb_base.specs.declared.shape.Shape.{Shape}
-use Rattle.mb_parts.specs.Fits.{IsCounter, IsPosition, IsDigest, FitsText}
+use Rattle.mb_parts.specs.Fits.{IsCounter, IsPlace, IsPosition, IsDigest, FitsText}
+use Rattle.mb_model.specs.Batches.{batch_limit}
 use Rattle.mb_sched.specs.Schedules.{max_text}
 
 -- a host or a client
@@ -22,7 +23,7 @@ pub data WorldEvent : Type 0 where
   Sign : ℕ → ℕ → Bytes → WorldEvent  -- a faulty client makes a request of this number
   TagReply : ℕ → ℕ → ℕ → ℕ → Bytes → WorldEvent  -- a faulty host makes a reply: client, number, position, result
   TagWish : ℕ → ℕ → WorldEvent  -- a faulty host wishes for a view
-  StampPrepare : ℕ → ℕ → ℕ → ℕ → WorldEvent  -- a faulty host stamps a PREPARE: view, position, the message with its request
+  StampPrepare : ℕ → ℕ → ℕ → List ℕ → WorldEvent  -- a faulty host stamps a PREPARE: view, position, the messages with its requests
   StampCommit : ℕ → ℕ → WorldEvent  -- the COMMIT of the PREPARE that is this message
   StampCheckpoint : ℕ → ℕ → Bytes → WorldEvent  -- a CHECKPOINT without floors: position, state digest
   StampChange : ℕ → ℕ → ℕ → WorldEvent  -- a VIEW_CHANGE to a view that shows what it stamped after a counter
@@ -65,7 +66,7 @@ abbrev pub culprit : WorldEvent → Option Name
 culprit (Sign c seq op) = Some (ClientName c)
 culprit (TagReply h c seq pos result) = Some (HostName h)
 culprit (TagWish h view) = Some (HostName h)
-culprit (StampPrepare h view pos m) = Some (HostName h)
+culprit (StampPrepare h view pos messages) = Some (HostName h)
 culprit (StampCommit h m) = Some (HostName h)
 culprit (StampCheckpoint h pos digest) = Some (HostName h)
 culprit (StampChange h view counter) = Some (HostName h)
@@ -89,9 +90,9 @@ EventFits s (Raw name bytes) = NameFits s name
 EventFits s (Patience h) = h < host_count s
 EventFits s (Nudge h) = h < host_count s
 EventFits s (Sign c seq op) = (c < client_count s) × (IsCounter seq × FitsText op)
-EventFits s (TagReply h c seq pos result) = (h < host_count s) × ((c < client_count s) × (IsCounter seq × ((pos < 2 ^ 63) × FitsText result)))
+EventFits s (TagReply h c seq pos result) = (h < host_count s) × ((c < client_count s) × (IsCounter seq × (IsPlace pos × FitsText result)))
 EventFits s (TagWish h view) = (h < host_count s) × IsPosition view
-EventFits s (StampPrepare h view pos m) = (h < host_count s) × ((view < 2 ^ 63) × IsPosition pos)
+EventFits s (StampPrepare h view pos messages) = (h < host_count s) × (IsPlace view × (IsPosition pos × ((1 ≤ length messages) × (length messages ≤ batch_limit))))
 EventFits s (StampCommit h m) = h < host_count s
 EventFits s (StampCheckpoint h pos digest) = (h < host_count s) × (IsPosition pos × IsDigest digest)
 EventFits s (StampChange h view counter) = (h < host_count s) × (IsPosition view × (counter < 2 ^ 64))

@@ -18,7 +18,7 @@ use Rattle.mb_theory.specs.World.{World, stamps}
 
 -- ---- plans by their digests
 
--- the letter P, the base, the state digest there, and so many digests of requests
+-- the letter P, the base, the state digest there, and so many digests of batches
 unfoldable pub plan_text_at : ℕ → Cursor → Reads PlanText
 plan_text_at count = map_at (λ p. record { base = p.1.0; digests = p.1.1.1 }) (pair_at (number_in w8 80 80) (pair_at (number_at w64) (pair_at digest_at (repeat_at digest_at count))))
 
@@ -27,7 +27,7 @@ abbrev pub if_ended : Reads PlanText → Option PlanText
 if_ended (Err at) = None
 if_ended (Ok p) = if length p.1.rest == 0 then Some p.0 else None
 
--- the plan of a string, where it is that of a plan: 41 bytes stand before the digests of the requests
+-- the plan of a string, where it is that of a plan: 41 bytes stand before the digests of the batches
 unfoldable pub plan_text_of : Bytes → Option PlanText
 plan_text_of bytes = if_ended (plan_text_at ((length bytes - 41) / 32) (cursor 0 bytes))
 

@@ -8,7 +8,7 @@ use Rattle.mb_msg.specs.Stamps.{as_stamped}
 use Rattle.mb_msg.specs.declared.event.Event.TheVariants as host
 use Rattle.mb_theory.specs.WorldEvents.{WorldEvent, HostName, ClientName, Ask, Give, Take, Raw, Patience, Nudge, Sign, TagReply, TagWish, StampPrepare, StampCommit, StampCheckpoint, StampChange, StampAs, StampRaw, Schedule, is_faulty, is_faulty_client}
 use Rattle.mb_theory.specs.World.{numbered, World, System, nothing_happened, made, request_of, client_asks, give_client, give_host, signal}
-use Rattle.mb_theory.specs.FaultyHosts.{prepare_with, commit_for, checkpoint_with, stamp_some, reply_of_host, wish_of_host, stamp_content, stamp_bytes, content, change_after}
+use Rattle.mb_theory.specs.FaultyHosts.{prepare_of, commit_for, checkpoint_with, stamp_some, reply_of_host, wish_of_host, stamp_content, stamp_bytes, content, change_after}
 
 -- Someone correct does nothing of the kind.
 abbrev pub where_faulty : Bool → (World → World) → World → World
@@ -44,7 +44,7 @@ module _ {S : Type 0} (system : System S) where
   happens w (Sign c seq op) = where_faulty (is_faulty_client schedule c) (made schedule (spelling (message.Request (request_of schedule c seq op)))) w
   happens w (TagReply h c seq pos result) = by_host h (made schedule (spelling (reply_of_host schedule h c seq pos result))) w
   happens w (TagWish h view) = by_host h (made schedule (spelling (wish_of_host schedule h view))) w
-  happens w (StampPrepare h view pos m) = stamps_some h (content schedule w m (prepare_with view pos)) w
+  happens w (StampPrepare h view pos messages) = stamps_some h (prepare_of schedule w view pos messages) w
   happens w (StampCommit h m) = stamps_some h (content schedule w m commit_for) w
   happens w (StampCheckpoint h pos digest) = by_host h (stamp_content schedule h (checkpoint_with (host_count schedule.shape) pos digest)) w
   happens w (StampChange h view counter) = by_host h (stamp_content schedule h (change_after schedule w h view counter)) w

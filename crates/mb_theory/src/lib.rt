@@ -2,7 +2,7 @@
 #![tactic(auto)]
 
 ghost use Rattle.mb_theory.specs.Bounds.{HostsKeepLimits};
-ghost use Rattle.mb_theory.specs.NothingLeft.{HostsLeaveNothing};
+ghost use Rattle.mb_theory.specs.CarriedOut.{HostsCarryOut};
 ghost use Rattle.mb_theory.specs.FirstPath.{HostsKeepOneHistory};
 
 /// What is built so far, over the whole world: nobody is faulty, clients ask, and messages are given to hosts that act on REQUEST, PREPARE,
@@ -12,15 +12,18 @@ pub fn hosts_keep_one_history<V>()
     ensures { HostsKeepOneHistory V }
 {}
 
-/// After any events no correct host has left anything undone, whoever else is faulty and whatever is forged: none of the eight rules is left,
-/// the next request is executed once the votes of f+1 hosts for it are counted, a CHECKPOINT follows where they are built and there was room
-/// for one, and a state is installed once all its parts are there.
-pub fn hosts_leave_nothing<V>()
-    ensures { HostsLeaveNothing V }
+/// After any events each correct host has carried out its rules, whoever else is faulty and whatever is forged: none of the eight is left.
+/// A primary has ordered what waits, a backup has committed the next position, and the next batch is executed once the votes of f+1 hosts
+/// for it are counted; a PREPARE that is taken is the slot of its position, and each vote counts from then on. A CHECKPOINT follows where
+/// they are built and there was room for one, and a state is installed once all its parts are there. A view is left, announced, entered,
+/// opened and joined as soon as it may be.
+pub fn hosts_carry_out_their_rules<V>()
+    ensures { HostsCarryOut V }
 {}
 
-/// After any events the log of each correct host keeps its limits and is all that the host stamped since its floor, and the host keeps no vote
-/// that is more than two intervals above the stable position, whoever else is faulty and whatever is forged.
+/// After any events the log of each correct host keeps its limits and is all that the host stamped since its floor, which f+1 hosts certified.
+/// The host takes no vote that is more than two intervals above the stable position, and a vote counts only above that position. So it is
+/// whoever else is faulty and whatever is forged.
 pub fn hosts_keep_limits<V>()
     ensures { HostsKeepLimits V }
 {}

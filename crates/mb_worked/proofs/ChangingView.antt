@@ -18,7 +18,7 @@ use Rattle.mb_model.specs.HostStep.{transition}
 use Rattle.mb_model.proofs.Hex.{unhex}
 use Rattle.mb_model.proofs.StepOnLiterals.{host_on_literals}
 use Rattle.mb_worked.proofs.Networks.{Appears, Reaches, Waits, nothing_yet, net_after, story}
-use Rattle.mb_worked.proofs.Samples.{four_clients, host, asked, prepare}
+use Rattle.mb_worked.proofs.Samples.{four_clients, host, asked, alone, prepare}
 
 -- a VIEW_CHANGE with no floor and nothing stable that shows these entries
 abbrev change : ℕ → ℕ → ℕ → List Shown → Bytes → ViewChange
@@ -36,11 +36,11 @@ abbrev leaves : ViewChange
 leaves = change 3 1 3 [] (unhex (codes "bea379cc956488531384508c014027ea1068d4a09c901c036aa8964ae4f284a8"))
 
 abbrev orders : Prepare
-orders = record { view = 3; pos = 1; body = Whole (asked 0); ui = record { host = 3; counter = 2; cert = unhex (codes "643faa4ec3c4bcb8675790c542e071567db838fb3f87178c60b43d3eb31a1ed4") } }
+orders = record { view = 3; pos = 1; body = Whole (alone (asked 0)); ui = record { host = 3; counter = 2; cert = unhex (codes "31e980eed7ab2ac9ec9f609390c13aa0f2364769450a558c920a992ba73d69ba") } }
 
 -- It shows both as it leaves for view 5; the first of them as its digest.
 abbrev leaves_again : ViewChange
-leaves_again = change 3 3 5 (shown.ViewChange (record { view = 3; body = unhex (codes "71b6c1d53832f789a7f2435a7c629245fa3761ad8487775ebf4957330213a706"); ui = leaves.ui }) ∷ shown.Prepare orders ∷ []) (unhex (codes "4b73f8e83777c6452e64b30b9ba95e6ed95ac17831ede7a722006a654022e1ba"))
+leaves_again = change 3 3 5 (shown.ViewChange (record { view = 3; body = unhex (codes "71b6c1d53832f789a7f2435a7c629245fa3761ad8487775ebf4957330213a706"); ui = leaves.ui }) ∷ shown.Prepare orders ∷ []) (unhex (codes "9cb8c286835f6739dea344e63451c70c1cad90f8504c61e27ef0bc5395925171"))
 
 -- The PREPARE may not stand behind the first VIEW_CHANGE.
 what_shows_an_invented_view : change_fault (five 0) leaves_again ≡ Some (1, 5)
@@ -63,10 +63,10 @@ abbrev three : ℕ → Identity Bytes
 three = host four_clients
 
 abbrev late_commit : Commit
-late_commit = record { view = 0; pos = 1; counter = 1; cert = (prepare 1).ui.cert; body = Whole (asked 0); ui = record { host = 1; counter = 12; cert = unhex (codes "37a85d955f9c249a06faa68e2067bdea2708f9aec9b9201adcd7a1c99ae0f550") } }
+late_commit = record { view = 0; pos = 1; counter = 1; cert = (prepare 1).ui.cert; body = Whole (alone (asked 0)); ui = record { host = 1; counter = 12; cert = unhex (codes "2b363e687f9aecccf87612524af53a6b7e9914bbb366005b981202de63c37d1f") } }
 
 abbrev shows_a_late_commit : ViewChange
-shows_a_late_commit = change 1 1 1 (shown.Commit late_commit ∷ []) (unhex (codes "f0f52119617e754d3d86d13668dd8ec6b223838197db73d7d622eff513f6bb47"))
+shows_a_late_commit = change 1 1 1 (shown.Commit late_commit ∷ []) (unhex (codes "42d2bb57e08792040cffdae1238e8eaa5f5722887b5ece3bec501cf3055591fb"))
 
 -- Without a floor a log begins at counter 1. h0 refuses it behind the gate of h1, which stays where it was: given once more, it is refused for the same reason.
 a_late_log_is_unusable : story three (net_after three (Appears (message.ViewChange shows_a_late_commit) ∷ Reaches 1 0 ∷ Reaches 1 0 ∷ []) (nothing_yet 3)) ≡ record {

@@ -9,14 +9,14 @@ use Rattle.mb_msg.specs.declared.message.Message.TheVariants as message
 use Rattle.mb_msg.specs.declared.normal.Checkpoint.{Checkpoint}
 use Rattle.mb_msg.specs.declared.stamped.Stamped.TheVariants as stamped
 use Rattle.mb_msg.specs.declared.event.Outcome.TheVariants as outcome
-use Rattle.mb_model.specs.Histories.{Accepted, Stamped, Executed, History, Identity}
+use Rattle.mb_model.specs.Histories.{Accepted, Stamped, Served, Executed, History, Identity}
 use Rattle.mb_model.proofs.Hex.{unhex}
 use Rattle.mb_model.proofs.StepOnLiterals.{host_on_literals}
 use Rattle.mb_worked.proofs.Networks.{Net, Happening, Appears, Reaches, nothing_yet, net_after, Story, story}
-use Rattle.mb_worked.proofs.Samples.{four_clients, nine_clients, host, asked, prepare, commit, slot, tag_at}
+use Rattle.mb_worked.proofs.Samples.{four_clients, nine_clients, host, asked, prepare, commit, placed, slot, tag_at}
 
 -- as many things in order
-abbrev one_to : ℕ → List ℕ
+abbrev pub one_to : ℕ → List ℕ
 one_to zero = []
 one_to (suc p) = one_to p ++ suc p ∷ []
 
@@ -60,7 +60,7 @@ point_of_1 = point 1 5 state_at_four (unhex (codes "ec146ebfcc98bb4b8a12035d0645
 abbrev point_of_2 : Checkpoint
 point_of_2 = point 2 1 (replicate 32 0) (unhex (codes "517c4641fedc6f47f5508358725c26c68e90e1c5b572fcaddd2aa24bf2ae669e"))
 
-abbrev reply_tags_0 : List Bytes
+abbrev pub reply_tags_0 : List Bytes
 reply_tags_0 =
     unhex (codes "4bc8c09d10bf25058bca26fdda87c5cae5a6ac9e949035072fb1ed7c1f7e51c8") ∷
     unhex (codes "faeb439622efafb18a905ef85c27baa0ba058eb7a1b6636022354afba586dfbf") ∷
@@ -68,7 +68,7 @@ reply_tags_0 =
     unhex (codes "0d90e27e4ef7b7541bfb9a4af3c3fb58c540a814f6da056400e9058f39da2130") ∷
     []
 
-abbrev reply_tags_1 : List Bytes
+abbrev pub reply_tags_1 : List Bytes
 reply_tags_1 =
     unhex (codes "b5ff78955a87b1a0037a45ef793207c414d13c0c373990fcb1c55bec9c2d1d11") ∷
     unhex (codes "db9f3e39840af4dde52c069fa01243f17967887194868553112f21d357317bc9") ∷
@@ -77,25 +77,25 @@ reply_tags_1 =
     []
 
 -- the REPLY of a host to the request at position p
-abbrev reply : ℕ → List Bytes → ℕ → Message
+abbrev pub reply : ℕ → List Bytes → ℕ → Message
 reply h tags p = message.Reply (record { host = h; client = p - 1; seq = 1; pos = p; result = 0 ∷ []; tag = tag_at tags (p - 1) })
 
 -- ---- what the hosts hold, newest first
 
 -- h0 behind so many requests
-abbrev ordered : ℕ → History
+abbrev pub ordered : ℕ → History
 ordered zero = []
 ordered (suc p) = Stamped (stamped.Prepare (prepare (suc p))) ∷ Accepted (message.Request (asked p)) ∷ ordered p
 
 -- h1 behind so many PREPAREs
-abbrev committed : ℕ → History
+abbrev pub committed : ℕ → History
 committed zero = []
-committed (suc p) = Executed (slot (suc p)) ∷ Stamped (stamped.Commit (commit (suc p))) ∷ Accepted (message.Prepare (prepare (suc p))) ∷ committed p
+committed (suc p) = Executed (slot (suc p)) ∷ Served (suc p) (placed (suc p)) ∷ Stamped (stamped.Commit (commit (suc p))) ∷ Accepted (message.Prepare (prepare (suc p))) ∷ committed p
 
 -- h0 behind so many COMMITs, after it ordered four requests
 abbrev answered : ℕ → History
 answered zero = ordered 4
-answered (suc p) = Executed (slot (suc p)) ∷ Accepted (message.Commit (commit (suc p))) ∷ answered p
+answered (suc p) = Executed (slot (suc p)) ∷ Served (suc p) (placed (suc p)) ∷ Accepted (message.Commit (commit (suc p))) ∷ answered p
 
 abbrev with_point : Checkpoint → History → History
 with_point m d = Stamped (stamped.Checkpoint m) ∷ d

@@ -1,25 +1,31 @@
 -- Worlds with faulty hosts, computed on the definitions: what hosts and clients refuse, what stands in the way of an event, what is forged.
-use Rattle.std.proofs.Common.{◌≡◌, ℕ, true, false, List, [], ◌∷◌, ◌++◌, length, map, refl, arith, Option, Some, None}
+use Rattle.std.proofs.Common.{◌≡◌, ℕ, Bool, true, false, List, [], ◌∷◌, ◌++◌, length, map, refl, arith, Option, Some, None}
 use Rattle.std.specs.Prelude.{replicate, take, drop}
 use Rattle.mb_base.specs.Shapes.{Bytes}
 use Rattle.mb_base.specs.declared.shape.Shape.{Shape}
 use Rattle.mb_usig.specs.Tags.{certificate, request_tag}
 use Rattle.mb_parts.specs.declared.request.Request.{Request}
-use Rattle.mb_parts.specs.Bares.{request_digest, bare_bytes}
+use Rattle.mb_parts.specs.declared.batch.Batch.{Batch}
+use Rattle.mb_parts.specs.Bares.{batch_digest, bare_bytes}
 use Rattle.mb_parts.specs.Bares as bare
 use Rattle.mb_msg.specs.declared.message.Body.TheVariants as body
 use Rattle.mb_msg.specs.declared.message.Message.TheVariants as message
 use Rattle.mb_msg.specs.Spelling.{spelling, shown_kind}
 use Rattle.mb_model.specs.Verified.{verifies}
 use Rattle.mb_model.specs.UsableLogs.{log_fault}
+use Rattle.mb_msg.specs.declared.event.Slot.{Slot}
 use Rattle.mb_msg.specs.declared.event.Outcome.TheVariants as outcome
 use Rattle.mb_model.specs.Clients as client
 use Rattle.mb_model.specs.Positions.{exec_of}
+use Rattle.mb_sched.specs.declared.report.RefusedLine.{RefusedLine}
+use Rattle.mb_sched.specs.declared.report.Word.{Word}
+use Rattle.mb_sched.specs.declared.report.Word.TheVariants as word
 use Rattle.mb_theory.specs.WorldEvents.{WorldEvent, HostName, ClientName, Ask, Give, Take, Raw, Nudge, Sign, TagReply, TagWish, StampPrepare, StampCommit, StampChange, StampAs, StampRaw}
 use Rattle.mb_theory.specs.World.{Seen, OfHost, OfClient, Unread, Lost, World, System}
 use Rattle.mb_theory.specs.FaultyHosts.{log_after}
 use Rattle.mb_theory.specs.WorldSteps.{world}
-use Rattle.mb_theory.specs.Stops.{WorldStop, NotFaulty, NoSuchMessage, WrongKind, Forged, ForgedTag, refused}
+use Rattle.mb_theory.specs.Stops.{WorldStop, NotFaulty, NoSuchMessage, WrongKind, Forged, ForgedTag}
+use Rattle.mb_theory.specs.Refusals.{refusals}
 use Rattle.mb_theory.proofs.WorldsOnLiterals.{worlds_on_literals}
 use Rattle.mb_worked.proofs.Worlds.{one_client, operation, system_of, all_correct, of_faulty_primary, kind_byte, stop_at}
 
@@ -34,18 +40,44 @@ two_prepares = system_of (record {
   secret = replicate 32 0;
   faulty_hosts = true ∷ false ∷ false ∷ [];
   faulty_clients = false ∷ false ∷ [];
-  events = Ask 0 operation ∷ Ask 1 operation ∷ StampPrepare 0 0 1 1 ∷ StampPrepare 0 0 1 2 ∷ Give 3 1 ∷ Give 4 1 ∷ Give 4 2 ∷ Give 5 2 ∷ Give 4 2 ∷ Give 4 2 ∷ [];
+  events = Ask 0 operation ∷ Ask 1 operation ∷ StampPrepare 0 0 1 (1 ∷ []) ∷ StampPrepare 0 0 1 (2 ∷ []) ∷ Give 3 1 ∷ Give 4 1 ∷ Give 4 2 ∷ Give 5 2 ∷ Give 4 2 ∷ Give 4 2 ∷ [];
 })
 
+abbrev told : ℕ → Word → List ℕ → RefusedLine
+told event name numbers = record { event = event; name = name; numbers = numbers }
+
 -- The gate takes one of them, and is closed at the other.
-two_prepares_refused : refused (world two_prepares 10).seen
-    ≡ (6, OfHost (outcome.Illegal 6)) ∷ (7, OfHost (outcome.Ahead 1)) ∷ (9, OfHost (outcome.Illegal 6)) ∷ (10, OfHost (outcome.Convicted 2)) ∷ []
+two_prepares_refused : refusals (world two_prepares 10).seen
+    ≡ told 6 word.Illegal (6 ∷ []) ∷ told 7 word.Ahead (1 ∷ []) ∷ told 9 word.Illegal (6 ∷ []) ∷ told 10 word.Convicted (2 ∷ []) ∷ []
 unfolding worlds_on_literals
 two_prepares_refused = refl
 
-two_prepares_line : map (λ x. x.pos ∷ x.request.client ∷ []) (world two_prepares 10).line ≡ (1 ∷ 0 ∷ []) ∷ []
+two_prepares_line : map (λ x. x.pos ∷ map (λ p. p.request.client) x.requests) (world two_prepares 10).line ≡ (1 ∷ 0 ∷ []) ∷ []
 unfolding worlds_on_literals
 two_prepares_line = refl
+
+-- ---- two requests in one batch, of which one was served before
+
+abbrev one_again : System Bytes
+one_again = system_of (record {
+  shape = two_clients;
+  secret = replicate 32 0;
+  faulty_hosts = true ∷ false ∷ false ∷ [];
+  faulty_clients = false ∷ false ∷ [];
+  events = Ask 0 operation ∷ Ask 1 operation ∷ StampPrepare 0 0 1 (1 ∷ []) ∷ StampPrepare 0 0 2 (1 ∷ 2 ∷ []) ∷ Give 3 1 ∷ Give 4 1 ∷ [];
+})
+
+-- of a slot the position, and of its requests the client and whether it is fresh
+abbrev of_slot : Slot → ℕ × List (ℕ × Bool)
+of_slot x = (x.pos, map (λ p. (p.request.client, p.fresh)) x.requests)
+
+one_again_line : map of_slot (world one_again 6).line ≡ (1, (0, true) ∷ []) ∷ (2, (0, false) ∷ (1, true) ∷ []) ∷ []
+unfolding worlds_on_literals
+one_again_line = refl
+
+one_again_made : map kind_byte (world one_again 6).pool ≡ 1 ∷ 1 ∷ 2 ∷ 2 ∷ 3 ∷ 4 ∷ 3 ∷ 4 ∷ []
+unfolding worlds_on_literals
+one_again_made = refl
 
 -- ---- a view that was invented
 
@@ -58,10 +90,10 @@ invented_view = system_of (record {
   secret = replicate 32 0;
   faulty_hosts = false ∷ false ∷ false ∷ true ∷ true ∷ [];
   faulty_clients = false ∷ [];
-  events = Ask 0 operation ∷ StampChange 3 3 0 ∷ StampPrepare 3 3 1 1 ∷ StampChange 3 5 0 ∷ Give 2 0 ∷ Give 3 0 ∷ Give 4 0 ∷ [];
+  events = Ask 0 operation ∷ StampChange 3 3 0 ∷ StampPrepare 3 3 1 (1 ∷ []) ∷ StampChange 3 5 0 ∷ Give 2 0 ∷ Give 3 0 ∷ Give 4 0 ∷ [];
 })
 
-invented_view_refused : refused (world invented_view 7).seen ≡ (6, OfHost (outcome.Illegal 6)) ∷ (7, OfHost (outcome.Convicted 2)) ∷ []
+invented_view_refused : refusals (world invented_view 7).seen ≡ told 6 word.Illegal (6 ∷ []) ∷ told 7 word.Convicted (2 ∷ []) ∷ []
 unfolding worlds_on_literals
 invented_view_refused = refl
 
@@ -78,8 +110,8 @@ short_request = 1 ∷ 0 ∷ 0 ∷ 0 ∷ 0 ∷ 0 ∷ 0 ∷ 0 ∷ 0 ∷ 1 ∷ 0 �
 abbrev no_messages : System Bytes
 no_messages = all_correct (map (Raw (HostName 1)) ([] ∷ (255 ∷ []) ∷ (1 ∷ 0 ∷ []) ∷ short_request ∷ (short_request ++ 0 ∷ []) ∷ []))
 
-no_messages_refused : refused (world no_messages 5).seen
-    ≡ (1, OfHost (outcome.Malformed 0)) ∷ (2, OfHost (outcome.Malformed 0)) ∷ (3, OfHost (outcome.Malformed 2)) ∷ (4, OfHost (outcome.Malformed 15)) ∷ (5, OfHost outcome.BadTag) ∷ []
+no_messages_refused : refusals (world no_messages 5).seen
+    ≡ told 1 word.Malformed (0 ∷ []) ∷ told 2 word.Malformed (0 ∷ []) ∷ told 3 word.Malformed (2 ∷ []) ∷ told 4 word.Malformed (15 ∷ []) ∷ told 5 word.BadTag [] ∷ []
 unfolding worlds_on_literals
 no_messages_refused = refl
 
@@ -131,14 +163,14 @@ correct_made_nothing : made_and_seen (world (all_correct (StampRaw 0 [] ∷ Sign
 unfolding worlds_on_literals
 correct_made_nothing = refl
 
-no_such_message : map (λ e. stop_at (of_faulty_primary (Ask 0 operation ∷ e ∷ [])) 1) (Give 0 1 ∷ Give 2 1 ∷ Take 2 0 ∷ StampCommit 0 0 ∷ StampAs 0 7 ∷ Give 1 1 ∷ [])
-    ≡ Some (NoSuchMessage 0) ∷ Some (NoSuchMessage 2) ∷ Some (NoSuchMessage 2) ∷ Some (NoSuchMessage 0) ∷ Some (NoSuchMessage 7) ∷ None ∷ []
+no_such_message : map (λ e. stop_at (of_faulty_primary (Ask 0 operation ∷ e ∷ [])) 1) (Give 0 1 ∷ Give 2 1 ∷ Take 2 0 ∷ StampCommit 0 0 ∷ StampAs 0 7 ∷ StampPrepare 0 0 1 (1 ∷ 7 ∷ 0 ∷ []) ∷ Give 1 1 ∷ [])
+    ≡ Some (NoSuchMessage 0) ∷ Some (NoSuchMessage 2) ∷ Some (NoSuchMessage 2) ∷ Some (NoSuchMessage 0) ∷ Some (NoSuchMessage 7) ∷ Some (NoSuchMessage 7) ∷ None ∷ []
 unfolding worlds_on_literals
 no_such_message = refl
 
 -- A REQUEST is no PREPARE and not stamped, and a PREPARE is no REQUEST.
-wrong_kind : map (λ e. stop_at (of_faulty_primary (Ask 0 operation ∷ StampPrepare 0 0 1 1 ∷ e ∷ [])) 2) (StampCommit 0 1 ∷ StampAs 0 1 ∷ StampPrepare 0 0 2 2 ∷ StampCommit 0 2 ∷ StampAs 0 2 ∷ [])
-    ≡ Some (WrongKind 1) ∷ Some (WrongKind 1) ∷ Some (WrongKind 2) ∷ None ∷ None ∷ []
+wrong_kind : map (λ e. stop_at (of_faulty_primary (Ask 0 operation ∷ StampPrepare 0 0 1 (1 ∷ []) ∷ e ∷ [])) 2) (StampCommit 0 1 ∷ StampAs 0 1 ∷ StampPrepare 0 0 2 (2 ∷ []) ∷ StampPrepare 0 0 2 (1 ∷ 2 ∷ []) ∷ StampCommit 0 2 ∷ StampAs 0 2 ∷ [])
+    ≡ Some (WrongKind 1) ∷ Some (WrongKind 1) ∷ Some (WrongKind 2) ∷ Some (WrongKind 2) ∷ None ∷ None ∷ []
 unfolding worlds_on_literals
 wrong_kind = refl
 
@@ -147,13 +179,16 @@ wrong_kind = refl
 abbrev request : Request
 request = record { client = 0; seq = 1; op = operation; tag = request_tag (replicate 32 0) 0 1 operation }
 
+abbrev batch : Batch
+batch = record { requests = request ∷ [] }
+
 -- a PREPARE of h0 at its first counter, made with a trusted counter that is not the one of h0
 abbrev forged_prepare : Bytes
 forged_prepare = spelling (message.Prepare (record {
   view = 0;
   pos = 1;
-  body = body.Whole request;
-  ui = record { host = 0; counter = 1; cert = certificate (replicate 32 0) 0 1 (bare_bytes (bare.Prepare 0 1 (request_digest request))) };
+  body = body.Whole batch;
+  ui = record { host = 0; counter = 1; cert = certificate (replicate 32 0) 0 1 (bare_bytes (bare.Prepare 0 1 (batch_digest batch))) };
 }))
 
 forged : stop_at (all_correct (Ask 0 operation ∷ Raw (HostName 1) forged_prepare ∷ [])) 1 ≡ Some (Forged 2 0 1)
@@ -174,7 +209,7 @@ unasked = refl
 -- ---- stamps: the message of bytes is these and an identifier; in a VIEW_CHANGE what is no message is left out
 
 abbrev odd_stamps : System Bytes
-odd_stamps = of_faulty_primary (Ask 0 operation ∷ StampPrepare 0 0 1 1 ∷ StampRaw 0 (9 ∷ []) ∷ [])
+odd_stamps = of_faulty_primary (Ask 0 operation ∷ StampPrepare 0 0 1 (1 ∷ []) ∷ StampRaw 0 (9 ∷ []) ∷ [])
 
 odd_lengths : map length (drop 2 (world odd_stamps 3).pool) ≡ 42 ∷ []
 unfolding worlds_on_literals

@@ -12,7 +12,7 @@ use Rattle.mb_model.specs.HostStep.{transition}
 use Rattle.mb_model.proofs.Hex.{unhex}
 use Rattle.mb_model.proofs.StepOnLiterals.{host_on_literals}
 use Rattle.mb_worked.proofs.Networks.{Net, Happening, Appears, Reaches, Hears, nothing_yet, net_after, message_at, story}
-use Rattle.mb_worked.proofs.Samples.{four_clients, host, asked, prepare}
+use Rattle.mb_worked.proofs.Samples.{four_clients, host, asked, alone, prepare}
 
 -- ---- three hosts; each client asks once
 
@@ -97,7 +97,7 @@ both_replies_are_one = (refl, refl)
 
 -- Faulty h0 stamps a second PREPARE of position 1, for the request of another client.
 abbrev second_prepare : Message
-second_prepare = message.Prepare (record { view = 0; pos = 1; body = Whole (asked 1); ui = record { host = 0; counter = 2; cert = unhex (codes "c244cbbd333eb992d21e824cad7247d06c1d77b248dc98d04c6a5c5181c64bc0") } })
+second_prepare = message.Prepare (record { view = 0; pos = 1; body = Whole (alone (asked 1)); ui = record { host = 0; counter = 2; cert = unhex (codes "41adc8c7de681d530163329fd4e374478ebee26501803ca3dc2243ba4ca555c4") } })
 
 -- h1 takes the first, and the second closes the gate of h0. For h2 the second is ahead, until the COMMIT of h1 brings the first. Then it closes the gate
 -- at its counter, as h2 tells when it comes again.
@@ -127,9 +127,14 @@ what_verifies_is_taken = refl
 abbrev get_with : ℕ → Bytes
 get_with zeros = (1 ∷ 0 ∷ 0 ∷ 0 ∷ 0 ∷ 0 ∷ 0 ∷ 0 ∷ 0 ∷ 1 ∷ 0 ∷ 3 ∷ 2 ∷ 1 ∷ 97 ∷ []) ++ replicate zeros 0
 
--- No byte, no kind, a number that is not there, a tag that is short; and last a whole REQUEST whose tag is not its client's.
-bytes_that_are_refused : story three (run (Hears 1 [] ∷ Hears 1 (255 ∷ []) ∷ Hears 1 (1 ∷ 0 ∷ []) ∷ Hears 1 (get_with 31) ∷ Hears 1 (get_with 32) ∷ [])) ≡ record {
-  outcomes = outcome.Malformed 0 ∷ outcome.Malformed 0 ∷ outcome.Malformed 2 ∷ outcome.Malformed 15 ∷ outcome.BadTag ∷ [];
+-- a whole PREPARE of position 1 that ends behind the count of its batch
+abbrev counts : ℕ → Bytes
+counts n = (2 ∷ 1 ∷ []) ++ replicate 15 0 ++ 1 ∷ n ∷ []
+
+-- No byte, no kind, a number that is not there, a tag that is short; a batch of no request and one of seventeen; and last a whole REQUEST whose tag is not its
+-- client's.
+bytes_that_are_refused : story three (run (Hears 1 [] ∷ Hears 1 (255 ∷ []) ∷ Hears 1 (1 ∷ 0 ∷ []) ∷ Hears 1 (get_with 31) ∷ Hears 1 (counts 0) ∷ Hears 1 (counts 17) ∷ Hears 1 (get_with 32) ∷ [])) ≡ record {
+  outcomes = outcome.Malformed 0 ∷ outcome.Malformed 0 ∷ outcome.Malformed 2 ∷ outcome.Malformed 15 ∷ outcome.Malformed 18 ∷ outcome.Malformed 18 ∷ outcome.BadTag ∷ [];
   kinds = [];
   hosts = (0 ∷ 0 ∷ 0 ∷ 0 ∷ 0 ∷ []) ∷ (0 ∷ 0 ∷ 0 ∷ 0 ∷ 0 ∷ []) ∷ (0 ∷ 0 ∷ 0 ∷ 0 ∷ 0 ∷ []) ∷ [];
 }

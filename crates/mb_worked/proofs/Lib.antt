@@ -1,3 +1,4 @@
+mod Batches
 mod FirstPath
 mod ShownLogs
 mod Plans
@@ -6,7 +7,7 @@ pub mod WholeSteps
 mod SingleSteps
 pub mod Samples
 mod FirstView
-mod Checkpoints
+pub mod Checkpoints
 pub mod TwelveRequestsData
 pub mod TwelveRequests
 mod ComingBack

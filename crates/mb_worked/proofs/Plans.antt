@@ -1,11 +1,12 @@
 -- Plans that were worked out by hand from the rules, computed on the definitions.
 use Rattle.std.proofs.Common.{◌≡◌, ℕ, List, [], ◌∷◌, map, Option, Some, None, refl}
+use Rattle.std.specs.Prelude.{flat_map}
 use Rattle.mb_base.specs.Shapes.{Bytes}
 use Rattle.mb_usig.proofs.OnLiterals.{tags_on_literals}
 use Rattle.mb_parts.specs.declared.floor.Floor.{Floor}
 use Rattle.mb_parts.specs.declared.floor.Phase.{Phase}
 use Rattle.mb_parts.specs.declared.floor.Phase.TheVariants as phase
-use Rattle.mb_parts.specs.declared.request.Request.{Request}
+use Rattle.mb_parts.specs.declared.batch.Batch.{Batch}
 use Rattle.mb_parts.specs.declared.certificates.StableCert.{StableCert}
 use Rattle.mb_parts.specs.declared.certificates.Evidence.{Evidence}
 use Rattle.mb_msg.specs.declared.message.Body.TheVariants.{Whole}
@@ -17,21 +18,21 @@ use Rattle.mb_model.specs.Plans.{ShownLog, highest_view, opened_view, plan_of}
 use Rattle.mb_model.proofs.OnRecords.{logs_on_literals}
 use Rattle.mb_model.proofs.ViewChangeData.{three, at_zero, asked, plan_1, log_1, log_2}
 
--- ---- the logs of h1 and h2 as they leave view 0: h1 voted for the request at position 1
+-- ---- the logs of h1 and h2 as they leave view 0: h1 voted for the batch at position 1
 
-first_change : (plan_of three (log_1 ∷ log_2 ∷ []) ≡ record { base = at_zero; requests = asked ∷ [] }) × (plan_digest (plan_of three (log_1 ∷ log_2 ∷ [])) ≡ plan_1)
+first_change : (plan_of three (log_1 ∷ log_2 ∷ []) ≡ record { base = at_zero; batches = asked ∷ [] }) × (plan_digest (plan_of three (log_1 ∷ log_2 ∷ [])) ≡ plan_1)
 unfolding logs_on_literals tags_on_literals
 first_change = (refl, refl)
 
 -- in the other order
-other_order : plan_of three (log_2 ∷ log_1 ∷ []) ≡ record { base = at_zero; requests = asked ∷ [] }
+other_order : plan_of three (log_2 ∷ log_1 ∷ []) ≡ record { base = at_zero; batches = asked ∷ [] }
 unfolding logs_on_literals
 other_order = refl
 
--- ---- small logs; requests are told by their numbers, and certificates by their positions and the first byte of the state digest
+-- ---- small logs; batches have one request and are told by its number, and certificates by their positions and the first byte of the state digest
 
-abbrev asks : ℕ → Request
-asks seq = record { client = 0; seq = seq; op = []; tag = [] }
+abbrev asks : ℕ → Batch
+asks seq = record { requests = record { client = 0; seq = seq; op = []; tag = [] } ∷ [] }
 
 abbrev stable : ℕ → ℕ → StableCert
 stable pos state = record { pos = pos; state = state ∷ []; members = [] }
@@ -50,12 +51,12 @@ prepare counter pos seq = shown.Prepare (record { view = 0; pos = pos; body = Wh
 abbrev change : Shown
 change = shown.ViewChange (record { view = 1; body = []; ui = record { host = 1; counter = 1; cert = [] } })
 
--- of view 1: the NEW_VIEW's counter, the base, and the requests behind it
+-- of view 1: the NEW_VIEW's counter, the base, and the batches behind it
 abbrev evidence : ℕ → ℕ → ℕ → Evidence
 evidence counter base end = record { view = 1; base = base; end = end; plan = []; body = []; counter = counter; cert = []; members = [] }
 
 abbrev opening : ℕ → StableCert → List ℕ → Shown
-opening counter base seqs = shown.Open (record { evidence = evidence counter base.pos base.pos; body = Whole (record { stable = base; requests = map asks seqs }); ui = record { host = 1; counter = 3; cert = [] } })
+opening counter base seqs = shown.Open (record { evidence = evidence counter base.pos base.pos; body = Whole (record { stable = base; batches = map asks seqs }); ui = record { host = 1; counter = 3; cert = [] } })
 
 abbrev join : ℕ → StableCert → Shown
 join view c = shown.Join (record { view = view; evidence = None; stable = c; ui = record { host = 1; counter = 3; cert = [] } })
@@ -70,9 +71,13 @@ at_floor host p =
     let f : Option Floor = Some (record { counter = 10; view = 1; phase = p; last = 9; top = 9; point = 8 }) in
     record { host = host; body = record { floor = Some (record { pos = 12; state = []; members = record { host = 0; counter = 9; floors = f ∷ f ∷ f ∷ []; cert = [] } ∷ [] }); stable = stable 12 1; entries = [] } }
 
+-- the numbers of the requests of a batch
+abbrev numbers : Batch → List ℕ
+numbers b = map (λ r. r.seq) b.requests
+
 -- what a plan is told by: the base's position and state, the numbers of the requests, and the end
 abbrev told : List ShownLog → ℕ × (Bytes × (List ℕ × ℕ))
-told logs = let p : Plan = plan_of three logs in (p.base.pos, (p.base.state, (map (λ r. r.seq) p.requests, plan_end p)))
+told logs = let p : Plan = plan_of three logs in (p.base.pos, (p.base.state, (flat_map numbers p.batches, plan_end p)))
 
 -- Of several votes for a position the one with the lowest counter is taken: the primary ordered 7 and 8 at counters 5 and 6, and 9 and 9 later.
 lowest_counter : told (log 0 (stable 0 1) (commit 8 1 9 ∷ commit 9 2 9 ∷ []) ∷ log 1 (stable 0 1) (commit 5 1 7 ∷ commit 6 2 8 ∷ []) ∷ []) ≡ (0, (1 ∷ [], (7 ∷ 8 ∷ [], 2)))

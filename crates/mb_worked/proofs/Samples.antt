@@ -5,6 +5,8 @@ use Rattle.std.specs.Prelude.{ℕ, ◌+◌, ◌-◌, ◌/◌, List, [], ◌∷�
 use Rattle.mb_base.specs.Shapes.{Bytes}
 use Rattle.mb_base.specs.declared.shape.Shape.{Shape}
 use Rattle.mb_parts.specs.declared.request.Request.{Request}
+use Rattle.mb_parts.specs.declared.batch.Batch.{Batch}
+use Rattle.mb_msg.specs.declared.event.Placed.{Placed}
 use Rattle.mb_msg.specs.declared.event.Slot.{Slot}
 use Rattle.mb_msg.specs.declared.message.Body.TheVariants.{Whole}
 use Rattle.mb_msg.specs.declared.normal.Prepare.{Prepare}
@@ -67,28 +69,28 @@ request_tags =
 -- of PREPAREs of h0, at the positions 1, 2, .. and the counters of the same numbers
 abbrev pub prepare_tags : List Bytes
 prepare_tags =
-    unhex (codes "bff6d709d52c3fceb491d71634b336009e0c109ddf1e15630d25f25d0ce9869e") ∷
-    unhex (codes "3e4019bd887d5045d683425d931392cbb43ddf340ed17a53909108e62bb779e4") ∷
-    unhex (codes "2b8b2c87a7dba1ffc23ef0cd1429df00f11bc1d3cb068833c01e29916349c4ef") ∷
-    unhex (codes "7d4f4e65729621a4833afcba86ccf187a85eb6182eff20965dad0a5f399c99aa") ∷
-    unhex (codes "d0ca2963811907bd4b6c79c338304d5c7613c548ec753ea164bb06b70d9ebe28") ∷
-    unhex (codes "bea35d7ace43e3e6704d0ef8c51f1737c328c8e7068aadf7f54907dcd880509c") ∷
-    unhex (codes "497d852747a5f84111101e79aa373f7e0531071f6fc04501725e3f6a5c3ee472") ∷
-    unhex (codes "45d7eeb6347a4fed00f2dcf6a3a9aa2845838c751d2e8dcf009ea1e1ea7d5eaa") ∷
-    unhex (codes "5ea348c4fe55ff130d4bbdb9064c1629962fe9f4462553b2fac5c47a2931a407") ∷
+    unhex (codes "5ed860386890b16fb24733367832608234efb7ac189a89f5430ab072c3adddc7") ∷
+    unhex (codes "3888db1ad40f2d9e04681d3be7727d372ce257dd06952033e0ef9a067f1a87d8") ∷
+    unhex (codes "c0188c3af7f3a4a80fc08fbc4d239ae28afd57aa16482fa63c25ba90dfa66452") ∷
+    unhex (codes "2ca206ca5bee8b3d7e981744aec0614bb2f89cfb6ad215d3cc16d19b23fb75ae") ∷
+    unhex (codes "e8b4227ae0bd76f3fbe8b39586da4f8cba80370b6cc890d4725fb927d4fb0787") ∷
+    unhex (codes "fb5856f2703cc0132d53c9938c14be96ee7d96d05bd314a7ccf55d7b88febd52") ∷
+    unhex (codes "bd728314aeeb4d162d0d031ced1fd8254520bcd7404718f3c9aeda3e36a608d6") ∷
+    unhex (codes "b058a5ade30c238a682bc7c48f71c5f9755901bd095b277285fda3acdbfbe2c8") ∷
+    unhex (codes "deb31745bb2373535ee6810ac4d9bd2124d41cdda3c260d95566dfcd5c1d8af5") ∷
     []
 
 -- of the COMMITs with which h1 answers them
 abbrev pub commit_tags : List Bytes
 commit_tags =
-    unhex (codes "8d0adc3d17a1147db2fb6817811af11b7527554b8ef6d949f42dd7fa2880669b") ∷
-    unhex (codes "72e375394ba1528d6c4565adb4fb4c0149166a769fc732dbed3a1034cb3ff2f1") ∷
-    unhex (codes "cbfd996a8647e6a248f093a317456aea65df06c129e5888a047fdf251ee71b42") ∷
-    unhex (codes "0d40d26fe93e163c9fe5409d2dc8deb23c74c678ffd22a1fbb25078cb4d4cdc6") ∷
-    unhex (codes "f9ac944753d262dca1fcd72c733df8522ef37ac45d4e50e330b91575d30e8b6c") ∷
-    unhex (codes "20bb4e238af4f3bf733aff8f9a63baaf1102db6e9c5e9ddd3589f78086ac1070") ∷
-    unhex (codes "4a38b13a846fd5f65ddc25572a3d71de2ffd7cde20f66492ec13ca9afd39891a") ∷
-    unhex (codes "2efe8653d2c9cd3b1d7133039e6bf8deac6bdd49473ef4aa479eb1b52c6e1e02") ∷
+    unhex (codes "c4123314e785513c336c9c7b823f9588c7f7a01a000497fa89bb22c67339aaf1") ∷
+    unhex (codes "1d9a8ff985d5bbccd99620b926e9da1992b6b5254b202fecb53272c432d6aa93") ∷
+    unhex (codes "51b15a5bab3bb1314cecc6724399ae2c62b47fd52152402598bb5cd9c05c1401") ∷
+    unhex (codes "28ec79d50b5502bc0235f1eb8b131409d99868caa33a4eb5a77a1ab1bb94e30d") ∷
+    unhex (codes "064aa5f75c59974ec35a43ec49824a4df729af646dae5bd2ebdd95e740e35121") ∷
+    unhex (codes "1475f2f6f4df36a2f88f69e668851d195c829f779c43ffb672504860d13f377b") ∷
+    unhex (codes "4ce32f7374923dcbd92c0e8a0851127b0f0bf1a8c2a2e6960f27b6338e403428") ∷
+    unhex (codes "e11b6d41cf073079d63546172425ecef06608816477304fc0e9c984b59b99505") ∷
     []
 
 -- the tag at this index
@@ -101,14 +103,21 @@ tag_at tags i = slice_index_or tags i []
 abbrev pub asked : ℕ → Request
 asked c = record { client = c; seq = 1; op = put; tag = tag_at request_tags c }
 
+-- a batch of one request
+abbrev pub alone : Request → Batch
+alone r = record { requests = r ∷ [] }
+
 -- h0 orders the request of client p - 1 at position p.
 abbrev pub prepare : ℕ → Prepare
-prepare p = record { view = 0; pos = p; body = Whole (asked (p - 1)); ui = record { host = 0; counter = p; cert = tag_at prepare_tags (p - 1) } }
+prepare p = record { view = 0; pos = p; body = Whole (alone (asked (p - 1))); ui = record { host = 0; counter = p; cert = tag_at prepare_tags (p - 1) } }
 
 -- h1 commits it. It stamps a CHECKPOINT behind each fourth COMMIT.
 abbrev pub commit : ℕ → Commit
-commit p = record { view = 0; pos = p; counter = p; cert = tag_at prepare_tags (p - 1); body = Whole (asked (p - 1)); ui = record { host = 1; counter = p + (p - 1) / 4; cert = tag_at commit_tags (p - 1) } }
+commit p = record { view = 0; pos = p; counter = p; cert = tag_at prepare_tags (p - 1); body = Whole (alone (asked (p - 1))); ui = record { host = 1; counter = p + (p - 1) / 4; cert = tag_at commit_tags (p - 1) } }
 
 -- It is executed.
+abbrev pub placed : ℕ → Placed
+placed p = record { request = asked (p - 1); fresh = true }
+
 abbrev pub slot : ℕ → Slot
-slot p = record { pos = p; request = asked (p - 1); fresh = true }
+slot p = record { pos = p; requests = placed p ∷ [] }

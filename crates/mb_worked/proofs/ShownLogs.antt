@@ -7,7 +7,7 @@ use Rattle.mb_base.specs.declared.shape.Shape.{Shape}
 use Rattle.mb_usig.proofs.OnLiterals.{tags_on_literals}
 use Rattle.mb_parts.specs.declared.floor.Floor.{Floor}
 use Rattle.mb_parts.specs.declared.floor.Phase.TheVariants as phase
-use Rattle.mb_parts.specs.declared.request.Request.{Request}
+use Rattle.mb_parts.specs.declared.batch.Batch.{Batch}
 use Rattle.mb_parts.specs.declared.certificates.StableCert.{StableCert}
 use Rattle.mb_parts.specs.declared.certificates.FloorCert.{FloorCert}
 use Rattle.mb_parts.specs.declared.certificates.Evidence.{Evidence}
@@ -23,7 +23,7 @@ use Rattle.mb_model.specs.Verified.{verifies}
 use Rattle.mb_model.specs.UsableLogs.{Fault, log_fault}
 use Rattle.mb_model.proofs.Hex.{unhex}
 use Rattle.mb_model.proofs.OnRecords.{logs_on_literals}
-use Rattle.mb_model.proofs.ViewChangeData.{secret, three, at_zero, asked, plan_1, prepare_cert, shown_by_2, change_entry, enter_entry, open_entry, log_1, log_2}
+use Rattle.mb_model.proofs.ViewChangeData.{secret, three, at_zero, asked_0, asked_1, asked, plan_1, prepare_cert, shown_by_2, change_entry, enter_entry, open_entry, log_1, log_2}
 
 -- ---- logs with tags that verify
 
@@ -42,7 +42,7 @@ from_start entries = record { floor = None; stable = at_zero; entries = entries 
 abbrev invented : ChangeBody
 invented = from_start (
     shown.ViewChange (record { view = 3; body = shown_by_2; ui = record { host = 3; counter = 1; cert = unhex (codes "bea379cc956488531384508c014027ea1068d4a09c901c036aa8964ae4f284a8") } })
-    ∷ shown.Prepare (record { view = 3; pos = 1; body = Whole asked; ui = record { host = 3; counter = 2; cert = unhex (codes "643faa4ec3c4bcb8675790c542e071567db838fb3f87178c60b43d3eb31a1ed4") } })
+    ∷ shown.Prepare (record { view = 3; pos = 1; body = Whole asked; ui = record { host = 3; counter = 2; cert = unhex (codes "483c479f8e25ab888d97ae98a0f7417c27b295a5d5765bdd12289bf56828dd6e") } })
     ∷ []
     )
 
@@ -52,7 +52,7 @@ an_invented_view = refl
 
 -- Without a floor certificate a log begins at counter 1.
 no_floor : fault_in three 1 1 13 (from_start (
-    shown.Commit (record { view = 0; pos = 1; counter = 1; cert = prepare_cert; body = Whole asked; ui = record { host = 1; counter = 12; cert = unhex (codes "37a85d955f9c249a06faa68e2067bdea2708f9aec9b9201adcd7a1c99ae0f550") } })
+    shown.Commit (record { view = 0; pos = 1; counter = 1; cert = prepare_cert; body = Whole asked; ui = record { host = 1; counter = 12; cert = unhex (codes "d12b34ae725308765ad0329797c802888323a2fc07ee7ffda4b3f3e1e32c7c01") } })
     ∷ []
     )) ≡ Some (0, 3)
 unfolding logs_on_literals tags_on_literals
@@ -73,7 +73,7 @@ another_tag = refl
 
 -- h1's COMMIT of a PREPARE whose tag does not verify: its own tag covers that one, and is right.
 another_prepare : fault_in three 1 1 2 (from_start (
-    shown.Commit (record { view = 0; pos = 1; counter = 1; cert = replicate 32 0; body = Whole asked; ui = record { host = 1; counter = 1; cert = unhex (codes "e7455def5895117b62d404ea6ba70f4dc17340e127f16f401ec4519a45782ee5") } })
+    shown.Commit (record { view = 0; pos = 1; counter = 1; cert = replicate 32 0; body = Whole asked; ui = record { host = 1; counter = 1; cert = unhex (codes "6fa0de9dfdc29ba475cf177bbd4a5c822a8d19ea4016097991b36977a4b36cf9") } })
     ∷ []
     )) ≡ Some (0, 5)
 unfolding logs_on_literals tags_on_literals
@@ -111,13 +111,13 @@ fault_of host view counter b = log_fault three secret (λ claim. true) host view
 abbrev stable_at : ℕ → StableCert
 stable_at pos = record { pos = pos; state = replicate 32 9; members = record { host = 0; counter = 1; floors = []; cert = [] } ∷ record { host = 1; counter = 1; floors = []; cert = [] } ∷ [] }
 
-abbrev commit_of_1 : ℕ → ℕ → Body Request → Shown
+abbrev commit_of_1 : ℕ → ℕ → Body Batch → Shown
 commit_of_1 counter pos b = shown.Commit (record { view = 0; pos = pos; counter = pos; cert = []; body = b; ui = record { host = 1; counter = counter; cert = [] } })
 
 abbrev join_of_1 : ℕ → ℕ → Shown
 join_of_1 counter pos = shown.Join (record { view = 0; evidence = None; stable = stable_at pos; ui = record { host = 1; counter = counter; cert = [] } })
 
--- h0 orders a request at its counter and a position.
+-- h0 orders a batch at its counter and a position.
 abbrev prepare_of_0 : ℕ → ℕ → Shown
 prepare_of_0 counter pos = shown.Prepare (record { view = 0; pos = pos; body = Whole asked; ui = record { host = 0; counter = counter; cert = [] } })
 
@@ -127,7 +127,7 @@ unfolding logs_on_literals tags_on_literals
 short_vote = refl
 
 -- A vote before a JOIN is not to be whole.
-abbrev behind_join : Body Request → ChangeBody
+abbrev behind_join : Body Batch → ChangeBody
 behind_join b = record { floor = None; stable = stable_at 4; entries = commit_of_1 1 1 b ∷ join_of_1 2 4 ∷ commit_of_1 3 5 (Whole asked) ∷ [] }
 
 votes_before_join : (fault_of 1 1 4 (behind_join (Whole asked)) ≡ Some (0, 6)) × (fault_of 1 1 4 (behind_join (Short [])) ≡ None)
@@ -144,10 +144,16 @@ window : (fault_of 1 1 9 (from_start (commits (1 ∷ 2 ∷ 3 ∷ 4 ∷ 5 ∷ 6 �
 unfolding logs_on_literals tags_on_literals
 window = (refl, refl)
 
--- A request with another tag than its client's.
-bad_tag : fault_of 1 1 2 (from_start (commit_of_1 1 1 (Whole (record asked { tag = replicate 32 0 })) ∷ [])) ≡ Some (0, 8)
+-- A batch of which one request has another tag than its client's: the first, or the second.
+abbrev tagged_badly : Batch
+tagged_badly = record { requests = record asked_0 { tag = replicate 32 0 } ∷ asked_1 ∷ [] }
+
+abbrev second_tagged_badly : Batch
+second_tagged_badly = record { requests = asked_0 ∷ record asked_1 { tag = replicate 32 0 } ∷ [] }
+
+bad_tag : (fault_of 1 1 2 (from_start (commit_of_1 1 1 (Whole tagged_badly) ∷ [])) ≡ Some (0, 8)) × (fault_of 1 1 2 (from_start (commit_of_1 1 1 (Whole second_tagged_badly) ∷ [])) ≡ Some (0, 8))
 unfolding logs_on_literals tags_on_literals
-bad_tag = refl
+bad_tag = (refl, refl)
 
 -- h2 leaves for view 1, and opens it.
 abbrev leaves : Shown
@@ -159,11 +165,11 @@ evidence_of base end plan = record { view = 1; base = base; end = end; plan = pl
 abbrev open_of : ℕ → ℕ → Bytes → Body OpenBody → Shown
 open_of base end plan b = shown.Open (record { evidence = evidence_of base end plan; body = b; ui = record { host = 2; counter = 2; cert = [] } })
 
--- The bodies of view 1's OPEN are its plan's: the base's certificate, at the base, and the requests that give the plan digest.
-abbrev opened : ℕ → ℕ → Bytes → StableCert → List Request → ChangeBody
-opened base end plan stable requests = from_start (leaves ∷ open_of base end plan (Whole (record { stable = stable; requests = requests })) ∷ [])
+-- The bodies of view 1's OPEN are its plan's: the base's certificate, at the base, and the batches that give the plan digest.
+abbrev opened : ℕ → ℕ → Bytes → StableCert → List Batch → ChangeBody
+opened base end plan stable batches = from_start (leaves ∷ open_of base end plan (Whole (record { stable = stable; batches = batches })) ∷ [])
 
--- of base 4 with 32 bytes 9 as state digest, and without requests
+-- of base 4 with 32 bytes 9 as state digest, and without batches
 abbrev plan_of_none : Bytes
 plan_of_none = unhex (codes "86e9dbf944c7493d61d673cd0c789d18aa59599c1ce78c22a5f5cdb936d66548")
 
@@ -174,12 +180,9 @@ plan_bodies : (fault_of 2 2 3 (opened 4 4 plan_of_none (stable_at 4) []) ≡ Non
 unfolding logs_on_literals tags_on_literals
 plan_bodies = (refl, refl, refl, refl)
 
--- The request of an OPEN is rightly tagged too: of two plans with right digests one has a request that its client did not tag.
-abbrev tagged_badly : Request
-tagged_badly = record asked { tag = replicate 32 0 }
-
+-- The requests of an OPEN are rightly tagged too: of two plans with right digests one has a request that its client did not tag.
 abbrev plan_of_tagged_badly : Bytes
-plan_of_tagged_badly = unhex (codes "4ef07a37d20b52fea43b151fb66dc94b444450b3b0f236240c031ce17294ab6b")
+plan_of_tagged_badly = unhex (codes "4874bb5ca8e823fc0b7eb18da8f025ce38bfed51821c83783fb97789e793f514")
 
 tags_in_plans : (fault_of 2 2 3 (opened 0 1 plan_1 at_zero (asked ∷ [])) ≡ None) × (fault_of 2 2 3 (opened 0 1 plan_of_tagged_badly at_zero (tagged_badly ∷ [])) ≡ Some (1, 8))
 unfolding logs_on_literals tags_on_literals
@@ -190,7 +193,7 @@ abbrev joined : Shown
 joined = shown.Join (record { view = 1; evidence = Some (evidence_of 0 1 plan_1); stable = stable_at 4; ui = record { host = 2; counter = 3; cert = [] } })
 
 abbrev first_plan : Body OpenBody
-first_plan = Whole (record { stable = at_zero; requests = asked ∷ [] })
+first_plan = Whole (record { stable = at_zero; batches = asked ∷ [] })
 
 abbrev open_and_join : Body OpenBody → ChangeBody
 open_and_join b = record { floor = None; stable = stable_at 4; entries = leaves ∷ open_of 0 1 plan_1 b ∷ joined ∷ [] }

@@ -11,45 +11,45 @@ use Rattle.mb_msg.specs.declared.normal.Prepare.{Prepare}
 use Rattle.mb_msg.specs.declared.normal.Commit.{Commit}
 use Rattle.mb_msg.specs.declared.normal.Checkpoint.{Checkpoint}
 use Rattle.mb_msg.specs.declared.stamped.Stamped.TheVariants as stamped
-use Rattle.mb_model.specs.Histories.{Accepted, Stamped, Executed, History}
+use Rattle.mb_model.specs.Histories.{Accepted, Stamped, Served, Executed, History}
 use Rattle.mb_model.proofs.Hex.{unhex}
-use Rattle.mb_worked.proofs.Samples.{asked, slot, tag_at}
+use Rattle.mb_worked.proofs.Samples.{asked, alone, placed, slot, tag_at}
 
 -- ---- tags, by position, and those of CHECKPOINTs by their number
 
 -- of the PREPAREs of h0
 abbrev prepare_tags : List Bytes
 prepare_tags =
-    unhex (codes "bff6d709d52c3fceb491d71634b336009e0c109ddf1e15630d25f25d0ce9869e") ∷
-    unhex (codes "3e4019bd887d5045d683425d931392cbb43ddf340ed17a53909108e62bb779e4") ∷
-    unhex (codes "2b8b2c87a7dba1ffc23ef0cd1429df00f11bc1d3cb068833c01e29916349c4ef") ∷
-    unhex (codes "7d4f4e65729621a4833afcba86ccf187a85eb6182eff20965dad0a5f399c99aa") ∷
-    unhex (codes "1822c8e2ef1f74ef4c4a7ced951929281c62144ff3f1e42feb377154ecb5369e") ∷
-    unhex (codes "9387c91689bda6b52bfa97d0e689b4b01595badb772ed7c55e4fdd59bbe2ce55") ∷
-    unhex (codes "55e02357efb568aee39ef0ec4117a6c58be942f8752c6f8c06ce45a11a60f602") ∷
-    unhex (codes "e5e84d444fa29bb434329fd21321715a38c1de7d6a1c3d03a9ad3a0c81d69b9d") ∷
-    unhex (codes "c578f5f1ed64bb6e2237eba856a8eb211003ac667a971ddc47c4992f8c5eb1fa") ∷
-    unhex (codes "1c42e9be5e2ddc7eef68db1f9697ab6253d826b10862a7b3f4cf4676f2b7f613") ∷
-    unhex (codes "e7196c55d2f073c8173ff0f8f18e9a83e9835d1ccd62df972964bfa4aad87f9d") ∷
-    unhex (codes "6c0fc7c53a7eecf1c1b225b950e54973d7b2eec912bf88e7a33189b894bf3ecc") ∷
-    unhex (codes "b47e8fa7a39b4fb907bab1a033d38583688e6000f55712598b44a8d8c0293a4f") ∷
+    unhex (codes "5ed860386890b16fb24733367832608234efb7ac189a89f5430ab072c3adddc7") ∷
+    unhex (codes "3888db1ad40f2d9e04681d3be7727d372ce257dd06952033e0ef9a067f1a87d8") ∷
+    unhex (codes "c0188c3af7f3a4a80fc08fbc4d239ae28afd57aa16482fa63c25ba90dfa66452") ∷
+    unhex (codes "2ca206ca5bee8b3d7e981744aec0614bb2f89cfb6ad215d3cc16d19b23fb75ae") ∷
+    unhex (codes "46a239cc97f8cca1a97192bd9870750a080af85fc8131c3008ba588da50382cc") ∷
+    unhex (codes "aee85d328216ad40dfd30e51ffd69b61e00a5b3465c8d628b247e791570ac45a") ∷
+    unhex (codes "7d03636e8b2cf3a8a73e237ebadec3a1390fef09e9e0b83d3489e44daa746845") ∷
+    unhex (codes "ac79c8f056bb627c2a21d4c197a09076249be6521000bb6486c13f97fc21e7c1") ∷
+    unhex (codes "7c92668b912bb2a344fb859f17919942a285febdfb3e0aa7130ce50abe49281a") ∷
+    unhex (codes "895f54f4b30ccf9cb4f2ef22062adc9591f6ec604c2885a988b010b2a09cb695") ∷
+    unhex (codes "16606bf859a12ef70c67352adacced5dbb0753500256e470074a5f908b6d3563") ∷
+    unhex (codes "258503c9fd086d95f9256d57f0bb43696b838abb033fcd54d89bca6b71d4eb5b") ∷
+    unhex (codes "78286f6a67fcd6a7378ad14609af4260a5a49f8dcffbe2bf816e2bd7b304f5dd") ∷
     []
 
 -- of the COMMITs of h1
 abbrev commit_tags : List Bytes
 commit_tags =
-    unhex (codes "8d0adc3d17a1147db2fb6817811af11b7527554b8ef6d949f42dd7fa2880669b") ∷
-    unhex (codes "72e375394ba1528d6c4565adb4fb4c0149166a769fc732dbed3a1034cb3ff2f1") ∷
-    unhex (codes "cbfd996a8647e6a248f093a317456aea65df06c129e5888a047fdf251ee71b42") ∷
-    unhex (codes "0d40d26fe93e163c9fe5409d2dc8deb23c74c678ffd22a1fbb25078cb4d4cdc6") ∷
-    unhex (codes "0fecc0f7de979e4cd2ae9d91eeedea68c5328e627fd041c933d204cc8a592646") ∷
-    unhex (codes "0e6605d70597ea5491640fb9325e0f6137cc0025b47cea62496deffcf65a2721") ∷
-    unhex (codes "df37f9d38ce49da8e3c7f839b1211bacfe6653dcaa888e9af1176f33d83a9538") ∷
-    unhex (codes "164a1e4a060338f1199f77928a63dc00e67a865b3ff08631d5fdbb38522f1e29") ∷
-    unhex (codes "86a78142131cd05efcf80dce3b5d74e4f89bb53dda53440415274c102d932ea2") ∷
-    unhex (codes "14075e1c697ce227c3a6cde122d76a2ccaefd6357b9371b6424e22b4ab837aa9") ∷
-    unhex (codes "31f7c2ada649bf78793e0ddcc66d3d6d819211bca56fbaddf48991e48f682d06") ∷
-    unhex (codes "6fa550d17ae9031f108d93e5e1090729ac09888ec9438d5140151c6b5ec277ac") ∷
+    unhex (codes "c4123314e785513c336c9c7b823f9588c7f7a01a000497fa89bb22c67339aaf1") ∷
+    unhex (codes "1d9a8ff985d5bbccd99620b926e9da1992b6b5254b202fecb53272c432d6aa93") ∷
+    unhex (codes "51b15a5bab3bb1314cecc6724399ae2c62b47fd52152402598bb5cd9c05c1401") ∷
+    unhex (codes "28ec79d50b5502bc0235f1eb8b131409d99868caa33a4eb5a77a1ab1bb94e30d") ∷
+    unhex (codes "3d281edf3def7a76cdd8613eb8bc5b4f8d98596ca1aa00450db652cf8429d6e5") ∷
+    unhex (codes "0290062c06225cfec62604f1b87ad3be05705452c0c1037a703119d67bdc27f3") ∷
+    unhex (codes "7d8cda83beb05cfe773128fc84115a7a31b9d3e4c4abda1c630d610280ca6200") ∷
+    unhex (codes "fb3b2e9b09cf53d836d825098da2ef58a6ce3e4388280a911dfe023e64a4b995") ∷
+    unhex (codes "8da7c3d98f6add2dcb8e488bd10e78f2de47c7e01bfc9e4a282cddce510d9fe7") ∷
+    unhex (codes "13964ebae44a06c342a8f280c8f6ef51792ee79a9ba6761c0f625856782bc154") ∷
+    unhex (codes "c0bd29b536d4e2f05c33e9f26af8f2f8ef679e94cb96b473d56d2177c8afb0ad") ∷
+    unhex (codes "f63071d52d8e50101ed118e04987fcf0f7736ffda0fc7cbbd39b0376fa585c0b") ∷
     []
 
 -- of the CHECKPOINTs of h0
@@ -117,10 +117,10 @@ abbrev counter : ℕ → ℕ
 counter p = p + (p - 1) / 4
 
 abbrev pub prepare : ℕ → Prepare
-prepare p = record { view = 0; pos = p; body = Whole (asked (p - 1)); ui = record { host = 0; counter = counter p; cert = tag_at prepare_tags (p - 1) } }
+prepare p = record { view = 0; pos = p; body = Whole (alone (asked (p - 1))); ui = record { host = 0; counter = counter p; cert = tag_at prepare_tags (p - 1) } }
 
 abbrev pub commit : ℕ → Commit
-commit p = record { view = 0; pos = p; counter = counter p; cert = tag_at prepare_tags (p - 1); body = Whole (asked (p - 1)); ui = record { host = 1; counter = counter p; cert = tag_at commit_tags (p - 1) } }
+commit p = record { view = 0; pos = p; counter = counter p; cert = tag_at prepare_tags (p - 1); body = Whole (alone (asked (p - 1))); ui = record { host = 1; counter = counter p; cert = tag_at commit_tags (p - 1) } }
 
 -- where a host stood behind its CHECKPOINT with this number; it has none with number 0
 abbrev pub floor : ℕ → Option Floor
@@ -155,13 +155,13 @@ at_fourth p l = if p % 4 == 0 then l else []
 abbrev pub ordered : ℕ → History
 ordered zero = []
 ordered (suc p) = at_fourth (suc p) (Accepted (message.Checkpoint (point 1 (suc p / 4))) ∷ Stamped (stamped.Checkpoint (point 0 (suc p / 4))) ∷ [])
-    ++ (Executed (slot (suc p)) ∷ Accepted (message.Commit (commit (suc p))) ∷ Stamped (stamped.Prepare (prepare (suc p))) ∷ Accepted (message.Request (asked p)) ∷ ordered p)
+    ++ (Executed (slot (suc p)) ∷ Served (suc p) (placed (suc p)) ∷ Accepted (message.Commit (commit (suc p))) ∷ Stamped (stamped.Prepare (prepare (suc p))) ∷ Accepted (message.Request (asked p)) ∷ ordered p)
 
 -- h1 behind them
 abbrev pub committed : ℕ → History
 committed zero = []
 committed (suc p) = at_fourth (suc p) (Accepted (message.Checkpoint (point 0 (suc p / 4))) ∷ Stamped (stamped.Checkpoint (point 1 (suc p / 4))) ∷ [])
-    ++ (Executed (slot (suc p)) ∷ Stamped (stamped.Commit (commit (suc p))) ∷ Accepted (message.Prepare (prepare (suc p))) ∷ committed p)
+    ++ (Executed (slot (suc p)) ∷ Served (suc p) (placed (suc p)) ∷ Stamped (stamped.Commit (commit (suc p))) ∷ Accepted (message.Prepare (prepare (suc p))) ∷ committed p)
 
 -- all messages behind so many requests, oldest first
 abbrev pub exchanged : ℕ → List Message

@@ -12,6 +12,7 @@ use Rattle.mb_msg.specs.declared.normal.Checkpoint.{Checkpoint}
 use Rattle.mb_msg.specs.declared.stamped.Stamped.TheVariants as stamped
 use Rattle.mb_usig.specs.Tags.{request_tag}
 use Rattle.mb_parts.specs.declared.request.Request.{Request}
+use Rattle.mb_parts.specs.declared.batch.Batch.{Batch}
 use Rattle.mb_msg.specs.declared.message.Message.TheVariants as message
 use Rattle.mb_model.specs.Service.{Machine}
 use Rattle.mb_model.specs.States.{Snapshots}
@@ -45,6 +46,10 @@ host h = record { built = everything; shape = shape; host = h; secret = secret; 
 -- the first request of a client
 abbrev pub asked : ℕ → Request
 asked c = record { client = c; seq = 1; op = 9 ∷ []; tag = request_tag secret c 1 (9 ∷ []) }
+
+-- a batch of one request
+abbrev pub alone : ℕ → Batch
+alone c = record { requests = asked c ∷ [] }
 
 abbrev ask : ℕ → Happening
 ask c = Appears (message.Request (asked c))

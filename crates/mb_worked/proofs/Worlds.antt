@@ -3,8 +3,8 @@ use Rattle.std.proofs.Common.{◌≡◌, ℕ, true, false, List, [], ◌∷◌, 
 use Rattle.std.specs.Prelude.{replicate, slice_get, take, filter_map, option_map, option_and_then, ◌==◌, if◌then◌else◌, unwrap_or}
 use Rattle.mb_base.specs.Shapes.{Bytes}
 use Rattle.mb_base.specs.declared.shape.Shape.{Shape}
-use Rattle.mb_parts.specs.declared.request.Request.{Request}
-use Rattle.mb_parts.specs.Bares.{request_digest}
+use Rattle.mb_parts.specs.declared.batch.Batch.{Batch}
+use Rattle.mb_parts.specs.Bares.{batch_digest}
 use Rattle.mb_parts.specs.declared.certificates.Evidence.{Evidence}
 use Rattle.mb_parts.specs.Certificates.{is_evidence}
 use Rattle.mb_parts.specs.Ordered.{initial_floor, is_ordered}
@@ -97,7 +97,7 @@ abbrev pub of_faulty_primary : List WorldEvent → System Bytes
 of_faulty_primary events = system_of (record { shape = one_client; secret = replicate 32 0; faulty_hosts = true ∷ false ∷ false ∷ []; faulty_clients = false ∷ []; events = events })
 
 abbrev change_of_view : System Bytes
-change_of_view = of_faulty_primary (Ask 0 operation ∷ StampPrepare 0 0 1 1 ∷ Give 2 1 ∷ Patience 1 ∷ Patience 2 ∷ Give 5 2 ∷ Give 6 1 ∷ Give 7 1 ∷ Give 3 2 ∷ Give 8 2 ∷ Give 9 2 ∷ Give 10 1 ∷ Give 11 1 ∷ Give 12 2 ∷ [])
+change_of_view = of_faulty_primary (Ask 0 operation ∷ StampPrepare 0 0 1 (1 ∷ []) ∷ Give 2 1 ∷ Patience 1 ∷ Patience 2 ∷ Give 5 2 ∷ Give 6 1 ∷ Give 7 1 ∷ Give 3 2 ∷ Give 8 2 ∷ Give 9 2 ∷ Give 10 1 ∷ Give 11 1 ∷ Give 12 2 ∷ [])
 
 change_of_view_told : told change_of_view 14 ≡ (1 ∷ 2 ∷ 3 ∷ 4 ∷ 6 ∷ 6 ∷ 7 ∷ 7 ∷ 8 ∷ 9 ∷ 10 ∷ 10 ∷ 4 ∷ []) ∷ (1 ∷ []) ∷ (0 ∷ 0 ∷ 0 ∷ 0 ∷ []) ∷ (1 ∷ 1 ∷ 0 ∷ 4 ∷ []) ∷ (1 ∷ 1 ∷ 0 ∷ 3 ∷ []) ∷ []
 unfolding worlds_on_literals
@@ -172,7 +172,7 @@ changes_usable : change_faults 1 ++ change_faults 2 ≡ None ∷ None ∷ []
 unfolding worlds_on_literals
 changes_usable = refl
 
--- The evidence that h2 holds of the next view was issued, and its plan has the request.
+-- The evidence that h2 holds of the next view was issued, and its plan has the batch.
 abbrev evidence : Option Evidence
 evidence = evidence_of (self_of change_of_view 2) (last_world.histories 2)
 
@@ -180,16 +180,18 @@ evidence_issued : option_map (is_evidence one_client (issued change_of_view.sche
 unfolding worlds_on_literals
 evidence_issued = refl
 
-evidence_plans : option_map (λ e. planned (plans change_of_view.schedule last_world e.plan) 1) evidence ≡ Some (Some (request_digest (request_of change_of_view.schedule 0 1 operation)))
+-- the batch of the one request
+abbrev batch : Batch
+batch = record { requests = request_of change_of_view.schedule 0 1 operation ∷ [] }
+
+evidence_plans : option_map (λ e. planned (plans change_of_view.schedule last_world e.plan) 1) evidence ≡ Some (Some (batch_digest batch))
 unfolding worlds_on_literals
 evidence_plans = refl
 
--- the request got votes of h0 and h1 in view 0 and, by the plan, of h1 and h2 in view 1: 1 for each that is the same request
-abbrev votes_for_request : ℕ → List ℕ
-votes_for_request view = map (λ h. if is_vote (vote_in (plans change_of_view.schedule last_world) (prefix change_of_view.schedule last_world h) view 1) (record { counter = if view == 0 then 1 else 3; request = request_digest request }) then 1 else 0) (0 ∷ 1 ∷ 2 ∷ []) where
-  request : Request
-  request = request_of change_of_view.schedule 0 1 operation
+-- the batch got votes of h0 and h1 in view 0 and, by the plan, of h1 and h2 in view 1: 1 for each that is the same batch
+abbrev votes_for_batch : ℕ → List ℕ
+votes_for_batch view = map (λ h. if is_vote (vote_in (plans change_of_view.schedule last_world) (prefix change_of_view.schedule last_world h) view 1) (record { counter = if view == 0 then 1 else 3; request = batch_digest batch }) then 1 else 0) (0 ∷ 1 ∷ 2 ∷ [])
 
-voted_in_both_views : map votes_for_request (0 ∷ 1 ∷ []) ≡ (1 ∷ 1 ∷ 0 ∷ []) ∷ (0 ∷ 1 ∷ 1 ∷ []) ∷ []
+voted_in_both_views : map votes_for_batch (0 ∷ 1 ∷ []) ≡ (1 ∷ 1 ∷ 0 ∷ []) ∷ (0 ∷ 1 ∷ 1 ∷ []) ∷ []
 unfolding worlds_on_literals
 voted_in_both_views = refl

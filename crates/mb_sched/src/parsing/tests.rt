@@ -3,7 +3,7 @@ use std::test::Fail;
 
 /// A right header, line by line.
 const HEADER: [&str; 6] = [
-    "minbft schedule 1",
+    "minbft schedule 2",
     "f 1",
     "k 4",
     "clients 1",
@@ -13,12 +13,12 @@ const HEADER: [&str; 6] = [
 
 /// One request, which the three hosts order and execute.
 const FIRST: &[u8; 175] =
-    b"minbft schedule 1\nf 1\nk 4\nclients 1\nsecret 0000000000000000000000000000000000000000000000000000000000000000\nfaulty\nask c0 010161000131\ngive 1 h0\ngive 2 h1\ngive 2 h2\ngive 3 h0\n";
+    b"minbft schedule 2\nf 1\nk 4\nclients 1\nsecret 0000000000000000000000000000000000000000000000000000000000000000\nfaulty\nask c0 010161000131\ngive 1 h0\ngive 2 h1\ngive 2 h2\ngive 3 h0\n";
 
 /// Header lines that are bad, under their numbers.
 const BAD_HEADER_LINES: [(usize, &str); 20] = [
-    (1, "minbft schedule 2"),
-    (1, "minbft schedule 1 "),
+    (1, "minbft schedule 1"),
+    (1, "minbft schedule 2 "),
     (2, "f 0"),
     (2, "f 4"),
     (2, "f 01"),
@@ -54,7 +54,7 @@ const GOOD_LINES: [&str; 4] = [
 ];
 
 /// Lines that are bad behind the header.
-const BAD_LINES: [&str; 24] = [
+const BAD_LINES: [&str; 28] = [
     "",
     "ask",
     "ask c1 00",
@@ -75,6 +75,10 @@ const BAD_LINES: [&str; 24] = [
     "tag h0 reply c0 1 9223372036854775808 00",
     "tag h0 wish 0",
     "stamp h0 prepare 0 0 1",
+    "stamp h0 prepare 0 1",
+    "stamp h0 prepare 0 1 ",
+    "stamp h0 prepare 0 1 1 01",
+    "stamp h0 prepare 0 1 1 2 3 4 5 6 7 8 9 10 11 12 13 14 15 16 17",
     "stamp h0 checkpoint 1 00",
     "stamp h0 change 0 0",
     "stamp h0 raw",
@@ -82,7 +86,7 @@ const BAD_LINES: [&str; 24] = [
 ];
 
 /// Event lines that are in the grammar and not built yet.
-const UNBUILT_LINES: [&str; 14] = [
+const UNBUILT_LINES: [&str; 16] = [
     "take 1 c0",
     "raw h0 00",
     "raw c0 -",
@@ -92,6 +96,8 @@ const UNBUILT_LINES: [&str; 14] = [
     "tag h0 reply c0 1 0 -",
     "tag h0 wish 9223372036854775807",
     "stamp h0 prepare 0 1 0",
+    "stamp h0 prepare 0 1 3 2",
+    "stamp h0 prepare 0 1 1 2 3 4 5 6 7 8 9 10 11 12 13 14 15 16",
     "stamp h0 commit 18446744073709551615",
     "stamp h0 checkpoint 1 00000000000000000000000000000000000000000000000000000000000000fF",
     "stamp h0 change 1 0",

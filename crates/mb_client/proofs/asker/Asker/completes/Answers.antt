@@ -10,7 +10,7 @@ pub returns : goal.returns
 returns c = λ s secret client a stands.
     let r = c.args.reply.now in
     let before = c.agreeing-counted.result in
-    let has = c.has.ensures a.replies stands.replies in
+    let has = c.has.ensures a.replies stands.replies ∙ ap (has_host a.replies) c.host.ensures in
     let more : c.if-has.matching ≡ (if has_host a.replies r.host then before else before + 1) = elim c.if-has.branch [
       | then-has w ↦ rw (sym has ∙ w.if-has.true) w.matching-is
       | else-has w ↦ rw (sym has ∙ w.if-has.false) w.matching-is
