@@ -1,5 +1,5 @@
 -- What a host represents after it accepted a message.
-use Rattle.std.proofs.Common.{◌≡◌, ◌≢◌, ℕ, ◌+◌, ◌<◌, ◌≤◌, Bool, true, false, ◌&&◌, List, ◌∷◌, length, set, Option, Some, None, refl, sym, ap, ◌∙◌, subst, eq-eqb, arith, slice_get, is_some, inl, inr}
+use Rattle.std.proofs.Common.{◌≡◌, ◌≢◌, ℕ, ◌+◌, ◌<◌, ◌≤◌, Bool, true, false, ◌&&◌, List, [], ◌∷◌, length, set, Option, Some, None, refl, sym, ap, ◌∙◌, subst, eq-eqb, arith, slice_get, is_some, inl, inr}
 use Rattle.std.proofs.lemmas.Bool.{cases_eq, ltb-false}
 use Rattle.std.proofs.lemmas.Option.{same_Some}
 use Rattle.mb_base.specs.Shapes.{client_count}
@@ -23,6 +23,7 @@ use Rattle.mb_model.specs.Built.{first_path}
 use Rattle.mb_model.specs.Histories.{Accepted, History, Identity, counter_of, gate}
 use Rattle.mb_model.specs.Execution.{pending}
 use Rattle.mb_model.specs.Sending.{Progress, note}
+use Rattle.mb_model.specs.CarriedOut.{just_served}
 use Rattle.mb_model.specs.GateChecks.{identifier_refusal}
 use Rattle.mb_model.specs.KindChecks.{stamped_refusal}
 use Rattle.mb_model.specs.Compared.{compared_in}
@@ -65,6 +66,10 @@ accepted_next self d m own passes =
 
 -- ---- one more accepted message
 
+none_served : (m : Message) (d : History) → just_served (Accepted m ∷ d) ≡ []
+unfolding just_served
+none_served m d = refl
+
 -- a PREPARE or a COMMIT of another host
 pub accepted_stamped : (self : Identity Pairs) (r r' : Replica) (d : History) (m : StampedMessage) → me r' ≡ me r → r'.usig ≡ r.usig → r'.last ≡ r.last → r'.exec ≡ r.exec → r'.pending ≡ r.pending → r'.replies ≡ r.replies → r'.store ≡ r.store
     → stamped_refusal self d m ≡ None → Represents self r d → RepresentsTables self r'.tables (Accepted (as_message m) ∷ d) → Represents self r' (Accepted (as_message m) ∷ d)
@@ -82,6 +87,7 @@ accepted_stamped self r r' d sm who usig last exec waiting replies store passes 
       waiting = λ c lt. ap (λ v. slice_get v.items c) waiting ∙ st.waiting c lt ∙ ap (λ (o : Option Request). Some o) (sym (pending_accepted m d self sm c refl));
       pairs = ap (λ s. s.pairs.items) store ∙ st.pairs ∙ ap (λ x. x.state) (sym (state_accepted m d self));
       replies = ap (λ v. v.items) replies ∙ st.replies ∙ ap (λ x. x.table) (sym (state_accepted m d self));
+      serving = none_served m d;
     }
 
 -- ---- a client's request
@@ -114,6 +120,7 @@ accepted_request self r r' d q at place len in_range who usig tables last exec w
       waiting = λ c lt. ap (λ l. slice_get l c) waiting ∙ at_client c lt;
       pairs = ap (λ s. s.pairs.items) store ∙ st.pairs ∙ ap (λ x. x.state) (sym (state_accepted m d self));
       replies = ap (λ v. v.items) replies ∙ st.replies ∙ ap (λ x. x.table) (sym (state_accepted m d self));
+      serving = none_served m d;
     }
   where
     at_client : (c : ℕ) → c < client_count self.shape → slice_get (set r.pending.items at (Some q)) c ≡ Some (pending self (Accepted (message.Request q) ∷ d) c)
@@ -148,7 +155,7 @@ module _ (r : Replica) (done : Done) (x : Progress) (o : Outcome) (st : StandsAt
   Refused m = (o ≡ (give_stamped (me r) m x).outcome) × StandsAt (me r) r done (give_stamped (me r) m x).left
 
   noted : (m : StampedMessage) → StandsAt (me r) r done (note (compared_in (me r) x.history m) x)
-  noted m = record { history = st.history; sent = st.sent; executed = st.executed }
+  noted m = record { history = st.history; sent = st.sent; executed = st.executed; installed = st.installed }
 
   pub prepare_refused : (m : Prepare) → Some o ≡ stamped_refusal (me r) x.history (stamped.Prepare m) → Refused (stamped.Prepare m)
   unfolding give_stamped

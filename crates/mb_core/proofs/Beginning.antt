@@ -10,6 +10,7 @@ use Rattle.mb_parts.specs.Ordered.{current_view, last_position}
 use Rattle.mb_model.specs.Histories.{Identity, stamped, origin, taken_of}
 use Rattle.mb_model.specs.Positions.{exec_of}
 use Rattle.mb_model.specs.Execution.{state_of, pending}
+use Rattle.mb_model.specs.CarriedOut.{just_served}
 use Rattle.mb_core.specs.declared.replica.Replica.{Replica}
 use Rattle.mb_core.specs.Sound.{RequestsFit, RepliesFit}
 use Rattle.mb_core.specs.Store.{Pairs, store_machine}
@@ -34,7 +35,7 @@ replies_fit-start replies n is = λ c a at.
 
 pub nothing_happened : (self : Identity Pairs) (r : Replica) → self.machine ≡ store_machine → self.initial ≡ [] → me r ≡ self → r.usig.counter ≡ 0 → r.last ≡ 0 → r.exec ≡ 0 → r.pending.items ≡ replicate (client_count self.shape) None → r.replies.items ≡ replicate (client_count self.shape) no_reply → r.store.pairs.items ≡ []
     → RepresentsTables self r.tables [] → Represents self r []
-unfolding stamped origin taken_of current_view last_position exec_of pending state_of
+unfolding stamped origin taken_of current_view last_position exec_of pending state_of just_served
 nothing_happened self r machine initial who counter last exec waiting replies pairs tables = record {
   who = who;
   counter = counter;
@@ -45,4 +46,5 @@ nothing_happened self r machine initial who counter last exec waiting replies pa
   waiting = λ c lt. ap (λ (l : List (Option Request)). slice_get l c) waiting ∙ slice_get-replicate (client_count self.shape) c None lt;
   pairs = pairs ∙ sym initial;
   replies = replies;
+  serving = refl;
 }

@@ -1,10 +1,12 @@
 -- The refusals by a counter, case by case.
-use Rattle.std.proofs.Common.{◌≡◌, ℕ, ◌+◌, ◌-◌, ◌^◌, ◌<◌, ◌≤◌, min, nat_lt, true, false, Option, Some, None, refl, arith}
+use Rattle.std.proofs.Common.{◌≡◌, ℕ, zero, suc, ◌+◌, ◌-◌, ◌^◌, ◌<◌, ◌≤◌, ◌&&◌, min, nat_lt, Bool, true, false, List, [], ◌∷◌, length, drop, slice_get, Option, Some, None, refl, sym, ap, ◌∙◌, arith, add-one}
+use Rattle.std.specs.List.{list_all}
+use Rattle.std.proofs.lemmas.Option.{same_Some, none-some}
 use Rattle.std.specs.Bool.{then_some}
 use Rattle.std.specs.Option.{option_or}
 use Rattle.std.proofs.lemmas.Bool.{le-leb, lt-leb, lt-ltb, le-ltb}
 use Rattle.mb_base.specs.Shapes.{Bytes, span}
-use Rattle.mb_parts.specs.declared.request.Request.{Request}
+use Rattle.mb_parts.specs.declared.batch.Batch.{Batch}
 use Rattle.mb_msg.specs.declared.message.Body.{Body}
 use Rattle.mb_msg.specs.declared.message.Body.TheVariants.{Bare as Short}
 use Rattle.mb_msg.specs.declared.event.Outcome.{Outcome}
@@ -17,6 +19,7 @@ use Rattle.mb_model.specs.KindChecks.{vote_refusal, body_refusal}
 use Rattle.mb_model.proofs.EarlyHistories.{early_view, early_low, early_closed}
 use Rattle.mb_core.specs.declared.replica.Replica.{Replica}
 use Rattle.mb_core.specs.Represents.{me, Represents}
+use Rattle.mb_core.proofs.FillLaws.{drop_all}
 
 -- why an identifier is refused, where its certificate verifies
 abbrev pub refusal : Replica → History → StampedMessage → Option Outcome
@@ -41,7 +44,7 @@ module _ (r : Replica) (d : History) (m : StampedMessage) (last next : ℕ) (st 
 
 -- ---- votes, by view and place
 
-module _ (r : Replica) (d : History) (st : Represents (me r) r d) (view pos : ℕ) (body : Body Request) where
+module _ (r : Replica) (d : History) (st : Represents (me r) r d) (view pos : ℕ) (body : Body Batch) where
   pub vote-later : 0 < view → Some (outcome.LaterView 0) ≡ vote_refusal (me r) d view pos body
   unfolding vote_refusal
   vote-later above = rw (early_view (me r) d st.tables.early, lt-ltb 0 view above) refl
@@ -60,3 +63,25 @@ module _ (r : Replica) (d : History) (st : Represents (me r) r d) (view pos : �
 
   pub bare-body : (digest : Bytes) → then_some (nat_lt r.exec pos) (outcome.NeedBody 0 r.exec) ≡ body_refusal (me r) d pos (Short digest)
   bare-body digest = rw (early_view (me r) d st.tables.early, st.exec) refl
+
+-- ---- all tags of a batch
+
+module _ {A : Type 0} (p : A → Bool) where
+  all-next : (l : List A) (i : ℕ) (x : A) → slice_get l i ≡ Some x → list_all p (drop i l) ≡ (p x && list_all p (drop (suc i) l))
+  all-next [] i x at = absurd (none-some x at)
+  all-next (y ∷ l) zero x at = ap (λ z. p z && list_all p l) (same_Some y x at)
+  all-next (y ∷ l) (suc i) x at = all-next l i x at
+
+  -- those from a place on are still to be looked at
+  abbrev pub AllFrom : List A → ℕ → Type 0
+  AllFrom l i = list_all p (drop i l) ≡ list_all p l
+
+  module _ (l : List A) (i : ℕ) (so_far : AllFrom l i) where
+    pub all_holds : (x : A) (b : Bool) → slice_get l i ≡ Some x → b ≡ p x → b ≡ true → AllFrom l (i + 1)
+    all_holds x b at is holds = rw (add-one i) (ap (λ t. t && list_all p (drop (suc i) l)) (sym holds ∙ is) ∙ sym (all-next l i x at) ∙ so_far)
+
+    pub all_fails : (x : A) (b : Bool) → slice_get l i ≡ Some x → b ≡ p x → b ≡ false → false ≡ list_all p l
+    all_fails x b at is fails = ap (λ t. t && list_all p (drop (suc i) l)) (sym fails ∙ is) ∙ sym (all-next l i x at) ∙ so_far
+
+    pub all_hold : length l ≤ i → true ≡ list_all p l
+    all_hold le = ap (list_all p) (sym (drop_all l i le)) ∙ so_far

@@ -5,6 +5,7 @@ use Rattle.std.proofs.lemmas.Bool.{ne_eqb, lt-ltb, le-leb}
 use Rattle.mb_base.specs.Shapes.{span}
 use Rattle.mb_parts.specs.declared.request.Request.{Request}
 use Rattle.mb_parts.specs.Ordered.{last_position}
+use Rattle.mb_msg.specs.declared.event.Placed.{Placed}
 use Rattle.mb_msg.specs.declared.event.Slot.{Slot}
 use Rattle.mb_msg.specs.declared.normal.Prepare.{Prepare}
 use Rattle.mb_msg.specs.declared.normal.Commit.{Commit}
@@ -13,11 +14,11 @@ use Rattle.mb_msg.specs.declared.message.Message.TheVariants as message
 use Rattle.mb_msg.specs.declared.stamped.Stamped.{Stamped as StampedMessage}
 use Rattle.mb_msg.specs.declared.stamped.Stamped.TheVariants as stamped_as
 use Rattle.mb_msg.specs.Stamps.{ui_of, as_stamped, as_message}
-use Rattle.mb_model.specs.Histories.{Entry, Accepted, Stamped, Executed, History, Identity, stamped, stamped_in, origin, taken_of, counter_of, gate, here}
+use Rattle.mb_model.specs.Histories.{Entry, Accepted, Stamped, Served, Executed, History, Identity, stamped, stamped_in, origin, taken_of, counter_of, gate, here}
 use Rattle.mb_model.specs.Positions.{exec_of, slot_in, vote_of, slot_by, vote_by, slot_of_prepare, vote_with}
 use Rattle.mb_model.specs.Execution.{state_of, pending}
 use Rattle.mb_model.proofs.EarlyHistories.{IsEarlyEntry, IsEarly, or_nothing, taken_here, taken_elsewhere, early_last, early_slot, early_vote}
-use Rattle.mb_core.specs.Represents.{Brings, position_at}
+use Rattle.mb_core.specs.Represents.{Holds, position_at}
 
 -- ---- a place of the window
 
@@ -33,7 +34,7 @@ module _ {S : Type 0} (self : Identity S) (e : Entry) (d : History) (early : IsE
 
 -- ---- a message that an entry brings
 
-module _ (own : ℕ) (e : Entry) (d : History) (m : StampedMessage) (brings : Brings own e m) where
+module _ (own : ℕ) (e : Entry) (d : History) (m : StampedMessage) (brings : Holds own e m) where
   message_again : (x : StampedMessage) → as_stamped (as_message x) ≡ Some x
   message_again (stamped_as.ViewChange x) = refl
   message_again (stamped_as.NewView x) = refl
@@ -62,7 +63,7 @@ module _ (own : ℕ) (e : Entry) (d : History) (m : StampedMessage) (brings : Br
   pub gate_elsewhere : (h : ℕ) → (ui_of m).host ≢ h → gate (e ∷ d) h ≡ gate d h
   gate_elsewhere h other = rw (same_origin h, taken_elsewhere e d m brought h other) refl
 
-module _ (own : ℕ) (e : Entry) (m : Prepare) (brings : Brings own e (stamped_as.Prepare m)) where
+module _ (own : ℕ) (e : Entry) (m : Prepare) (brings : Holds own e (stamped_as.Prepare m)) where
   pub prepare_early : IsEarlyEntry e
   prepare_early = elim brings [ inl accepted ↦ rw accepted tt | inr stamps ↦ rw stamps.0 tt ]
 
@@ -74,7 +75,7 @@ module _ (own : ℕ) (e : Entry) (m : Prepare) (brings : Brings own e (stamped_a
   pub prepare_vote : (h v p : ℕ) → vote_by own e h v p ≡ vote_with m.ui.host h v p m.view m.pos m.body m.ui.counter
   prepare_vote h v p = elim brings [ inl accepted ↦ rw accepted refl | inr stamps ↦ rw (stamps.0, ← stamps.1) refl ]
 
-module _ (own : ℕ) (e : Entry) (m : Commit) (brings : Brings own e (stamped_as.Commit m)) where
+module _ (own : ℕ) (e : Entry) (m : Commit) (brings : Holds own e (stamped_as.Commit m)) where
   pub commit_early : IsEarlyEntry e
   commit_early = elim brings [ inl accepted ↦ rw accepted tt | inr stamps ↦ rw stamps.0 tt ]
 
@@ -172,7 +173,30 @@ module _ {S : Type 0} (self : Identity S) (d : History) (early : IsEarly d) wher
   unfolding last_position
   last_commit m mine view = early_last (Stamped (stamped_as.Commit m) ∷ d) (tt, early) self.host ∙ rw (taken_here (Stamped (stamped_as.Commit m)) d (stamped_as.Commit m) refl self.host mine, view) refl
 
--- ---- one more executed request
+-- ---- one more served request
+
+module _ (pos : ℕ) (placed : Placed) (d : History) where
+  -- Nothing is stamped, no message came, and no position is executed.
+  pub counter_served : counter_of (Served pos placed ∷ d) ≡ counter_of d
+  unfolding stamped
+  counter_served = refl
+
+  pub gate_served : (h : ℕ) → gate (Served pos placed ∷ d) h ≡ gate d h
+  unfolding origin taken_of
+  gate_served h = refl
+
+  pub exec_served : exec_of (Served pos placed ∷ d) ≡ exec_of d
+  unfolding exec_of
+  exec_served = refl
+
+  module _ {S : Type 0} (self : Identity S) where
+    pub slot_served : (i : ℕ) → IsEarly d → i < span self.shape → slot_in self (Served pos placed ∷ d) 0 (position_at i) ≡ slot_in self d 0 (position_at i)
+    slot_served i early lt = slot_more self (Served pos placed) d (tt, early) i lt ∙ or_nothing _
+
+    pub vote_served : (i h : ℕ) → IsEarly d → i < span self.shape → vote_of self (Served pos placed ∷ d) h 0 (position_at i) ≡ vote_of self d h 0 (position_at i)
+    vote_served i h early lt = vote_more self (Served pos placed) d (tt, early) i lt h ∙ or_nothing _
+
+-- ---- one more executed batch
 
 module _ (slot : Slot) (d : History) where
   -- Nothing is stamped, and no message came.
@@ -189,6 +213,15 @@ module _ (slot : Slot) (d : History) where
   exec_executed = refl
 
   module _ {S : Type 0} (self : Identity S) where
+    -- The state is that behind its last request, and the same requests wait.
+    pub state_executed : state_of self (Executed slot ∷ d) ≡ state_of self d
+    unfolding state_of
+    state_executed = refl
+
+    pub pending_executed : (c : ℕ) → pending self (Executed slot ∷ d) c ≡ pending self d c
+    unfolding pending
+    pending_executed c = refl
+
     pub slot_executed : (i : ℕ) → IsEarly d → i < span self.shape → slot_in self (Executed slot ∷ d) 0 (position_at i) ≡ slot_in self d 0 (position_at i)
     slot_executed i early lt = slot_more self (Executed slot) d (tt, early) i lt ∙ or_nothing _
 

@@ -4,6 +4,7 @@ pub mod Beginning
 pub mod CheckLaws
 pub mod ExecutedEntry
 pub mod RuleLaws
+pub mod FillLaws
 pub mod RuleLoop
 pub mod ServedTables
 pub mod StampedEntry

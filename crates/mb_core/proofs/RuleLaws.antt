@@ -6,22 +6,21 @@ use Rattle.std.specs.Ordering.{ord_max, nat_cmp}
 use Rattle.std.proofs.lemmas.Grind.{common_steps}
 use Rattle.std.proofs.lemmas.Bool.{lt-ltb, le-ltb, le-leb}
 use Rattle.std.proofs.lemmas.Option.{same_Some}
-use Rattle.mb_base.specs.Shapes.{client_count, interval, primary, span}
-use Rattle.mb_parts.specs.declared.request.Request.{Request}
+use Rattle.mb_base.specs.Shapes.{interval, primary, span}
+use Rattle.mb_parts.specs.declared.batch.Batch.{Batch}
 use Rattle.mb_msg.specs.declared.message.Body.{Body}
 use Rattle.mb_msg.specs.declared.message.Body.TheVariants.{Whole, Bare as Short}
 use Rattle.mb_msg.specs.declared.normal.Prepare.{Prepare}
 use Rattle.mb_msg.specs.declared.message.Message.TheVariants as message
 use Rattle.mb_msg.specs.declared.stamped.Stamped.TheVariants as stamped
-use Rattle.mb_parts.specs.Spelling.{request_bytes}
-use Rattle.mb_parts.specs.Bares.{request_digest}
-use Rattle.mb_msg.specs.Bodies.{body_digest}
+use Rattle.mb_parts.specs.Spelling.{batch_bytes}
+use Rattle.mb_parts.specs.Bares.{batch_digest}
+use Rattle.mb_msg.specs.Bodies.{body_digest, whole_body}
 use Rattle.mb_model.specs.declared.known.KnownSlot.{KnownSlot}
-use Rattle.mb_model.specs.Histories.{Entry, Accepted, Stamped, Executed, History, Identity, counter_of, view_of, is_open, is_primary}
+use Rattle.mb_model.specs.Histories.{Entry, Accepted, Stamped, Served, Executed, History, Identity, counter_of, view_of, here, is_open, is_primary}
 use Rattle.mb_model.specs.Positions.{exec_of, counts_at, if_counts_at, slot_by, slot_of_prepare, slot_in, slot_at, in_window}
-use Rattle.mb_model.specs.Execution.{if_above, pending}
-use Rattle.mb_model.specs.Held.{whole_body}
-use Rattle.mb_model.specs.EnabledRules.{Commit, Execute, Prepare as Order, rule_where, next_position, with_request, commit_enabled, is_committed, if_committed, execute_enabled, unordered, number_of, greatest, greatest_in_slots, window, prepare_enabled}
+use Rattle.mb_model.specs.Batches.{first_batch}
+use Rattle.mb_model.specs.EnabledRules.{Commit, Execute, Prepare as Order, rule_where, next_position, with_batch, commit_enabled, is_committed, if_committed, execute_enabled, unordered, greatest, greatest_in, greatest_in_slots, window, ahead_limit, may_order, prepare_enabled}
 use Rattle.mb_model.specs.OwnLog.{is_unspent, has_room}
 use Rattle.mb_model.specs.Stable.{low_of}
 use Rattle.mb_model.proofs.EarlyHistories.{shape_fits, IsEarlyEntry, IsEarly, early_view, early_open, early_low, early_window, early_room}
@@ -69,27 +68,28 @@ cond-some : {A : Type 0} (b : Bool) (o : Option A) (k : A) → cond b o None ≡
 cond-some true o k e = e
 cond-some false o k e = absurd cc
 
-whole-digest : (body : Body Request) (r : Request) → whole_body body ≡ Some r → body_digest request_bytes body ≡ request_digest r
-whole-digest (Whole q) r e = let same : q ≡ r = cc in ap request_digest same
+whole-digest : (body : Body Batch) (r : Batch) → whole_body body ≡ Some r → body_digest batch_bytes body ≡ batch_digest r
+whole-digest (Whole q) r e = let same : q ≡ r = cc in ap batch_digest same
 whole-digest (Short digest) r e = absurd cc
 
-prepare-digest : (m : Prepare) (v p : ℕ) (k : KnownSlot) (r : Request) → slot_of_prepare m v p ≡ Some k → k.request ≡ Some r → k.digest ≡ request_digest r
+prepare-digest : (m : Prepare) (v p : ℕ) (k : KnownSlot) (r : Batch) → slot_of_prepare m v p ≡ Some k → k.batch ≡ Some r → k.digest ≡ batch_digest r
 prepare-digest m v p k r e whole =
-    let made : KnownSlot = record { counter = m.ui.counter; cert = m.ui.cert; digest = body_digest request_bytes m.body; request = whole_body m.body } in
+    let made : KnownSlot = record { counter = m.ui.counter; cert = m.ui.cert; digest = body_digest batch_bytes m.body; batch = whole_body m.body } in
     let same : made ≡ k = cc (cond-some _ (Some made) k e) in
-    sym (ap (λ (x : KnownSlot). x.digest) same) ∙ whole-digest m.body r (ap (λ (x : KnownSlot). x.request) same ∙ whole)
+    sym (ap (λ (x : KnownSlot). x.digest) same) ∙ whole-digest m.body r (ap (λ (x : KnownSlot). x.batch) same ∙ whole)
 
-entry-digest : (e : Entry) → IsEarlyEntry e → (v p : ℕ) (k : KnownSlot) (r : Request) → slot_by e v p ≡ Some k → k.request ≡ Some r → k.digest ≡ request_digest r
+entry-digest : (e : Entry) → IsEarlyEntry e → (v p : ℕ) (k : KnownSlot) (r : Batch) → slot_by e v p ≡ Some k → k.batch ≡ Some r → k.digest ≡ batch_digest r
 entry-digest (Accepted (message.Prepare m)) early v p k r e whole = prepare-digest m v p k r e whole
 entry-digest (Stamped (stamped.Prepare m)) early v p k r e whole = prepare-digest m v p k r e whole
 entry-digest (Accepted (message.Request q)) early v p k r e whole = absurd cc
 entry-digest (Accepted (message.Commit m)) early v p k r e whole = absurd cc
 entry-digest (Stamped (stamped.Commit m)) early v p k r e whole = absurd cc
+entry-digest (Served pos placed) early v p k r e whole = absurd cc
 entry-digest (Executed slot) early v p k r e whole = absurd cc
 entry-digest e early v p k r is whole = absurd early
 
 module _ {S : Type 0} (self : Identity S) where
-  slot_in-digest : (d : History) → IsEarly d → (p : ℕ) (k : KnownSlot) (r : Request) → slot_in self d 0 p ≡ Some k → k.request ≡ Some r → k.digest ≡ request_digest r
+  slot_in-digest : (d : History) → IsEarly d → (p : ℕ) (k : KnownSlot) (r : Batch) → slot_in self d 0 p ≡ Some k → k.batch ≡ Some r → k.digest ≡ batch_digest r
   unfolding slot_in
   slot_in-digest [] early p k r e whole = absurd cc
   slot_in-digest (x ∷ d) early p k r e whole =
@@ -98,8 +98,8 @@ module _ {S : Type 0} (self : Identity S) where
         | inr now ↦ entry-digest x early.0 0 p k r (cond-some (counts_at self (x ∷ d) 0 p) (slot_by x 0 p) k now) whole
       ]
 
-  -- the digest that is kept with a request is its own
-  pub slot_at-digest : (d : History) → IsEarly d → (p : ℕ) (k : KnownSlot) (r : Request) → slot_at self d p ≡ Some k → k.request ≡ Some r → k.digest ≡ request_digest r
+  -- the digest that is kept with a batch is its own
+  pub slot_at-digest : (d : History) → IsEarly d → (p : ℕ) (k : KnownSlot) (r : Batch) → slot_at self d p ≡ Some k → k.batch ≡ Some r → k.digest ≡ batch_digest r
   slot_at-digest d early p k r e whole =
       slot_in-digest d early p k r (subst (λ (v : ℕ). slot_in self d v p ≡ Some k) (early_view self d early) (cond-some (in_window self d p) (slot_in self d (view_of self d) p) k e)) whole
 
@@ -124,23 +124,23 @@ pub commit-barred : (r : Replica) (d : History) (may : Bool) → Represents (me 
 unfolding commit_enabled
 commit-barred r d may st fails is = rw (early_open (me r) d st.tables.early, ← is, fails) refl
 
--- a backup commits the slot behind its last vote, where it has a request
+-- a backup commits the slot behind its last vote, where it has a batch
 pub commit-open : (r : Replica) (d : History) (may : Bool) (o : Option KnownSlot) → Represents (me r) r d → may ≡ true → may ≡ (not (is_primary (me r) d) && has_room (me r) d)
-    → o ≡ slot_at (me r) d (r.last + 1) → commit_enabled (me r) d ≡ with_request (Commit (r.last + 1)) o
+    → o ≡ slot_at (me r) d (r.last + 1) → commit_enabled (me r) d ≡ with_batch (Commit (r.last + 1)) o
 unfolding commit_enabled
 commit-open r d may o st holds is slot = rw (early_open (me r) d st.tables.early, ← is, holds, slot, st.last) refl
 
 -- it has none
-pub commit-without : (r : Replica) (d : History) (p : ℕ) (k : KnownSlot) → commit_enabled (me r) d ≡ with_request (Commit p) (Some k) → k.request ≡ None → commit_enabled (me r) d ≡ None
+pub commit-without : (r : Replica) (d : History) (p : ℕ) (k : KnownSlot) → commit_enabled (me r) d ≡ with_batch (Commit p) (Some k) → k.batch ≡ None → commit_enabled (me r) d ≡ None
 commit-without r d p k enabled e = enabled ∙ ap (option_map (Commit p k)) e
 
 -- it has one, of which this is a copy
-pub commit-named : (r : Replica) (d : History) → Represents (me r) r d → (p : ℕ) (k : KnownSlot) (q copy : Request) → commit_enabled (me r) d ≡ with_request (Commit p) (Some k) → Some k ≡ slot_at (me r) d p
-    → k.request ≡ Some q → copy ≡ q → Names (Some (due.Commit (record { pos = p; counter = k.counter; cert = k.cert; digest = k.digest; request = copy }))) (commit_enabled (me r) d)
+pub commit-named : (r : Replica) (d : History) → Represents (me r) r d → (p : ℕ) (k : KnownSlot) (q copy : Batch) → commit_enabled (me r) d ≡ with_batch (Commit p) (Some k) → Some k ≡ slot_at (me r) d p
+    → k.batch ≡ Some q → copy ≡ q → Names (Some (due.Commit (record { pos = p; counter = k.counter; cert = k.cert; digest = k.digest; batch = copy }))) (commit_enabled (me r) d)
 commit-named r d st p k q copy enabled slot whole same =
-    let request : k.request ≡ Some copy = whole ∙ ap (λ x. Some x) (sym same) in
-    let named : with_request (Commit p) (Some k) ≡ Some (Commit p k copy) = ap (option_map (Commit p k)) request in
-    let kept : k ≡ record { counter = k.counter; cert = k.cert; digest = k.digest; request = Some copy } = ap (λ x. record { counter = k.counter; cert = k.cert; digest = k.digest; request = x }) request in
+    let request : k.batch ≡ Some copy = whole ∙ ap (λ x. Some x) (sym same) in
+    let named : with_batch (Commit p) (Some k) ≡ Some (Commit p k copy) = ap (option_map (Commit p k)) request in
+    let kept : k ≡ record { counter = k.counter; cert = k.cert; digest = k.digest; batch = Some copy } = ap (λ x. record { counter = k.counter; cert = k.cert; digest = k.digest; batch = x }) request in
     (enabled ∙ (named ∙ ap (λ x. Some (Commit p x copy)) kept), slot_at-digest (me r) d st.tables.early p k copy (sym slot) request)
 
 -- ---- executions
@@ -157,10 +157,10 @@ module _ (r : Replica) (d : History) (p : ℕ) (k : KnownSlot) (b : Bool) (enabl
   pub execute-barred : b ≡ false → execute_enabled (me r) d ≡ None
   execute-barred fails = enabled ∙ rw (← is, fails) refl
 
-  pub execute-without : b ≡ true → k.request ≡ None → execute_enabled (me r) d ≡ None
+  pub execute-without : b ≡ true → k.batch ≡ None → execute_enabled (me r) d ≡ None
   execute-without holds whole = enabled ∙ rw (← is, holds) (ap (option_map (Execute p)) whole)
 
-  pub execute-named : (q copy : Request) → b ≡ true → k.request ≡ Some q → copy ≡ q → execute_enabled (me r) d ≡ Some (Execute p copy)
+  pub execute-named : (q copy : Batch) → b ≡ true → k.batch ≡ Some q → copy ≡ q → execute_enabled (me r) d ≡ Some (Execute p copy)
   execute-named q copy holds whole same = enabled ∙ rw (← is, holds) (ap (option_map (Execute p)) (whole ∙ ap (λ x. Some x) (sym same)))
 
 -- two tests of equal numbers
@@ -169,44 +169,45 @@ leb-same a b x y e f = cc
 
 -- ---- PREPARE
 
-module _ (r : Replica) (d : History) (limit : ℕ) (st : Represents (me r) r d) (is : limit ≡ 0 + span r.shape) where
+module _ (r : Replica) (d : History) (st : Represents (me r) r d) where
+  -- It may go so far ahead.
+  abbrev pub goes_ahead : Bool
+  goes_ahead = nat_lt (here (me r) d).last (exec_of d + ahead_limit) && has_room (me r) d
+
   -- the next position is in the window
-  pub order-then : (room : Bool) → r.last < limit → room ≡ has_room (me r) d → room ≡ (in_window (me r) d (next_position (me r) d) && has_room (me r) d)
-  order-then room below room_is =
+  pub order-then : (limit : ℕ) (ahead : Bool) → limit ≡ 0 + span r.shape → r.last < limit → ahead ≡ goes_ahead → ahead ≡ (in_window (me r) d (next_position (me r) d) && goes_ahead)
+  order-then limit ahead is below ahead_is =
       let last = st.last in
       let p : ℕ = next_position (me r) d in
       let inside : in_window (me r) d p ≡ true = early_window (me r) d st.tables.early p ∙ within_is p (span r.shape) (omega arith) (omega (arith, last, below, is)) in
-      room_is ∙ ap (λ b. b && has_room (me r) d) (sym inside)
+      ahead_is ∙ ap (λ b. b && goes_ahead) (sym inside)
 
   -- it is not
-  pub order-else : limit ≤ r.last → ltb r.last limit ≡ (in_window (me r) d (next_position (me r) d) && has_room (me r) d)
-  order-else beyond =
+  pub order-else : (limit : ℕ) → limit ≡ 0 + span r.shape → limit ≤ r.last → ltb r.last limit ≡ (in_window (me r) d (next_position (me r) d) && goes_ahead)
+  order-else limit is beyond =
       let last = st.last in
       let p : ℕ = next_position (me r) d in
       let outside : in_window (me r) d p ≡ false = early_window (me r) d st.tables.early p ∙ not_within p (span r.shape) (λ inside. let le : p ≤ 0 + span r.shape = inside.1 in omega (arith, last, beyond, is, le)) in
-      le-ltb r.last limit beyond ∙ ap (λ b. b && has_room (me r) d) (sym outside)
+      le-ltb r.last limit beyond ∙ ap (λ b. b && goes_ahead) (sym outside)
 
--- a host may order a request
-abbrev pub may_order : Replica → History → Bool
-may_order r d = is_primary (me r) d && (in_window (me r) d (next_position (me r) d) && has_room (me r) d)
+-- a host may order a batch in its view, which is open
+abbrev pub can_order : Replica → History → Bool
+can_order r d = is_primary (me r) d && (in_window (me r) d (next_position (me r) d) && (nat_lt (here (me r) d).last (exec_of d + ahead_limit) && has_room (me r) d))
 
-pub prepare-barred : (r : Replica) (d : History) (may : Bool) → Represents (me r) r d → may ≡ false → may ≡ may_order r d → prepare_enabled (me r) d ≡ None
+order_open : (r : Replica) (d : History) → Represents (me r) r d → may_order (me r) d ≡ can_order r d
+order_open r d st = ap (λ b. b && can_order r d) (early_open (me r) d st.tables.early)
+
+pub prepare-barred : (r : Replica) (d : History) (may : Bool) → Represents (me r) r d → may ≡ false → may ≡ can_order r d → prepare_enabled (me r) d ≡ None
 unfolding prepare_enabled
-prepare-barred r d may st fails is =
-    let barred : (is_open (me r) d && may_order r d) ≡ false = ap (λ b. b && may_order r d) (early_open (me r) d st.tables.early) ∙ sym is ∙ fails in
-    ap (λ (b : Bool). rule_where b (option_map (Order (next_position (me r) d)) (unordered (me r) d (range_with_len 0 (client_count r.shape))))) barred
+prepare-barred r d may st fails is = ap (λ (b : Bool). rule_where b (option_map (Order (next_position (me r) d)) (first_batch (unordered (me r) d)))) (order_open r d st ∙ sym is ∙ fails)
 
--- the primary orders the first request that is not ordered yet
-pub prepare-open : (r : Replica) (d : History) (may : Bool) (o : Option Request) → Represents (me r) r d → may ≡ true → may ≡ may_order r d
-    → o ≡ unordered (me r) d (range_with_len 0 (client_count r.shape)) → prepare_enabled (me r) d ≡ option_map (Order (r.last + 1)) o
+-- the primary orders the batch of the requests that are not ordered yet
+pub prepare-open : (r : Replica) (d : History) (may : Bool) (o : Option Batch) → Represents (me r) r d → may ≡ true → may ≡ can_order r d
+    → o ≡ first_batch (unordered (me r) d) → prepare_enabled (me r) d ≡ option_map (Order (r.last + 1)) o
 unfolding prepare_enabled
 prepare-open r d may o st holds is first =
-    let allowed : (is_open (me r) d && may_order r d) ≡ true = ap (λ b. b && may_order r d) (early_open (me r) d st.tables.early) ∙ sym is ∙ holds in
-    ap (λ (b : Bool). rule_where b (option_map (Order (next_position (me r) d)) (unordered (me r) d (range_with_len 0 (client_count r.shape))))) allowed
-    ∙ ap (λ (q : Option Request). option_map (Order (next_position (me r) d)) q) (sym first) ∙ ap (λ (n : ℕ). option_map (Order (n + 1)) o) (sym st.last)
-
-pub prepare-named : (r : Replica) (d : History) (p : ℕ) (q copy : Request) → prepare_enabled (me r) d ≡ Some (Order p q) → copy ≡ q → prepare_enabled (me r) d ≡ Some (Order p copy)
-prepare-named r d p q copy enabled same = enabled ∙ ap (λ x. Some (Order p x)) (sym same)
+    ap (λ (b : Bool). rule_where b (option_map (Order (next_position (me r) d)) (first_batch (unordered (me r) d)))) (order_open r d st ∙ sym is ∙ holds)
+    ∙ ap (λ (q : Option Batch). option_map (Order (next_position (me r) d)) q) (sym first) ∙ ap (λ (n : ℕ). option_map (Order (n + 1)) o) (sym st.last)
 
 -- ---- the greatest number of a client among the slots
 
@@ -225,7 +226,7 @@ greatest-none r c d st =
     let same : greatest_in_slots (me r) d c (range_with_len (0 + 0 + 1) (span r.shape)) ≡ greatest_in_slots (me r) d c (window (me r) d) = ap (greatest_in_slots (me r) d c) from in
     rw all (omega (arith, same))
 
-pub greatest-more : (r : Replica) (c i greatest n more : ℕ) (o : Option KnownSlot) → i < span r.shape → slice_get r.tables.slots.items i ≡ Some o → n ≡ number_of c (option_and_then (λ k. k.request) o)
+pub greatest-more : (r : Replica) (c i greatest n more : ℕ) (o : Option KnownSlot) → i < span r.shape → slice_get r.tables.slots.items i ≡ Some o → n ≡ greatest_in c (option_and_then (λ k. k.batch) o)
     → more ≡ max greatest n → GreatestSoFar r c i greatest → GreatestSoFar r c (i + 1) more
 unfolding greatest_in_slots greatest
 greatest-more r c i greatest n more o lt there is step so_far d st =
@@ -235,7 +236,7 @@ greatest-more r c i greatest n more o lt there is step so_far d st =
     let inside : i < span r.shape = lt in
     let slot : o ≡ slot_at (me r) d (0 + i + 1) =
     same_Some o (slot_in (me r) d 0 (0 + i + 1)) (sym there ∙ st.tables.slots i inside) ∙ sym (slot_within (me r) r.tables d st.tables 0 (0 + i + 1) (omega arith) (omega (arith, lt, same_span))) in
-    let number : n ≡ number_of c (option_and_then (λ k. k.request) (slot_at (me r) d (0 + i + 1))) = is ∙ ap (λ x. number_of c (option_and_then (λ k. k.request) x)) slot in
+    let number : n ≡ greatest_in c (option_and_then (λ k. k.batch) (slot_at (me r) d (0 + i + 1))) = is ∙ ap (λ x. greatest_in c (option_and_then (λ k. k.batch) x)) slot in
     let before : max greatest (greatest_in_slots (me r) d c ((0 + i + 1) ∷ range_with_len (0 + (i + 1) + 1) (span r.shape - (i + 1)))) ≡ greatest_in_slots (me r) d c (window (me r) d) =
     ap (λ l. max greatest (greatest_in_slots (me r) d c l)) (sym next) ∙ so_far d st in
     let joined : max more rest ≡ max greatest (max n rest) = omega (arith, step) in
@@ -246,49 +247,4 @@ unfolding greatest_in_slots greatest
 greatest-all r c i greatest le so_far d st =
     let none : span r.shape - i ≡ 0 = omega arith in
     let nothing : max greatest (greatest_in_slots (me r) d c (range_with_len (0 + i + 1) (span r.shape - i))) ≡ greatest = rw none (omega arith) in
-    sym nothing ∙ so_far d st
-
--- ---- the first request that is not ordered yet
-
--- what a client has to be ordered
-abbrev pub unordered_of : Replica → History → ℕ → Option Request
-unordered_of r d c = if_above (greatest_in_slots (me r) d c (window (me r) d)) (pending (me r) d c)
-
--- the clients from one on are still to be looked at
-abbrev pub UnorderedSoFar : Replica → ℕ → Type 0
-UnorderedSoFar r i = (d : History) → Represents (me r) r d → unordered (me r) d (range_with_len i (client_count r.shape - i)) ≡ unordered (me r) d (range_with_len 0 (client_count r.shape))
-
-pub unordered-none : (r : Replica) → UnorderedSoFar r 0
-unordered-none r d st =
-    let all : client_count r.shape - 0 ≡ client_count r.shape = omega arith in
-    rw all refl
-
--- the next client is the first of them
-pub unordered-next : (r : Replica) (d : History) (i : ℕ) → i < client_count r.shape
-    → unordered (me r) d (range_with_len i (client_count r.shape - i)) ≡ option_or (unordered_of r d i) (unordered (me r) d (range_with_len (i + 1) (client_count r.shape - (i + 1))))
-unfolding unordered
-unordered-next r d i lt =
-    let left : client_count r.shape - i ≡ suc (client_count r.shape - (i + 1)) = omega arith in
-    rw left refl
-
--- it has none
-pub unordered-more : (r : Replica) (i : ℕ) → i < client_count r.shape → ((d : History) → Represents (me r) r d → None ≡ unordered_of r d i) → UnorderedSoFar r i → UnorderedSoFar r (i + 1)
-unordered-more r i lt nothing so_far d st =
-    let next = unordered-next r d i lt in
-    let rest = unordered (me r) d (range_with_len (i + 1) (client_count r.shape - (i + 1))) in
-    ap (λ o. option_or o rest) (nothing d st) ∙ (sym next ∙ so_far d st)
-
--- it has one
-pub unordered-found : (r : Replica) (d : History) (i : ℕ) (q : Request) → Represents (me r) r d → i < client_count r.shape → Some q ≡ unordered_of r d i → UnorderedSoFar r i
-    → Some q ≡ unordered (me r) d (range_with_len 0 (client_count r.shape))
-unordered-found r d i q st lt found so_far =
-    let next = unordered-next r d i lt in
-    let rest = unordered (me r) d (range_with_len (i + 1) (client_count r.shape - (i + 1))) in
-    ap (λ o. option_or o rest) found ∙ (sym next ∙ so_far d st)
-
-pub unordered-all : (r : Replica) (d : History) (i : ℕ) → Represents (me r) r d → client_count r.shape ≤ i → UnorderedSoFar r i → None ≡ unordered (me r) d (range_with_len 0 (client_count r.shape))
-unfolding unordered
-unordered-all r d i st le so_far =
-    let left : client_count r.shape - i ≡ 0 = omega arith in
-    let nothing : unordered (me r) d (range_with_len i (client_count r.shape - i)) ≡ None = rw left refl in
     sym nothing ∙ so_far d st

@@ -1,5 +1,5 @@
 -- How a step goes on behind a given message of a built kind: the rules follow what was taken, and nothing is fetched.
-use Rattle.std.proofs.Common.{◌≡◌, Bool, true, false, [], refl, sym, ap, subst, ◌∙◌}
+use Rattle.std.proofs.Common.{◌≡◌, Bool, true, false, [], None, refl, sym, ap, subst, ◌∙◌}
 use Rattle.mb_msg.specs.declared.event.Outcome.{Outcome}
 use Rattle.mb_msg.specs.declared.event.Outcome.TheVariants as outcome
 use Rattle.mb_msg.specs.declared.event.Step.{Step}
@@ -52,12 +52,12 @@ Gives old mid before after m o = (x : Progress) → StandsAt (me old) old before
 module _ (old mid : Replica) (before after : Done) (m : Message) (d : History) (o : Outcome) (built : first_path.kinds (kind_of m) ≡ true) (st : Represents (me old) old d) (none : before ≡ record { sent = []; executed = [] })
     (gives : Gives old mid before after m o) where
   at_start : StandsAt (me old) old before (begin d)
-  at_start = record { history = st; sent = ap (λ (b : Done). b.sent) none; executed = ap (λ (b : Done). b.executed) none }
+  at_start = record { history = st; sent = ap (λ (b : Done). b.sent) none; executed = ap (λ (b : Done). b.executed) none; installed = refl }
 
   -- The rules followed.
   pub step_taken : (new : Replica) (ended : Done) (step : Step) → me mid ≡ me old → o ≡ outcome.Took
       → ((x : Progress) → StandsAt (me mid) mid after x → StandsAt (me mid) new ended (run_rules (me mid) enough x))
-      → step ≡ record { outcome = outcome.Took; sent = ended.sent; executed = ended.executed }
+      → step ≡ record { outcome = outcome.Took; sent = ended.sent; executed = ended.executed; adopted = None }
       → IsStep step (after_message (me old) m d (give (me old) m (begin d))) × Represents (me old) new (after_message (me old) m d (give (me old) m (begin d))).left.history
   step_taken new ended step kept took runs is =
       let a : Answer = give (me old) m (begin d) in
@@ -66,14 +66,14 @@ module _ (old mid : Replica) (before after : Done) (m : Message) (d : History) (
       subst (λ (s : Identity Pairs). StandsAt s mid after a.left → StandsAt s new ended (run_rules s enough a.left)) kept (runs a.left) given.1 in
       let whole : after_message (me old) m d a ≡ answer outcome.Took (run_rules (me old) enough a.left) = taken_goes_on (me old) m d a built (sym given.0 ∙ took) stands.history.tables.early in
       subst (λ (z : Answer). IsStep step z × Represents (me old) new z.left.history) (sym whole)
-      (record { outcome = ap (λ (s : Step). s.outcome) is; sent = ap (λ (s : Step). s.sent) is ∙ stands.sent; executed = ap (λ (s : Step). s.executed) is ∙ stands.executed }, stands.history)
+      (record { outcome = ap (λ (s : Step). s.outcome) is; sent = ap (λ (s : Step). s.sent) is ∙ stands.sent; executed = ap (λ (s : Step). s.executed) is ∙ stands.executed; adopted = ap (λ (s : Step). s.adopted) is ∙ sym stands.installed }, stands.history)
 
   -- It ended there.
-  pub step_ended : (step : Step) → (o ≡ outcome.Took → ⊥) → step ≡ record { outcome = o; sent = after.sent; executed = after.executed }
+  pub step_ended : (step : Step) → (o ≡ outcome.Took → ⊥) → step ≡ record { outcome = o; sent = after.sent; executed = after.executed; adopted = None }
       → IsStep step (after_message (me old) m d (give (me old) m (begin d))) × Represents (me old) mid (after_message (me old) m d (give (me old) m (begin d))).left.history
   step_ended step other is =
       let a : Answer = give (me old) m (begin d) in
       let given = gives (begin d) at_start in
       let whole : after_message (me old) m d a ≡ a = other_ends (me old) m d a built (λ took. other (given.0 ∙ took)) in
       subst (λ (z : Answer). IsStep step z × Represents (me old) mid z.left.history) (sym whole)
-      (record { outcome = ap (λ (s : Step). s.outcome) is ∙ given.0; sent = ap (λ (s : Step). s.sent) is ∙ given.1.sent; executed = ap (λ (s : Step). s.executed) is ∙ given.1.executed }, given.1.history)
+      (record { outcome = ap (λ (s : Step). s.outcome) is ∙ given.0; sent = ap (λ (s : Step). s.sent) is ∙ given.1.sent; executed = ap (λ (s : Step). s.executed) is ∙ given.1.executed; adopted = ap (λ (s : Step). s.adopted) is ∙ sym given.1.installed }, given.1.history)

@@ -11,21 +11,20 @@ use Rattle.mb_base.specs.declared.names.Ui.{Ui}
 use Rattle.mb_msg.specs.declared.message.Body.{Body}
 use Rattle.mb_msg.specs.declared.normal.Prepare.{Prepare}
 use Rattle.mb_msg.specs.declared.stamped.Stamped.{Stamped as StampedMessage}
-use Rattle.mb_parts.specs.Spelling.{request_bytes}
-use Rattle.mb_msg.specs.Bodies.{body_digest}
+use Rattle.mb_parts.specs.Spelling.{batch_bytes}
+use Rattle.mb_msg.specs.Bodies.{body_digest, whole_body}
 use Rattle.mb_msg.specs.Stamps.{ui_of}
 use Rattle.mb_model.specs.Histories.{Entry, History, Identity, origin, taken_of, gate}
-use Rattle.mb_model.specs.Positions.{counts_at, slot_at, slot_in, vote_of, slot_by, vote_by, slot_of_prepare, vote_with, matching}
-use Rattle.mb_model.specs.Held.{whole_body}
+use Rattle.mb_model.specs.Positions.{counts_at, in_window, slot_at, slot_in, vote_of, slot_by, vote_by, slot_of_prepare, vote_with, vote_at, matching}
 use Rattle.mb_model.specs.Votes.{is_vote}
 use Rattle.mb_model.specs.declared.known.KnownSlot.{KnownSlot}
 use Rattle.mb_model.specs.declared.known.Vote.{Vote}
-use Rattle.mb_parts.specs.declared.request.Request.{Request}
+use Rattle.mb_parts.specs.declared.batch.Batch.{Batch}
 use Rattle.mb_core.specs.Sound.{SlotFits, SlotsFit}
 use Rattle.mb_core.specs.declared.tables.Tables.{Tables}
 use Rattle.mb_core.specs.Store.{Pairs}
-use Rattle.mb_model.proofs.EarlyHistories.{IsEarlyEntry, IsEarly, early_view, early_window, early_counts, early_vote}
-use Rattle.mb_core.specs.Represents.{RepresentsTables, Brings, kept_vote}
+use Rattle.mb_model.proofs.EarlyHistories.{IsEarlyEntry, early_view, early_window, early_counts}
+use Rattle.mb_core.specs.Represents.{RepresentsTables, Holds, kept_vote}
 use Rattle.mb_core.proofs.EntryLaws.{gate_here, gate_elsewhere, slot_more, vote_more}
 
 -- ---- lists of one item
@@ -135,7 +134,7 @@ module _ {A : Type 0} where
   map_or_if true o x = refl
   map_or_if false o x = map_or-none o
 
-module _ (s : Identity Pairs) (e : Entry) (d : History) (m : StampedMessage) (brings : Brings s.host e m) (early : IsEarlyEntry e) where
+module _ (s : Identity Pairs) (e : Entry) (d : History) (m : StampedMessage) (brings : Holds s.host e m) (early : IsEarlyEntry e) where
   counters_taken : (fronts : List ℕ) (n : ℕ) → length fronts ≡ n → (ui_of m).host < n → (ui_of m).counter ≡ (gate d (ui_of m).host).counter + 1 → ((h : ℕ) → h < n → slice_index fronts h ≡ (gate d h).counter)
       → (h : ℕ) → h < n → slice_index (set fronts (ui_of m).host (ui_of m).counter) h ≡ (gate (e ∷ d) h).counter
   counters_taken fronts n len host next before h lt = elim (cases_eq h (ui_of m).host) [
@@ -238,26 +237,28 @@ pub tally-bound : (p : ℕ → Bool) (n : ℕ) → tally p n ≤ n
 tally-bound p zero = omega arith
 tally-bound p (suc n) = elim (p n) as (λ b. (if b then 1 else 0) + tally p n ≤ suc n) [ true ↦ let h = tally-bound p n in omega arith | false ↦ let h = tally-bound p n in omega arith ]
 
--- no vote was kept outside the window
-vote_of-outside : {S : Type 0} (s : Identity S) (d : History) → IsEarly d → (h p : ℕ) → ((0 < p) × (p ≤ 0 + span s.shape) → ⊥) → vote_of s d h 0 p ≡ None
-unfolding vote_of
-vote_of-outside s [] early h p out = refl
-vote_of-outside s (e ∷ d) early h p out = early_vote s e d early h p ∙ rw (vote_of-outside s d early.1 h p out, not_within p (span s.shape) out) refl
+pub matching-outside : (s : Identity Pairs) (t : Tables) (d : History) (p : ℕ) (x : Vote) → ((0 < p) × (p ≤ 0 + span t.shape) → ⊥) → RepresentsTables s t d → 0 ≡ matching s d p x
+matching-outside s t d p x out0 st =
+    let out : (0 < p) × (p ≤ 0 + span s.shape) → ⊥ = subst (λ (y : Shape). (0 < p) × (p ≤ 0 + span y) → ⊥) st.shape out0 in
+    let beyond : in_window s d p ≡ false = early_window s d st.early p ∙ not_within p (span s.shape) out in
+    sym (tally-none (λ h. is_vote (vote_at s d h p) x) (host_count s.shape) (λ h. rw beyond refl))
 
-pub matching-outside : (s : Identity Pairs) (t : Tables) (d : History) (p : ℕ) (x : Vote) → ((0 < p) × (p ≤ 0 + span t.shape) → ⊥) → RepresentsTables s t d → 0 ≡ matching s d 0 p x
-matching-outside s t d p x out0 st = let out : (0 < p) × (p ≤ 0 + span s.shape) → ⊥ = subst (λ (y : Shape). (0 < p) × (p ≤ 0 + span y) → ⊥) st.shape out0 in sym (tally-none (λ h. is_vote (vote_of s d h 0 p) x) (host_count s.shape) (λ h. ap (λ (o : Option Vote). is_vote o x) (vote_of-outside s d st.early h p out)))
+-- a vote of the window
+vote_within : (s : Identity Pairs) (t : Tables) (d : History) (h p : ℕ) → RepresentsTables s t d → 0 < p → p ≤ 0 + span s.shape → vote_at s d h p ≡ vote_of s d h 0 p
+vote_within s t d h p st above below = rw (early_window s d st.early p, within_is p (span s.shape) above below, early_view s d st.early) refl
 
 -- the count of a ballot is that of the votes
 pub matching-inside : (s : Identity Pairs) (t : Tables) (d : History) (ballot : List (Option Vote)) (a p : ℕ) (x : Vote) → slice_get t.votes.items a ≡ Some ballot → a < span t.shape → host_count t.shape ≤ length ballot → 0 + 1 + a ≡ p → RepresentsTables s t d
-    → tally (λ h. is_vote (get_or ballot h None) x) (host_count t.shape) ≡ matching s d 0 p x
+    → tally (λ h. is_vote (get_or ballot h None) x) (host_count t.shape) ≡ matching s d p x
 matching-inside s t d ballot a p x here lt wide place st =
     let fit : t.shape ≡ s.shape = st.shape in
     let at : 0 + a + 1 ≡ p = omega arith in
+    let below : p ≤ 0 + span s.shape = let e : span t.shape ≡ span s.shape = ap span fit in omega (arith, e, lt, place) in
     ap (λ (y : Shape). tally (λ h. is_vote (get_or ballot h None) x) (host_count y)) fit
-    ∙ tally-same (λ h. is_vote (get_or ballot h None) x) (λ h. is_vote (vote_of s d h 0 p) x) (host_count s.shape) (λ h of.
+    ∙ tally-same (λ h. is_vote (get_or ballot h None) x) (λ h. is_vote (vote_at s d h p) x) (host_count s.shape) (λ h of.
     let in_ballot : h < length ballot = let e : host_count t.shape ≡ host_count s.shape = ap host_count fit in omega arith in
     let kept : kept_in t.votes.items a h ≡ get_or ballot h None = rw (here, slice_get-get_or ballot h None in_ballot) refl in
-    ap (λ (o : Option Vote). is_vote o x) (sym kept ∙ st.votes a h (subst (λ (y : Shape). a < span y) fit lt) of ∙ ap (vote_of s d h 0) at))
+    ap (λ (o : Option Vote). is_vote o x) (sym kept ∙ st.votes a h (subst (λ (y : Shape). a < span y) fit lt) of ∙ ap (vote_of s d h 0) at ∙ sym (vote_within s t d h p st (omega arith) below)))
 
 -- a test that answers no
 pub refused : {P : Type 0} (b : Bool) → (P → b ≡ true) → b ≡ false → P → ⊥
@@ -286,10 +287,10 @@ module _ (m : Prepare) (view pos i : ℕ) (ev : m.view ≡ view) (ep : m.pos ≡
   pub prepare_slot-passed : (span : ℕ) (old : Option (Option KnownSlot)) → ((view ≡ 0) × (0 < pos) × (pos ≤ 0 + span) → ⊥) → i < span → old ≡ option_map (λ kept. option_or kept (slot_of_prepare m 0 (0 + i + 1))) old
   prepare_slot-passed span old out lt = rw (ev, ep, not_at view pos i span out lt) (map_or-none old)
 
-  pub prepare_slot-kept : (ui : Ui) (digest : Bytes) (request : Option Request) (old mid new : Option (Option KnownSlot)) → mid ≡ old → m.ui ≡ ui → body_digest request_bytes m.body ≡ digest → whole_body m.body ≡ request → view ≡ 0
-      → new ≡ (if pos == 0 + i + 1 then option_map (λ kept. option_or kept (Some (record { counter = ui.counter; cert = ui.cert; digest = digest; request = request }))) mid else mid)
+  pub prepare_slot-kept : (ui : Ui) (digest : Bytes) (batch : Option Batch) (old mid new : Option (Option KnownSlot)) → mid ≡ old → m.ui ≡ ui → body_digest batch_bytes m.body ≡ digest → whole_body m.body ≡ batch → view ≡ 0
+      → new ≡ (if pos == 0 + i + 1 then option_map (λ kept. option_or kept (Some (record { counter = ui.counter; cert = ui.cert; digest = digest; batch = batch }))) mid else mid)
       → new ≡ option_map (λ kept. option_or kept (slot_of_prepare m 0 (0 + i + 1))) old
-  prepare_slot-kept ui digest request old mid new em eu ed er zero_view is = rw (ev, ep, eu, ed, er, zero_view, ← em) (is ∙ map_or_if (pos == 0 + i + 1) mid _)
+  prepare_slot-kept ui digest batch old mid new em eu ed er zero_view is = rw (ev, ep, eu, ed, er, zero_view, ← em) (is ∙ map_or_if (pos == 0 + i + 1) mid _)
 
 -- what an entry says, by another name
 pub slot_said : (old new : Option (Option KnownSlot)) (x y : Option KnownSlot) → y ≡ x → new ≡ option_map (λ kept. option_or kept x) old → new ≡ option_map (λ kept. option_or kept y) old
@@ -302,11 +303,11 @@ vote_said old new x y same is = is ∙ ap (option_or old) (sym same)
 pub commit_slot : (old new : Option (Option KnownSlot)) → new ≡ old → new ≡ option_map (λ kept. option_or kept None) old
 commit_slot old new is = is ∙ map_or-none old
 
-module _ (h view0 pos0 i : ℕ) (body : Body Request) (ui0 : Ui) (counter0 view pos : ℕ) (ev : view0 ≡ view) (ep : pos0 ≡ pos) where
+module _ (h view0 pos0 i : ℕ) (body : Body Batch) (ui0 : Ui) (counter0 view pos : ℕ) (ev : view0 ≡ view) (ep : pos0 ≡ pos) where
   pub vote-passed : (span : ℕ) (old : Option Vote) → ((view ≡ 0) × (0 < pos) × (pos ≤ 0 + span) → ⊥) → i < span → old ≡ option_or old (vote_with ui0.host h 0 (0 + i + 1) view0 pos0 body counter0)
   vote-passed span old out lt = rw (ev, ep, not_here view pos i span (ui0.host == h) out lt) (or-none old)
 
-  pub vote-kept : (ui : Ui) (digest : Bytes) (counter : ℕ) (old new : Option Vote) → ui0 ≡ ui → body_digest request_bytes body ≡ digest → counter0 ≡ counter → view ≡ 0
+  pub vote-kept : (ui : Ui) (digest : Bytes) (counter : ℕ) (old new : Option Vote) → ui0 ≡ ui → body_digest batch_bytes body ≡ digest → counter0 ≡ counter → view ≡ 0
       → new ≡ (if pos == 0 + i + 1 && ui.host == h then option_or old (Some (record { counter = counter; request = digest })) else old)
       → new ≡ option_or old (vote_with ui0.host h 0 (0 + i + 1) view0 pos0 body counter0)
   vote-kept ui digest counter old new eu ed ec zero_view is = rw (ev, ep, eu, ed, ec, zero_view) (is ∙ or_if (pos == 0 + i + 1 && ui.host == h) old _)

@@ -2,17 +2,20 @@
 use Rattle.std.specs.Prelude.{◌≡◌, ℕ, ◌*◌, ◌<◌, ◌≤◌, Option, Some, None}
 use Rattle.mb_base.specs.Shapes.{span, interval}
 use Rattle.mb_base.specs.declared.shape.Shape.{Shape}
-use Rattle.mb_parts.specs.declared.request.Request.{Request}
-use Rattle.mb_parts.specs.Bares.{request_digest}
-use Rattle.mb_parts.specs.Fits.{IsCounter, FitsRequest}
+use Rattle.mb_parts.specs.declared.batch.Batch.{Batch}
+use Rattle.mb_parts.specs.Bares.{batch_digest}
+use Rattle.mb_parts.specs.Fits.{IsCounter, FitsBatch}
 use Rattle.mb_model.specs.declared.known.KnownSlot.{KnownSlot}
 use Rattle.mb_model.specs.Service.{Served}
+use Rattle.mb_model.specs.Histories.{Identity}
+use Rattle.mb_model.specs.Sending.{Progress}
 use Rattle.mb_model.specs.EnabledRules.{Rule, Commit, Execute, Prepare}
 use Rattle.mb_core.specs.declared.replica.Replica.{Replica}
 use Rattle.mb_core.specs.declared.executing.Ordered.{Ordered}
 use Rattle.mb_core.specs.declared.rules.Due.{Due}
 use Rattle.mb_core.specs.declared.rules.Due.TheVariants as due
 use Rattle.mb_core.specs.Store.{Pairs}
+use Rattle.mb_core.specs.Represents.{StopsWithin}
 
 -- ---- the service
 
@@ -43,20 +46,20 @@ pub record KeepsAllButCounter (old new : Replica) : Type 0 where
 
 -- ---- what is due
 
--- the slot of a request that the primary ordered
+-- the slot of a batch that the primary ordered
 abbrev pub known_slot : Ordered → KnownSlot
-known_slot o = record { counter = o.counter; cert = o.cert; digest = o.digest; request = Some o.request }
+known_slot o = record { counter = o.counter; cert = o.cert; digest = o.digest; batch = Some o.batch }
 
 abbrev pub rule_of : Due → Rule
-rule_of (due.Commit o) = Commit o.pos (known_slot o) o.request
-rule_of (due.Execute pos request) = Execute pos request
-rule_of (due.Prepare pos request) = Prepare pos request
+rule_of (due.Commit o) = Commit o.pos (known_slot o) o.batch
+rule_of (due.Execute pos batch) = Execute pos batch
+rule_of (due.Prepare pos batch) = Prepare pos batch
 
--- the digest that is kept with a request is its own
+-- the digest that is kept with a batch is its own
 abbrev pub HasDigest : Due → Type 0
-HasDigest (due.Commit o) = o.digest ≡ request_digest o.request
-HasDigest (due.Execute pos request) = Unit {0}
-HasDigest (due.Prepare pos request) = Unit {0}
+HasDigest (due.Commit o) = o.digest ≡ batch_digest o.batch
+HasDigest (due.Execute pos batch) = Unit {0}
+HasDigest (due.Prepare pos batch) = Unit {0}
 
 -- what the code finds due is what the rules say
 abbrev pub Names : Option Due → Option Rule → Type 0
@@ -65,17 +68,24 @@ Names (Some d) rule = (rule ≡ Some (rule_of d)) × HasDigest d
 
 -- ---- that it can be carried out
 
--- a position of the window, and a request that can be sent
-pub record IsPlaced (s : Shape) (pos : ℕ) (request : Request) : Type 0 where
+-- a position of the window, and a batch that can be sent
+pub record IsPlaced (s : Shape) (pos : ℕ) (batch : Batch) : Type 0 where
   pub above : 1 ≤ pos
   pub within : pos ≤ span s
-  pub fits : FitsRequest s request
+  pub fits : FitsBatch s batch
 
 -- the log has room, and a counter is left
 abbrev pub HasCounter : Replica → Type 0
 HasCounter r = r.usig.counter < 6 * interval r.shape
 
 abbrev pub IsReady : Replica → Due → Type 0
-IsReady r (due.Commit o) = HasCounter r × IsCounter o.counter × IsPlaced r.shape o.pos o.request
-IsReady r (due.Execute pos request) = IsPlaced r.shape pos request
-IsReady r (due.Prepare pos request) = HasCounter r × IsPlaced r.shape pos request
+IsReady r (due.Commit o) = HasCounter r × IsCounter o.counter × IsPlaced r.shape o.pos o.batch
+IsReady r (due.Execute pos batch) = IsPlaced r.shape pos batch
+IsReady r (due.Prepare pos batch) = HasCounter r × IsPlaced r.shape pos batch
+
+-- ---- where memory ran out
+
+-- The batch of a position is executed up to some request. What other rules leave is not said.
+abbrev pub StopsIn : Identity Pairs → Replica → Due → Progress → Type 0
+StopsIn self r (due.Execute pos batch) x = StopsWithin self r pos batch.requests x
+StopsIn self r _ x = Unit {0}

@@ -4,3 +4,4 @@ pub mod Represents
 pub mod StoreTables
 pub mod Halting
 pub mod Due
+pub mod Filling

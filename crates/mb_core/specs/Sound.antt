@@ -2,7 +2,8 @@
 use Rattle.std.specs.Prelude.{◌≡◌, ◌<◌, ◌≤◌, ◌^◌, ℕ, List, length, Option, Some, slice_get}
 use Rattle.mb_base.specs.declared.shape.Shape.{Shape}
 use Rattle.mb_parts.specs.declared.request.Request.{Request}
-use Rattle.mb_parts.specs.Fits.{IsCounter, FitsRequest, FitsText}
+use Rattle.mb_parts.specs.declared.batch.Batch.{Batch}
+use Rattle.mb_parts.specs.Fits.{IsCounter, FitsRequest, FitsBatch, FitsText}
 use Rattle.mb_model.specs.declared.known.KnownSlot.{KnownSlot}
 use Rattle.mb_model.specs.declared.known.LastReply.{LastReply}
 use Rattle.mb_model.specs.declared.known.Vote.{Vote}
@@ -12,9 +13,9 @@ use Rattle.mb_core.specs.declared.store.Pair.{Pair}
 abbrev pub RequestsFit : Shape → List (Option Request) → Type 0
 RequestsFit s requests = (c : ℕ) (r : Request) → slice_get requests c ≡ Some (Some r) → FitsRequest s r
 
--- of a slot the primary's counter, and the request where it came whole
+-- of a slot the primary's counter, and the batch where it came whole
 abbrev pub SlotFits : Shape → KnownSlot → Type 0
-SlotFits s k = IsCounter k.counter × ((r : Request) → k.request ≡ Some r → FitsRequest s r)
+SlotFits s k = IsCounter k.counter × ((b : Batch) → k.batch ≡ Some b → FitsBatch s b)
 
 -- each slot
 abbrev pub SlotsFit : Shape → List (Option KnownSlot) → Type 0

@@ -6,10 +6,9 @@ ghost use Rattle.mb_msg.specs.declared.stamped.Stamped.TheVariants as stamped;
 ghost use Rattle.mb_parts.specs.Fits.{FitsRequest};
 ghost use Rattle.mb_msg.specs.Fits.{FitsFields, FitsPrepare, FitsCommit};
 ghost use Rattle.mb_msg.specs.Spelling.{kind_of};
-ghost use Rattle.mb_msg.specs.Bodies.{FitsBody};
+ghost use Rattle.mb_msg.specs.Bodies.{FitsBody, whole_body};
 ghost use Rattle.mb_model.specs.Built.{first_path};
 ghost use Rattle.mb_model.specs.Histories.{History, Accepted};
-ghost use Rattle.mb_model.specs.Held.{whole_body};
 ghost use Rattle.mb_model.specs.Sending.{Progress};
 ghost use Rattle.mb_model.specs.KindChecks.{stamped_refusal};
 ghost use Rattle.mb_model.specs.Given.{named_prepare, offer_prepare, accept, give_stamped, give_request, give};
@@ -19,7 +18,7 @@ ghost use Rattle.mb_core.specs.declared.sending.Done.{Done};
 use crate::replica::Replica;
 use crate::sending::Done;
 use mb_base::{NoMemory, Ui};
-use mb_msg::{Body, Commit, Message, Outcome, Prepare, Request};
+use mb_msg::{Batch, Body, Commit, Message, Outcome, Prepare, Request};
 use std::alloc::Global;
 
 impl Replica {
@@ -115,15 +114,15 @@ impl Replica {
         ensures stands { (d : History) → Represents (me self.old) self.old d → stamped_refusal (me self.old) d (stamped.Prepare prepare) ≡ None
             → Represents (me self.old) self.new (Accepted (message.Prepare prepare) ∷ d) }
     {
-        let digest = prepare.body.request_digest();
+        let digest = prepare.body.batch_digest();
         let Prepare {
             view,
             pos,
             body,
             ui,
         } = prepare;
-        let request = whole_request(body);
-        self.tables.take_prepare(view, pos, &ui, digest, request);
+        let batch = whole_batch(body);
+        self.tables.take_prepare(view, pos, &ui, digest, batch);
     }
 
     /// A COMMIT is its sender's vote.
@@ -138,7 +137,7 @@ impl Replica {
             commit.pos,
             &commit.ui,
             commit.counter,
-            commit.body.request_digest(),
+            commit.body.batch_digest(),
         );
     }
 
@@ -190,12 +189,12 @@ impl Replica {
     }
 }
 
-/// The request of a body that came whole.
-fn whole_request(body: Body<Request>) -> Option<Request>
+/// The batch of a body that came whole.
+fn whole_batch(body: Body<Batch>) -> Option<Batch>
     ensures { result ≡ whole_body body }
 {
     match body {
-        Body::Whole(request) => Some(request),
+        Body::Whole(batch) => Some(batch),
         Body::Bare(_) => None,
     }
 }

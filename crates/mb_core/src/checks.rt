@@ -5,7 +5,7 @@ ghost use Rattle.mb_base.specs.Shapes.{host_count};
 ghost use Rattle.mb_usig.specs.Tags.{same_bytes, request_tag};
 ghost use Rattle.mb_parts.specs.Bares.{bare_bytes};
 ghost use Rattle.mb_msg.specs.Stamps.{bare_of, ui_of};
-ghost use Rattle.mb_parts.specs.Fits.{FitsRequest};
+ghost use Rattle.mb_parts.specs.Fits.{FitsRequest, FitsBatch};
 ghost use Rattle.mb_msg.specs.Bodies.{FitsBody};
 ghost use Rattle.mb_msg.specs.Fits.{FitsPrepare, FitsCommit};
 ghost use Rattle.mb_msg.specs.declared.stamped.Stamped.{Stamped as StampedMessage};
@@ -15,15 +15,17 @@ ghost use Rattle.std.specs.Bool.{then_some};
 ghost use Rattle.std.specs.Option.{option_or};
 ghost use Rattle.mb_msg.specs.declared.event.Outcome.TheVariants as outcome;
 ghost use Rattle.mb_model.specs.GateChecks.{identifier_refusal, gate_refusal, is_own_future};
-ghost use Rattle.mb_model.specs.KindChecks.{body_refusal, vote_refusal, stamped_refusal, is_badly_tagged};
+ghost use Rattle.mb_model.specs.KindChecks.{body_refusal, vote_refusal, stamped_refusal, is_badly_tagged, has_bad_tag};
 ghost use Rattle.mb_model.specs.PlainChecks.{number_refusal, request_refusal};
+ghost use Rattle.std.specs.List.{AllByRecursion, list_all};
+ghost use Rattle.mb_model.specs.Verified.{is_rightly_tagged};
 ghost use Rattle.mb_core.specs.Represents.{Represents, me};
 
 use crate::replica::Replica;
 use crate::tables::{LOW, VIEW};
 use mb_base::{NoMemory, Pos, Ui, View};
 use mb_model::LastReply;
-use mb_msg::{Body, Commit, Outcome, Prepare, Request, signed_request};
+use mb_msg::{Batch, Body, Commit, Outcome, Prepare, Request, signed_request};
 use std::alloc::Global;
 
 impl Replica {
@@ -107,9 +109,9 @@ impl Replica {
         alloc: Global,
         view: View,
         pos: Pos,
-        body: &Body<Request>,
+        body: &Body<Batch>,
     ) -> Result<Option<Outcome>, NoMemory>
-        requires { FitsBody (FitsRequest self.now.shape) body.now }
+        requires { FitsBody (FitsBatch self.now.shape) body.now }
         ensures { (d : History) → Represents (me self.now) self.now d → IfOk result (λ o. o ≡ vote_refusal (me self.now) d view pos body.now) }
     {
         if view > VIEW {
@@ -121,19 +123,19 @@ impl Replica {
         self.refuse_body(alloc, pos, body)
     }
 
-    /// Why the request of a vote is refused: it has no tag that verifies, or it did not come and is still needed.
+    /// Why the batch of a vote is refused: a request of it has no tag that verifies, or it did not come and is still needed.
     fn refuse_body(
         &self,
         alloc: Global,
         pos: Pos,
-        body: &Body<Request>,
+        body: &Body<Batch>,
     ) -> Result<Option<Outcome>, NoMemory>
-        requires { FitsBody (FitsRequest self.now.shape) body.now }
+        requires { FitsBody (FitsBatch self.now.shape) body.now }
         ensures { (d : History) → Represents (me self.now) self.now d → IfOk result (λ o. o ≡ body_refusal (me self.now) d pos body.now) }
     {
         match body {
-            Body::Whole(request) => {
-                let tagged = self.is_tagged(alloc, request)?;
+            Body::Whole(batch) => {
+                let tagged = self.are_tagged(alloc, batch.requests.as_slice())?;
                 Ok((!tagged).then_some(Outcome::BadTag))
             }
             Body::Bare(_) => Ok(
@@ -145,10 +147,23 @@ impl Replica {
         }
     }
 
+    /// Whether the tag of each of these requests is the one of its client.
+    fn are_tagged(&self, alloc: Global, requests: &[Request]) -> Result<bool, NoMemory>
+        requires { AllByRecursion (FitsRequest self.now.shape) requests.now }
+        ensures { IfOk result (λ tagged. tagged ≡ list_all (is_rightly_tagged self.now.usig.secret) requests.now) }
+    {
+        for request in requests {
+            if !self.is_tagged(alloc, request)? {
+                return Ok(false);
+            }
+        }
+        Ok(true)
+    }
+
     /// Whether a request's tag is the one of its client.
     fn is_tagged(&self, alloc: Global, request: &Request) -> Result<bool, NoMemory>
         requires { FitsRequest self.now.shape request.now }
-        ensures { IfOk result (λ tagged. not tagged ≡ is_badly_tagged (me self.now) request.now) }
+        ensures { IfOk result (λ tagged. tagged ≡ is_rightly_tagged self.now.usig.secret request.now) }
     {
         let signed = signed_request(alloc, request.client, request.seq, request.op.as_slice())?;
         Ok(

@@ -6,12 +6,14 @@ ghost use Rattle.mb_model.specs.Execution.{if_above};
 use crate::replica::Replica;
 use crate::sending::Done;
 use crate::tables::VIEW;
-use mb_base::{Counter, Digest, Duplicate, NoMemory, Pos, Seq, Ui};
+use mb_base::{Counter, Digest, Duplicate, Items, NoMemory, Pos, Seq, Ui};
 use mb_model::LastReply;
-use mb_msg::{Body, Commit, Message, Prepare, Request, Slot, To, commit_bare, prepare_bare};
+use mb_msg::{
+    Batch, Body, Commit, Message, Placed, Prepare, Request, Slot, To, commit_bare, prepare_bare,
+};
 use std::alloc::Global;
 
-/// A request as the primary ordered it.
+/// A batch as the primary ordered it.
 #[derive(Debug, PartialEq, Drop)]
 pub struct Ordered {
     pub pos: Pos,
@@ -19,26 +21,29 @@ pub struct Ordered {
     pub counter: Counter,
     /// The primary's certificate of the PREPARE.
     pub cert: Digest,
-    /// The digest of the request.
+    /// The digest of the batch.
     pub digest: Digest,
-    pub request: Request,
+    pub batch: Batch,
 }
 
 impl Replica {
-    ghost use Rattle.std.specs.Prelude.{◌≡◌, ◌+◌, ◌-◌, ◌^◌, ◌<◌, ◌≤◌, Some, OnOk, IfOk, IsTrue, slice_get};
+    ghost use Rattle.std.specs.Prelude.{◌≡◌, ◌+◌, ◌-◌, ◌^◌, ◌<◌, ◌≤◌, ◌++◌, ◌∷◌, List, [], Some, OnOk, OnErr, IfOk, IsTrue, slice_get};
+    ghost use Rattle.std.specs.List.{AllByRecursion};
+    ghost use Rattle.mb_base.specs.Shapes.{span};
     ghost use Rattle.mb_parts.specs.Fits.{IsCounter, FitsRequest};
-    ghost use Rattle.mb_parts.specs.Bares.{request_digest};
+    ghost use Rattle.mb_parts.specs.Bares.{batch_digest};
     ghost use Rattle.mb_usig.specs.Tags.{certificate};
     ghost use Rattle.mb_model.specs.Service.{is_fresh, served};
     ghost use Rattle.mb_model.specs.Execution.{state_of};
     ghost use Rattle.mb_model.specs.Sending.{Progress, stamp};
     ghost use Rattle.mb_model.specs.Making.{commit, prepare};
-    ghost use Rattle.mb_model.specs.CarriedOut.{execute, slot_for, with_slot};
+    ghost use Rattle.mb_model.specs.Histories.{History, Served};
+    ghost use Rattle.mb_model.specs.CarriedOut.{placed_in, serve, serve_all, close_slot, execute};
     ghost use Rattle.mb_core.specs.Store.{store_machine};
-    ghost use Rattle.mb_core.specs.Represents.{me, StandsAt};
+    ghost use Rattle.mb_core.specs.Represents.{me, RepresentsServing, StandsServing, StandsAt, StopsWithin};
     ghost use Rattle.mb_core.specs.Due.{served_of, known_slot, HasCounter, IsPlaced, KeepsAllButService, KeepsAllButCounter};
 
-    /// Votes for a request that the primary ordered.
+    /// Votes for a batch that the primary ordered.
     pub(crate) fn commit(
         &mut self,
         alloc: Global,
@@ -47,17 +52,17 @@ impl Replica {
     ) -> Result<(), NoMemory>
         requires room { HasCounter self.old }
         requires counter { IsCounter ordered.counter }
-        requires placed { IsPlaced self.old.shape ordered.pos ordered.request }
+        requires placed { IsPlaced self.old.shape ordered.pos ordered.batch }
         ensures kept { me self.new ≡ me self.old }
-        ensures stands { (x : Progress) → StandsAt (me self.old) self.old done.old x → ordered.digest ≡ request_digest ordered.request
-            → OnOk result (StandsAt (me self.old) self.new done.new (stamp (me self.old) (commit (me self.old) x.history ordered.pos (known_slot ordered) ordered.request) x)) }
+        ensures stands { (x : Progress) → StandsAt (me self.old) self.old done.old x → ordered.digest ≡ batch_digest ordered.batch
+            → OnOk result (StandsAt (me self.old) self.new done.new (stamp (me self.old) (commit (me self.old) x.history ordered.pos (known_slot ordered) ordered.batch) x)) }
     {
         let Ordered {
             pos,
             counter,
             cert,
             digest,
-            request,
+            batch,
         } = ordered;
         let bare = commit_bare(alloc, VIEW, pos, counter, &cert, &digest)?;
         let ui = self.bind(bare.as_slice());
@@ -66,7 +71,7 @@ impl Replica {
             pos,
             counter,
             cert,
-            body: Body::Whole(request),
+            body: Body::Whole(batch),
             ui,
         });
         self.send(alloc, To::All, &message, done)?;
@@ -75,28 +80,28 @@ impl Replica {
         Ok(())
     }
 
-    /// Orders a request at a position.
+    /// Orders a batch at a position.
     pub(crate) fn prepare(
         &mut self,
         alloc: Global,
         pos: Pos,
-        request: Request,
+        batch: Batch,
         done: &mut Done,
     ) -> Result<(), NoMemory>
         requires room { HasCounter self.old }
-        requires placed { IsPlaced self.old.shape pos request }
+        requires placed { IsPlaced self.old.shape pos batch }
         ensures kept { me self.new ≡ me self.old }
         ensures stands { (x : Progress) → StandsAt (me self.old) self.old done.old x
-            → OnOk result (StandsAt (me self.old) self.new done.new (stamp (me self.old) (prepare (me self.old) x.history pos request) x)) }
+            → OnOk result (StandsAt (me self.old) self.new done.new (stamp (me self.old) (prepare (me self.old) x.history pos batch) x)) }
     {
-        let kept = request.duplicate(alloc)?;
-        let digest = request.digest();
+        let kept = batch.duplicate(alloc)?;
+        let digest = batch.digest();
         let bare = prepare_bare(alloc, VIEW, pos, &digest)?;
         let ui = self.bind(bare.as_slice());
         let message = Message::Prepare(Prepare {
             view: VIEW,
             pos,
-            body: Body::Whole(request),
+            body: Body::Whole(batch),
             ui,
         });
         self.send(alloc, To::All, &message, done)?;
@@ -118,59 +123,117 @@ impl Replica {
         }
     }
 
-    /// Executes a request at a position. A fresh one is answered.
+    /// Executes the batch of a position, request by request. Each fresh one is answered.
+    ///
+    /// After `NoMemory` whole requests of it are executed, which are its first, and the last executed position is below it.
     pub(crate) fn execute(
         &mut self,
         alloc: Global,
         pos: Pos,
-        request: Request,
+        batch: Batch,
         done: &mut Done,
     ) -> Result<(), NoMemory>
-        requires { IsPlaced self.old.shape pos request }
+        requires { IsPlaced self.old.shape pos batch }
         ensures kept { me self.new ≡ me self.old }
         ensures stands { (x : Progress) → StandsAt (me self.old) self.old done.old x
-            → OnOk result (StandsAt (me self.old) self.new done.new (execute (me self.old) pos request x)) }
+            → OnOk result (StandsAt (me self.old) self.new done.new (execute (me self.old) pos batch x)) }
+        ensures stops { (x : Progress) → StandsAt (me self.old) self.old done.old x → OnErr result (StopsWithin (me self.old) self.new pos batch.requests x) }
     {
-        let client = request.client;
-        if self.append(alloc, pos, request, done)? {
-            return self.send_reply(alloc, client, done);
-        }
-        Ok(())
+        let requests = self.execute_all(alloc, pos, batch.requests, done)?;
+        self.close_slot(pos, requests, done)
     }
 
-    /// Executes a request at a position, and tells whether it is fresh.
-    fn append(
+    /// Executes requests at a position, one after the other, and gives them back, each with whether it was fresh.
+    ///
+    /// After `NoMemory` the first of them are executed.
+    fn execute_all(
         &mut self,
         alloc: Global,
         pos: Pos,
-        request: Request,
+        requests: Items<Request>,
         done: &mut Done,
-    ) -> Result<bool, NoMemory>
-        requires { IsPlaced self.old.shape pos request }
+    ) -> Result<Items<Placed>, NoMemory>
+        requires position { pos < 2 ^ 63 }
+        requires fits { AllByRecursion (FitsRequest self.old.shape) requests }
         ensures kept { me self.new ≡ me self.old }
         ensures stands { (x : Progress) → StandsAt (me self.old) self.old done.old x
-            → OnOk result (StandsAt (me self.old) self.new done.new (with_slot (me self.old) (slot_for (me self.old) x.history pos request) x)) }
-        ensures fresh { (x : Progress) → StandsAt (me self.old) self.old done.old x → IfOk result (λ fresh. fresh ≡ is_fresh (state_of (me self.old) x.history) request) }
-        ensures some { IfOk result (λ fresh. IsTrue fresh → (a : LastReply) → slice_get self.new.replies.items request.client ≡ Some a → 1 ≤ a.seq) }
+            → IfOk result (λ placed. StandsServing (me self.old) self.new done.new placed (serve_all (me self.old) pos requests x)) }
+        ensures stops { (x : Progress) → StandsAt (me self.old) self.old done.old x → OnErr result (StopsWithin (me self.old) self.new pos requests x) }
     {
-        let fresh = self.serve(alloc, pos, &request)?;
-        self.exec = pos;
+        let mut placed = Items::new(alloc);
+        for request in requests.into_vec() {
+            let fresh = self.execute_one(alloc, pos, &request, done)?;
+            placed.push(Placed { request, fresh })?;
+        }
+        Ok(placed)
+    }
+
+    /// Executes a request at a position, and tells whether it is fresh. A fresh one is answered.
+    ///
+    /// After `NoMemory` it is executed, or the replica is as it was.
+    fn execute_one(
+        &mut self,
+        alloc: Global,
+        pos: Pos,
+        request: &Request,
+        done: &mut Done,
+    ) -> Result<bool, NoMemory>
+        requires position { pos < 2 ^ 63 }
+        requires fits { FitsRequest self.old.shape request.now }
+        ensures kept { me self.new ≡ me self.old }
+        ensures stands { (x : Progress) (serving : List Placed) → StandsServing (me self.old) self.old done.old serving x
+            → IfOk result (λ fresh. StandsServing (me self.old) self.new done.new (serving ++ record { request = request.now; fresh = fresh } ∷ []) (serve (me self.old) pos request.now x)) }
+        ensures stops { (x : Progress) (serving : List Placed) → StandsServing (me self.old) self.old done.old serving x → OnErr result (StopsWithin (me self.old) self.new pos (request.now ∷ []) x) }
+    {
+        if self.append(alloc, pos, request)? {
+            self.send_reply(alloc, request.client, done)?;
+            return Ok(true);
+        }
+        Ok(false)
+    }
+
+    /// Serves a request at a position, and tells whether it is fresh. After `NoMemory` it is not served.
+    fn append(&mut self, alloc: Global, pos: Pos, request: &Request) -> Result<bool, NoMemory>
+        requires position { pos < 2 ^ 63 }
+        requires fits { FitsRequest self.old.shape request.now }
+        ensures kept { me self.new ≡ me self.old }
+        ensures stands { (d : History) (serving : List Placed) → RepresentsServing (me self.old) self.old serving d
+            → IfOk result (λ fresh. RepresentsServing (me self.old) self.new (serving ++ record { request = request.now; fresh = fresh } ∷ []) (Served pos (placed_in (me self.old) d request.now) ∷ d)) }
+        ensures unserved { (d : History) (serving : List Placed) → RepresentsServing (me self.old) self.old serving d → OnErr result (RepresentsServing (me self.old) self.new serving d) }
+        ensures fresh { (d : History) (serving : List Placed) → RepresentsServing (me self.old) self.old serving d → IfOk result (λ fresh. fresh ≡ is_fresh (state_of (me self.old) d) request.now) }
+        ensures some { IfOk result (λ fresh. IsTrue fresh → (a : LastReply) → slice_get self.new.replies.items request.now.client ≡ Some a → 1 ≤ a.seq) }
+    {
+        let fresh = self.serve(alloc, pos, request)?;
         settle(&mut self.pending[usize::from(request.client)], request.seq);
-        done.executed.push(Slot {
-            pos,
-            request,
-            fresh,
-        })?;
         Ok(fresh)
     }
 
-    /// Applies a request that is numbered above its client's last one, and stores the reply.
+    /// The position of the requests that were served is executed. After `NoMemory` it is not.
+    fn close_slot(
+        &mut self,
+        pos: Pos,
+        requests: Items<Placed>,
+        done: &mut Done,
+    ) -> Result<(), NoMemory>
+        requires { pos ≤ span self.old.shape }
+        ensures kept { me self.new ≡ me self.old }
+        ensures stands { (x : Progress) → StandsServing (me self.old) self.old done.old requests x
+            → OnOk result (StandsAt (me self.old) self.new done.new (close_slot (me self.old) pos x)) }
+        ensures unchanged { OnErr result (self.new ≡ self.old) }
+    {
+        done.executed.push(Slot { pos, requests })?;
+        self.exec = pos;
+        Ok(())
+    }
+
+    /// Applies a request that is numbered above its client's last one, and stores the reply. After `NoMemory` the service is as it was.
     fn serve(&mut self, alloc: Global, pos: Pos, request: &Request) -> Result<bool, NoMemory>
         requires position { pos < 2 ^ 63 }
         requires fits { FitsRequest self.old.shape request.now }
         ensures rest { KeepsAllButService self.old self.new }
         ensures served { OnOk result (served_of self.new ≡ served store_machine (served_of self.old) pos request.now) }
         ensures fresh { IfOk result (λ fresh. fresh ≡ is_fresh (served_of self.old) request.now) }
+        ensures unserved { OnErr result (served_of self.new ≡ served_of self.old) }
     {
         let client = usize::from(request.client);
         if request.seq <= self.replies[client].seq {

@@ -4,6 +4,7 @@
 mod accepting;
 mod checks;
 mod executing;
+mod filling;
 mod replica;
 mod rules;
 mod sending;

@@ -90,7 +90,9 @@ impl Replica {
 
     /// One event at this host: its outcome, and what it sent and executed.
     ///
-    /// After `NoMemory` every later call is `Halted`, and only then.
+    /// After `NoMemory` every later call is `Halted`, and only then. Where it came within a batch, whole requests of the batch are executed,
+    /// which are its first, and the last executed position is below it. The contracts of `carry_out` and `execute` say so, and not this one,
+    /// which says nothing of the tables then.
     pub fn step(&mut self, alloc: Global, event: &Event) -> Result<Step, Stop>
         ensures kept { me self.new ≡ me self.old }
         ensures stands { (d : History) → Represents (me self.old) self.old d

@@ -16,7 +16,7 @@ pub struct Done {
 }
 
 impl Done {
-    ghost use Rattle.std.specs.Prelude.{◌≡◌, []};
+    ghost use Rattle.std.specs.Prelude.{◌≡◌, [], None};
 
     /// Nothing yet.
     pub fn new(alloc: Global) -> Done
@@ -30,18 +30,20 @@ impl Done {
 
     /// The whole step, with its outcome.
     pub fn into_step(self, outcome: Outcome) -> Step
-        ensures { result ≡ record { outcome = outcome; sent = self.sent; executed = self.executed } }
+        ensures { result ≡ record { outcome = outcome; sent = self.sent; executed = self.executed; adopted = None } }
     {
         Step {
             outcome,
             sent: self.sent,
             executed: self.executed,
+            adopted: None,
         }
     }
 }
 
 impl Replica {
-    ghost use Rattle.std.specs.Prelude.{◌≡◌, ◌<◌, ◌≤◌, ◌++◌, ◌∷◌, [], OnOk, IfOk, Some, slice_get};
+    ghost use Rattle.std.specs.Prelude.{◌≡◌, ◌<◌, ◌≤◌, ◌++◌, ◌∷◌, [], List, OnOk, IfOk, Some, slice_get};
+    ghost use Rattle.mb_msg.specs.declared.event.Placed.{Placed};
     ghost use Rattle.mb_base.specs.Shapes.{client_count};
     ghost use Rattle.mb_parts.specs.Fits.{FitsText};
     ghost use Rattle.mb_msg.specs.Fits.{Fits};
@@ -50,7 +52,7 @@ impl Replica {
     ghost use Rattle.mb_model.specs.Execution.{state_of};
     ghost use Rattle.mb_model.specs.Sending.{to_client};
     ghost use Rattle.mb_model.specs.Making.{reply};
-    ghost use Rattle.mb_core.specs.Represents.{Represents, me, as_sent};
+    ghost use Rattle.mb_core.specs.Represents.{RepresentsServing, me, as_sent};
 
     /// Sends a message.
     pub(crate) fn send(
@@ -103,7 +105,7 @@ impl Replica {
     ) -> Result<(), NoMemory>
         requires client { client < client_count self.now.shape }
         requires some { (a : LastReply) → slice_get self.now.replies.items client ≡ Some a → 1 ≤ a.seq }
-        ensures sent { (d : History) → Represents (me self.now) self.now d
+        ensures sent { (d : History) (served : List Placed) → RepresentsServing (me self.now) self.now served d
             → OnOk result (done.new.sent ≡ done.old.sent ++ as_sent (to_client client (reply (me self.now) client (reply_of (state_of (me self.now) d) client))) ∷ []) }
         ensures executed { done.new.executed ≡ done.old.executed }
     {

@@ -2,12 +2,13 @@
 
 ghost use Rattle.std.specs.Prelude.{◌≡◌, ◌<◌, ◌≤◌, ◌+◌, length, replicate, IfOk};
 ghost use Rattle.mb_base.specs.Shapes.{host_count, span};
+ghost use Rattle.std.proofs.Props.{props};
 ghost use Rattle.mb_model.specs.Votes.{is_vote};
 ghost use Rattle.mb_core.specs.Sound.{SlotsFit, BallotsFit};
 
 use mb_base::{Counter, Digest, Host, NoMemory, Pos, Shape, Ui, View};
 use mb_model::{KnownSlot, Vote};
-use mb_msg::{Commit, Prepare, Request};
+use mb_msg::{Batch, Commit, Prepare};
 use std::alloc::Global;
 
 /// The most hosts, 2f+1 with f = 3.
@@ -35,7 +36,7 @@ pub struct Tables {
     ghost fronts_len: { length fronts.items ≡ host_count shape },
     ghost slots_len: { length slots.items ≡ span shape },
     ghost votes_len: { length votes.items ≡ span shape },
-    ghost slots_fit: { SlotsFit shape slots.items },
+    ghost slots_fit: { SlotsFit shape slots.items } by { Prim.hlevel props },
     ghost ballots_fit: { BallotsFit 7 votes.items },
 }
 
@@ -43,15 +44,14 @@ impl Tables {
     ghost use Rattle.std.specs.Prelude.{◌≡◌, ◌<◌, ◌≤◌, ◌+◌, ◌==◌, ◌&&◌, ℕ, [], ◌∷◌, Some, IfOk, IfSome, slice_get, slice_set, IsTrue, ◌↔◌, if◌then◌else◌};
     ghost use Rattle.std.specs.Option.{option_map, option_or};
     ghost use Rattle.mb_base.specs.Shapes.{host_count, span};
-    ghost use Rattle.mb_parts.specs.Spelling.{request_bytes};
-    ghost use Rattle.mb_msg.specs.Bodies.{body_digest};
-    ghost use Rattle.mb_parts.specs.Fits.{IsCounter, FitsRequest};
+    ghost use Rattle.mb_parts.specs.Spelling.{batch_bytes};
+    ghost use Rattle.mb_msg.specs.Bodies.{body_digest, whole_body};
+    ghost use Rattle.mb_parts.specs.Fits.{IsCounter, FitsBatch};
     ghost use Rattle.mb_msg.specs.declared.stamped.Stamped.TheVariants as stamped;
     ghost use Rattle.mb_model.specs.Histories.{Identity, History, Entry, gate};
     ghost use Rattle.mb_model.specs.Positions.{counts_at, slot_at, matching};
-    ghost use Rattle.mb_model.specs.Held.{whole_body};
     ghost use Rattle.mb_core.specs.Store.{Pairs};
-    ghost use Rattle.mb_core.specs.Represents.{RepresentsTables, Brings, kept_vote};
+    ghost use Rattle.mb_core.specs.Represents.{RepresentsTables, Holds, kept_vote};
 
     /// Nothing accepted yet.
     pub fn make(alloc: Global, shape: Shape) -> Result<Tables, NoMemory>
@@ -79,7 +79,7 @@ impl Tables {
     pub fn slot_at(&self, pos: Pos) -> Option<&KnownSlot>
         ensures known { (s : Identity Pairs) (d : History) → RepresentsTables s self.now d → option_map (λ k. k.now) result ≡ slot_at s d pos }
         ensures within { IfSome result (λ _. (1 ≤ pos) × (pos ≤ span self.now.shape)) }
-        ensures fits { IfSome result (λ k. IsCounter k.now.counter × ((r : Request) → k.now.request ≡ Some r → FitsRequest self.now.shape r)) }
+        ensures fits { IfSome result (λ k. IsCounter k.now.counter × ((b : Batch) → k.now.batch ≡ Some b → FitsBatch self.now.shape b)) }
     {
         if !self.in_window(pos) {
             return None;
@@ -89,7 +89,7 @@ impl Tables {
 
     /// How many hosts have this vote at a position of the window.
     pub fn matching(&self, pos: Pos, vote: &Vote) -> u8
-        ensures { (s : Identity Pairs) (d : History) → RepresentsTables s self.now d → result ≡ matching s d VIEW pos vote.now }
+        ensures { (s : Identity Pairs) (d : History) → RepresentsTables s self.now d → result ≡ matching s d pos vote.now }
     {
         if !self.in_window(pos) {
             return 0;
@@ -118,14 +118,14 @@ impl Tables {
         pos: Pos,
         ui: &Ui,
         digest: Digest,
-        request: Option<Request>,
+        batch: Option<Batch>,
     )
         requires host { ui.now.host < host_count self.old.shape }
         requires counter { IsCounter ui.now.counter }
-        requires fits { (r : Request) → request ≡ Some r → FitsRequest self.old.shape r }
+        requires fits { (b : Batch) → batch ≡ Some b → FitsBatch self.old.shape b }
         ensures shape { self.new.shape ≡ self.old.shape }
-        ensures stands { (s : Identity Pairs) (d : History) (e : Entry) (m : Prepare) → RepresentsTables s self.old d → Brings s.host e (stamped.Prepare m)
-            → m.view ≡ view → m.pos ≡ pos → m.ui ≡ ui.now → body_digest request_bytes m.body ≡ digest → whole_body m.body ≡ request
+        ensures stands { (s : Identity Pairs) (d : History) (e : Entry) (m : Prepare) → RepresentsTables s self.old d → Holds s.host e (stamped.Prepare m)
+            → m.view ≡ view → m.pos ≡ pos → m.ui ≡ ui.now → body_digest batch_bytes m.body ≡ digest → whole_body m.body ≡ batch
             → ui.now.counter ≡ (gate d ui.now.host).counter + 1 → RepresentsTables s self.new (e ∷ d) }
     {
         self.fronts[usize::from(ui.host)] = ui.counter;
@@ -146,17 +146,17 @@ impl Tables {
                 counter: ui.counter,
                 cert: ui.cert,
                 digest,
-                request,
+                batch,
             },
         );
     }
 
-    /// Takes a COMMIT for the PREPARE of this counter: it is its sender's vote. `digest` is that of the request.
+    /// Takes a COMMIT for the PREPARE of this counter: it is its sender's vote. `digest` is that of the batch.
     pub fn take_commit(&mut self, view: View, pos: Pos, ui: &Ui, counter: Counter, digest: Digest)
         requires { ui.now.host < host_count self.old.shape }
         ensures shape { self.new.shape ≡ self.old.shape }
-        ensures stands { (s : Identity Pairs) (d : History) (e : Entry) (m : Commit) → RepresentsTables s self.old d → Brings s.host e (stamped.Commit m)
-            → m.view ≡ view → m.pos ≡ pos → m.counter ≡ counter → m.ui ≡ ui.now → body_digest request_bytes m.body ≡ digest
+        ensures stands { (s : Identity Pairs) (d : History) (e : Entry) (m : Commit) → RepresentsTables s self.old d → Holds s.host e (stamped.Commit m)
+            → m.view ≡ view → m.pos ≡ pos → m.counter ≡ counter → m.ui ≡ ui.now → body_digest batch_bytes m.body ≡ digest
             → ui.now.counter ≡ (gate d ui.now.host).counter + 1 → RepresentsTables s self.new (e ∷ d) }
     {
         self.fronts[usize::from(ui.host)] = ui.counter;
@@ -210,7 +210,7 @@ impl Tables {
         requires above { LOW < pos }
         requires within { pos ≤ LOW + span self.old.shape }
         requires counter { IsCounter slot.counter }
-        requires fits { (r : Request) → slot.request ≡ Some r → FitsRequest self.old.shape r }
+        requires fits { (b : Batch) → slot.batch ≡ Some b → FitsBatch self.old.shape b }
         ensures slots { (i : ℕ) → i < span self.old.shape
             → slice_get self.new.slots.items i ≡ (if pos == LOW + i + 1 then option_map (λ kept. option_or kept (Some slot)) (slice_get self.old.slots.items i) else slice_get self.old.slots.items i) }
         ensures shape { self.new.shape ≡ self.old.shape }

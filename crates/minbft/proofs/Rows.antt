@@ -15,13 +15,13 @@ use Rattle.mb_sched.specs.declared.report.ClientLine.{ClientLine}
 use Rattle.mb_sched.specs.declared.report.Word.TheVariants as word
 use Rattle.mb_sched.specs.Words.{operation_of as bytes_of_word}
 use Rattle.mb_sched.specs.Schedules.{schedule_of, contents}
-use Rattle.mb_sched.specs.Headers.{header_by}
 use Rattle.mb_sched.specs.Report.{report_text}
 use Rattle.mb_theory.proofs.WorldsOnLiterals.{worlds_on_literals}
 use Rattle.mb_sched.proofs.OnLiterals.{texts_on_literals}
 use Rattle.mb_core.specs.Store.{key_at, operation_at, operation_of, with_value}
 use Rattle.minbft.specs.World.{system_of, world}
-use Rattle.minbft.specs.Reports.{refusals, report_of}
+use Rattle.mb_theory.specs.Refusals.{refusals}
+use Rattle.minbft.specs.Reports.{report_of}
 
 -- what an answer unfolds to run schedules and to report
 unfoldable runs_on_literals : ⊤
@@ -78,9 +78,9 @@ tag_1 = hex "342078bff1219e92ff095cc5bbe93b420c0dd0430534491cbb81ab39880727d7"
 abbrev tag_2 : Bytes
 tag_2 = hex "b3fe5ac2bc215a49c0b7464168bcb2e8aecdd95017a892008602dbd6a03a8dbd"
 
--- it stands at a position of the line
+-- it stands alone at a position of the line
 abbrev fresh_put : ℕ → ℕ → Bytes → Slot
-fresh_put pos client tag = record { pos = pos; request = record { client = client; seq = 1; op = put_a; tag = tag }; fresh = true }
+fresh_put pos client tag = record { pos = pos; requests = record { request = record { client = client; seq = 1; op = put_a; tag = tag }; fresh = true } ∷ [] }
 
 -- a host with so many positions executed and so many messages stamped
 abbrev host_at : ℕ → ℕ → ℕ → HostLine
@@ -110,19 +110,19 @@ unfolding runs_on_literals texts_on_literals
 one_put = refl
 
 one_put_text : Replays put
-    ("minbft schedule 1"
+    ("minbft schedule 2"
     ∷ "f 1" ∷ "k 4" ∷ "clients 1" ∷ zero_secret ∷ "faulty"
     ∷ "ask c0 010161000131" ∷ "give 1 h0" ∷ "give 2 h1" ∷ "give 2 h2" ∷ "give 3 h0" ∷ [])
-    ("minbft report 1"
+    ("minbft report 2"
     ∷ "events 5 messages 7"
     ∷ "line 1"
-    ∷ "slot 1 c0 1 fresh 010161000131"
+    ∷ "slot 1 0 c0 1 fresh 010161000131"
     ∷ "host h0 view 0 open exec 1 low 0 log 1 longest 1"
     ∷ "host h1 view 0 open exec 1 low 0 log 1 longest 1"
     ∷ "host h2 view 0 open exec 1 low 0 log 1 longest 1"
     ∷ "client c0 asked 1 accepted 0"
     ∷ "end" ∷ [])
-unfolding texts_on_literals header_by
+unfolding texts_on_literals
 one_put_text = (refl, ap report_text one_put)
 
 -- ---- nothing happens
@@ -145,9 +145,9 @@ unfolding runs_on_literals texts_on_literals
 empty_schedule = refl
 
 empty_schedule_text : Replays empty
-    ("minbft schedule 1"
+    ("minbft schedule 2"
     ∷ "f 1" ∷ "k 4" ∷ "clients 1" ∷ zero_secret ∷ "faulty" ∷ [])
-    ("minbft report 1"
+    ("minbft report 2"
     ∷ "events 0 messages 0"
     ∷ "line 0"
     ∷ "host h0 view 0 open exec 0 low 0 log 0 longest 0"
@@ -155,7 +155,7 @@ empty_schedule_text : Replays empty
     ∷ "host h2 view 0 open exec 0 low 0 log 0 longest 0"
     ∷ "client c0 asked 0 accepted 0"
     ∷ "end" ∷ [])
-unfolding texts_on_literals header_by
+unfolding texts_on_literals
 empty_schedule_text = (refl, ap report_text empty_schedule)
 
 -- ---- host 2 gets the COMMIT and not the PREPARE, and takes the PREPARE from the COMMIT
@@ -178,19 +178,19 @@ unfolding runs_on_literals texts_on_literals
 commit_first = refl
 
 commit_first_text : Replays only_commit
-    ("minbft schedule 1"
+    ("minbft schedule 2"
     ∷ "f 1" ∷ "k 4" ∷ "clients 1" ∷ zero_secret ∷ "faulty"
     ∷ "ask c0 010161000131" ∷ "give 1 h0" ∷ "give 2 h1" ∷ "give 3 h2" ∷ [])
-    ("minbft report 1"
+    ("minbft report 2"
     ∷ "events 4 messages 6"
     ∷ "line 1"
-    ∷ "slot 1 c0 1 fresh 010161000131"
+    ∷ "slot 1 0 c0 1 fresh 010161000131"
     ∷ "host h0 view 0 open exec 0 low 0 log 1 longest 1"
     ∷ "host h1 view 0 open exec 1 low 0 log 1 longest 1"
     ∷ "host h2 view 0 open exec 1 low 0 log 1 longest 1"
     ∷ "client c0 asked 1 accepted 0"
     ∷ "end" ∷ [])
-unfolding texts_on_literals header_by
+unfolding texts_on_literals
 commit_first_text = (refl, ap report_text commit_first)
 
 -- ---- the same COMMIT again is stale
@@ -213,20 +213,20 @@ unfolding runs_on_literals texts_on_literals
 repeated_commit = refl
 
 repeated_commit_text : Replays commit_twice
-    ("minbft schedule 1"
+    ("minbft schedule 2"
     ∷ "f 1" ∷ "k 4" ∷ "clients 1" ∷ zero_secret ∷ "faulty"
     ∷ "ask c0 010161000131" ∷ "give 1 h0" ∷ "give 2 h1" ∷ "give 3 h2" ∷ "give 3 h2" ∷ [])
-    ("minbft report 1"
+    ("minbft report 2"
     ∷ "events 5 messages 6"
     ∷ "line 1"
-    ∷ "slot 1 c0 1 fresh 010161000131"
+    ∷ "slot 1 0 c0 1 fresh 010161000131"
     ∷ "refused 5 stale 2"
     ∷ "host h0 view 0 open exec 0 low 0 log 1 longest 1"
     ∷ "host h1 view 0 open exec 1 low 0 log 1 longest 1"
     ∷ "host h2 view 0 open exec 1 low 0 log 1 longest 1"
     ∷ "client c0 asked 1 accepted 0"
     ∷ "end" ∷ [])
-unfolding texts_on_literals header_by
+unfolding texts_on_literals
 repeated_commit_text = (refl, ap report_text repeated_commit)
 
 -- ---- host 1 gets the third PREPARE before the second: it is refused, and taken once it is the next
@@ -249,15 +249,15 @@ unfolding runs_on_literals texts_on_literals
 out_of_order = refl
 
 out_of_order_text : Replays mixed_up
-    ("minbft schedule 1"
+    ("minbft schedule 2"
     ∷ "f 1" ∷ "k 4" ∷ "clients 3" ∷ zero_secret ∷ "faulty"
     ∷ "ask c0 010161000131" ∷ "ask c1 010161000131" ∷ "ask c2 010161000131" ∷ "give 1 h0" ∷ "give 2 h0" ∷ "give 3 h0" ∷ "give 4 h1" ∷ "give 6 h1" ∷ "give 5 h1" ∷ "give 6 h1" ∷ [])
-    ("minbft report 1"
+    ("minbft report 2"
     ∷ "events 10 messages 12"
     ∷ "line 3"
-    ∷ "slot 1 c0 1 fresh 010161000131"
-    ∷ "slot 2 c1 1 fresh 010161000131"
-    ∷ "slot 3 c2 1 fresh 010161000131"
+    ∷ "slot 1 0 c0 1 fresh 010161000131"
+    ∷ "slot 2 0 c1 1 fresh 010161000131"
+    ∷ "slot 3 0 c2 1 fresh 010161000131"
     ∷ "refused 8 ahead 2"
     ∷ "host h0 view 0 open exec 0 low 0 log 3 longest 3"
     ∷ "host h1 view 0 open exec 3 low 0 log 3 longest 3"
@@ -266,7 +266,7 @@ out_of_order_text : Replays mixed_up
     ∷ "client c1 asked 1 accepted 0"
     ∷ "client c2 asked 1 accepted 0"
     ∷ "end" ∷ [])
-unfolding texts_on_literals header_by
+unfolding texts_on_literals
 out_of_order_text = (refl, ap report_text out_of_order)
 
 -- ---- among five hosts three votes are needed
@@ -289,13 +289,13 @@ unfolding runs_on_literals texts_on_literals
 five_hosts = refl
 
 five_hosts_text : Replays put_in_five
-    ("minbft schedule 1"
+    ("minbft schedule 2"
     ∷ "f 2" ∷ "k 4" ∷ "clients 1" ∷ zero_secret ∷ "faulty"
     ∷ "ask c0 010161000131" ∷ "give 1 h0" ∷ "give 2 h1" ∷ "give 2 h2" ∷ "give 3 h2" ∷ [])
-    ("minbft report 1"
+    ("minbft report 2"
     ∷ "events 5 messages 5"
     ∷ "line 1"
-    ∷ "slot 1 c0 1 fresh 010161000131"
+    ∷ "slot 1 0 c0 1 fresh 010161000131"
     ∷ "host h0 view 0 open exec 0 low 0 log 1 longest 1"
     ∷ "host h1 view 0 open exec 0 low 0 log 1 longest 1"
     ∷ "host h2 view 0 open exec 1 low 0 log 1 longest 1"
@@ -303,7 +303,7 @@ five_hosts_text : Replays put_in_five
     ∷ "host h4 view 0 open exec 0 low 0 log 0 longest 0"
     ∷ "client c0 asked 1 accepted 0"
     ∷ "end" ∷ [])
-unfolding texts_on_literals header_by
+unfolding texts_on_literals
 five_hosts_text = (refl, ap report_text five_hosts)
 
 -- ---- a request that was executed is answered again with the stored reply
@@ -326,28 +326,28 @@ unfolding runs_on_literals texts_on_literals
 asked_again = refl
 
 asked_again_text : Replays put_and_again
-    ("minbft schedule 1"
+    ("minbft schedule 2"
     ∷ "f 1" ∷ "k 4" ∷ "clients 1" ∷ zero_secret ∷ "faulty"
     ∷ "ask c0 010161000131" ∷ "give 1 h0" ∷ "give 2 h1" ∷ "give 2 h2" ∷ "give 3 h0" ∷ "give 1 h1" ∷ [])
-    ("minbft report 1"
+    ("minbft report 2"
     ∷ "events 6 messages 8"
     ∷ "line 1"
-    ∷ "slot 1 c0 1 fresh 010161000131"
+    ∷ "slot 1 0 c0 1 fresh 010161000131"
     ∷ "host h0 view 0 open exec 1 low 0 log 1 longest 1"
     ∷ "host h1 view 0 open exec 1 low 0 log 1 longest 1"
     ∷ "host h2 view 0 open exec 1 low 0 log 1 longest 1"
     ∷ "client c0 asked 1 accepted 0"
     ∷ "end" ∷ [])
-unfolding texts_on_literals header_by
+unfolding texts_on_literals
 asked_again_text = (refl, ap report_text asked_again)
 
 -- all messages: REQUEST, PREPARE, a COMMIT and a REPLY of each backup, the primary's REPLY, and the first REPLY again
 asked_again_messages : (world put_and_again 6).pool ≡
     hex "010000000000000000010006010161000131d224d18848a0e121edcdd7d7324cb2e3d8650e9368efe69d214adad8c1cda3ab"
-    ∷ hex "0201000000000000000000000000000000010000000000000000010006010161000131d224d18848a0e121edcdd7d7324cb2e3d8650e9368efe69d214adad8c1cda3ab000000000000000001bff6d709d52c3fceb491d71634b336009e0c109ddf1e15630d25f25d0ce9869e"
-    ∷ hex "0301000000000000000000000000000000010000000000000001bff6d709d52c3fceb491d71634b336009e0c109ddf1e15630d25f25d0ce9869e0000000000000000010006010161000131d224d18848a0e121edcdd7d7324cb2e3d8650e9368efe69d214adad8c1cda3ab0100000000000000018d0adc3d17a1147db2fb6817811af11b7527554b8ef6d949f42dd7fa2880669b"
+    ∷ hex "020100000000000000000000000000000001010000000000000000010006010161000131d224d18848a0e121edcdd7d7324cb2e3d8650e9368efe69d214adad8c1cda3ab0000000000000000015ed860386890b16fb24733367832608234efb7ac189a89f5430ab072c3adddc7"
+    ∷ hex "03010000000000000000000000000000000100000000000000015ed860386890b16fb24733367832608234efb7ac189a89f5430ab072c3adddc7010000000000000000010006010161000131d224d18848a0e121edcdd7d7324cb2e3d8650e9368efe69d214adad8c1cda3ab010000000000000001c4123314e785513c336c9c7b823f9588c7f7a01a000497fa89bb22c67339aaf1"
     ∷ hex "04010000000000000000010000000000000001000100b5ff78955a87b1a0037a45ef793207c414d13c0c373990fcb1c55bec9c2d1d11"
-    ∷ hex "0301000000000000000000000000000000010000000000000001bff6d709d52c3fceb491d71634b336009e0c109ddf1e15630d25f25d0ce9869e0000000000000000010006010161000131d224d18848a0e121edcdd7d7324cb2e3d8650e9368efe69d214adad8c1cda3ab020000000000000001fa5527edfa90fca89ce122a18092fea63c14955b5aec38694c74bde499df5214"
+    ∷ hex "03010000000000000000000000000000000100000000000000015ed860386890b16fb24733367832608234efb7ac189a89f5430ab072c3adddc7010000000000000000010006010161000131d224d18848a0e121edcdd7d7324cb2e3d8650e9368efe69d214adad8c1cda3ab020000000000000001da0592f3b687185ea07f047d154da634f91730fb7140d68346d8d53026bcbd02"
     ∷ hex "040200000000000000000100000000000000010001000c285911243eb3a2c421f3dfef1335887bd9b91f314bfe101c67cf00cf63c085"
     ∷ hex "040000000000000000000100000000000000010001004bc8c09d10bf25058bca26fdda87c5cae5a6ac9e949035072fb1ed7c1f7e51c8"
     ∷ hex "04010000000000000000010000000000000001000100b5ff78955a87b1a0037a45ef793207c414d13c0c373990fcb1c55bec9c2d1d11"
@@ -370,13 +370,13 @@ longer_run = record {
 }
 
 longer_run_text : Replays longer_run
-    ("minbft schedule 1"
+    ("minbft schedule 2"
     ∷ "f 1" ∷ "k 32" ∷ "clients 3" ∷ "secret b725c402c94577fbed17ff04b8701d890d16e052df633ba197b56433ec698cf6" ∷ "faulty"
     ∷ "ask c1 01016100023232" ∷ "give 1 h0" ∷ "give 1 h1" ∷ "give 1 h2" ∷ "give 2 h1" ∷ "give 3 h0" ∷ "give 3 h2" ∷ "give 4 h1" ∷ "give 6 h0" ∷ "give 6 h1" ∷ "give 4 h2" ∷ "give 5 h0" ∷ "give 2 h2" ∷ "give 2 h2" ∷ "ask c0 010163000131" ∷ "give 8 h0" ∷ "give 8 h1" ∷ "give 8 h2" ∷ "ask c0 01016100023132" ∷ [])
-    ("minbft report 1"
+    ("minbft report 2"
     ∷ "events 19 messages 10"
     ∷ "line 1"
-    ∷ "slot 1 c1 1 fresh 01016100023232"
+    ∷ "slot 1 0 c1 1 fresh 01016100023232"
     ∷ "refused 13 stale 2"
     ∷ "refused 14 stale 2"
     ∷ "host h0 view 0 open exec 1 low 0 log 2 longest 2"
@@ -386,5 +386,44 @@ longer_run_text : Replays longer_run
     ∷ "client c1 asked 1 accepted 0"
     ∷ "client c2 asked 0 accepted 0"
     ∷ "end" ∷ [])
-unfolding runs_on_literals texts_on_literals header_by
+unfolding runs_on_literals texts_on_literals
 longer_run_text = (refl, refl)
+
+-- ---- six clients ask at once: the primary orders four requests, and the two that wait together once it has executed one
+
+abbrev three_hosts_six_clients : Shape
+three_hosts_six_clients = record { f = 1; k = 8; clients = 6; faults_in = (omega arith, omega arith); interval_in = (omega arith, omega arith); clients_in = (omega arith, omega arith) }
+
+abbrev six_at_once : Schedule
+six_at_once = record {
+  shape = three_hosts_six_clients;
+  secret = replicate 32 0;
+  faulty_hosts = replicate 3 false;
+  faulty_clients = replicate 6 false;
+  events = Ask 0 put_a ∷ Ask 1 put_a ∷ Ask 2 put_a ∷ Ask 3 put_a ∷ Ask 4 put_a ∷ Ask 5 put_a ∷ Give 1 0 ∷ Give 2 0 ∷ Give 3 0 ∷ Give 4 0 ∷ Give 5 0 ∷ Give 6 0 ∷ Give 7 1 ∷ Give 11 0 ∷ Give 8 1 ∷ Give 9 1 ∷ Give 10 1 ∷ Give 14 1 ∷ [];
+}
+
+two_in_one_batch : Replays six_at_once
+    ("minbft schedule 2" ∷ "f 1" ∷ "k 8" ∷ "clients 6" ∷ zero_secret ∷ "faulty"
+    ∷ "ask c0 010161000131" ∷ "ask c1 010161000131" ∷ "ask c2 010161000131" ∷ "ask c3 010161000131" ∷ "ask c4 010161000131" ∷ "ask c5 010161000131" ∷ "give 1 h0" ∷ "give 2 h0" ∷ "give 3 h0" ∷ "give 4 h0" ∷ "give 5 h0" ∷ "give 6 h0" ∷ "give 7 h1" ∷ "give 11 h0" ∷ "give 8 h1" ∷ "give 9 h1" ∷ "give 10 h1" ∷ "give 14 h1" ∷ [])
+    ("minbft report 2"
+    ∷ "events 18 messages 23"
+    ∷ "line 5"
+    ∷ "slot 1 0 c0 1 fresh 010161000131"
+    ∷ "slot 2 0 c1 1 fresh 010161000131"
+    ∷ "slot 3 0 c2 1 fresh 010161000131"
+    ∷ "slot 4 0 c3 1 fresh 010161000131"
+    ∷ "slot 5 0 c4 1 fresh 010161000131"
+    ∷ "slot 5 1 c5 1 fresh 010161000131"
+    ∷ "host h0 view 0 open exec 1 low 0 log 5 longest 5"
+    ∷ "host h1 view 0 open exec 5 low 0 log 5 longest 5"
+    ∷ "host h2 view 0 open exec 0 low 0 log 0 longest 0"
+    ∷ "client c0 asked 1 accepted 0"
+    ∷ "client c1 asked 1 accepted 0"
+    ∷ "client c2 asked 1 accepted 0"
+    ∷ "client c3 asked 1 accepted 0"
+    ∷ "client c4 asked 1 accepted 0"
+    ∷ "client c5 asked 1 accepted 0"
+    ∷ "end" ∷ [])
+unfolding runs_on_literals texts_on_literals
+two_in_one_batch = (refl, refl)

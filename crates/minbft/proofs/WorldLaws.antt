@@ -1,7 +1,7 @@
 -- What each event does to the tables of a world.
 use Rattle.std.proofs.Common.{◌≡◌, ℕ, zero, suc, ◌+◌, ◌<◌, Bool, true, false, cond, eq-eqb, inl, inr, List, [], ◌∷◌, ◌++◌, length, get_or, set, replicate, map, Option, Some, None, is_some, is_none, Result, Ok, Err, OnOk, refl, sym, ap, subst, ◌∙◌, arith}
 use Rattle.std.specs.List.{range_with_len, fold}
-use Rattle.std.specs.Bool.{then_some}
+use Rattle.std.specs.Prelude.{find, option_map}
 use Rattle.std.specs.Option.{option_to_list}
 use Rattle.std.proofs.lemmas.Bool.{ne_eqb, cases_eq}
 use Rattle.std.proofs.lemmas.List.{append-nil, get_or-set_same, get_or-set_other, get_or_default}
@@ -27,12 +27,13 @@ use Rattle.mb_sched.specs.declared.report.HostLine.{HostLine}
 use Rattle.mb_sched.specs.declared.report.ClientLine.{ClientLine}
 use Rattle.minbft.specs.declared.world.World.{World}
 use Rattle.mb_core.specs.Represents.{IsStep, as_sent}
-use Rattle.minbft.specs.Reports.{refusals, refusal_of, client_line, report_of}
+use Rattle.mb_theory.specs.Refusals.{refusals, refusal_of}
+use Rattle.minbft.specs.Reports.{client_line, report_of}
 use Rattle.minbft.specs.Hosts.{RepresentsHosts, line_of_host, line_of_client}
 use Rattle.mb_model.specs.Clients.{Asker, asks}
 use Rattle.mb_theory.specs.World.{World as WorldState, update, extended, numbered, request_of, client_asks, arrives, steps, give_host}
 use Rattle.mb_theory.specs.WorldSteps.{with_message}
-use Rattle.mb_theory.specs.Stops.{WorldStop, NoSuchMessage}
+use Rattle.mb_theory.specs.Stops.{NoSuchMessage}
 use Rattle.mb_theory.specs.FirstPath.{schedule_of}
 use Rattle.mb_theory.proofs.Asked.{makes_step}
 use Rattle.minbft.specs.World.{system_of, self_of, is_possible}
@@ -167,19 +168,19 @@ a_message m n true e = absurd cc
 a_message m n false e = (refl, cc)
 
 -- Nothing is missing where the message is there.
-none_missing : (o : Option Bytes) (stop : WorldStop) → is_none (then_some (is_none o) stop) ≡ is_some o
-none_missing None stop = refl
-none_missing (Some bytes) stop = refl
+none_missing : (messages : ℕ → Option Bytes) (m : ℕ) (o : Option Bytes) → messages m ≡ o → is_none (option_map NoSuchMessage (find (λ k. is_none (messages k)) (m ∷ []))) ≡ is_some o
+none_missing messages m None at = rw at refl
+none_missing messages m (Some bytes) at = rw at refl
 
 pub is_there : (s : Schedule) (x : WorldState) (e : WorldEvent) (pool : List Bytes) → pool ≡ x.pool → missing_in pool e ≡ None → is_possible s x e ≡ true
 is_there s x (Ask c op) pool same none = refl
-is_there s x (Give m h) pool same none = none_missing (numbered x.pool m) (NoSuchMessage m) ∙ rw (← same) (no_message m (is_some (numbered pool m)) none)
+is_there s x (Give m h) pool same none = none_missing (numbered x.pool) m (numbered x.pool m) refl ∙ rw (← same) (no_message m (is_some (numbered pool m)) none)
 
 pub is_missing : (s : Schedule) (x : WorldState) (e : WorldEvent) (pool : List Bytes) (n : ℕ) → pool ≡ x.pool → missing_in pool e ≡ Some n → (is_possible s x e ≡ false) × (given_message e ≡ Some n)
 is_missing s x (Ask c op) pool n same some = absurd cc
 is_missing s x (Give m h) pool n same some =
     let q = a_message m n (is_some (numbered pool m)) some in
-    (none_missing (numbered x.pool m) (NoSuchMessage m) ∙ rw (← same) q.0, ap Some q.1)
+    (none_missing (numbered x.pool) m (numbered x.pool m) refl ∙ rw (← same) q.0, ap Some q.1)
 
 -- ---- the report
 

@@ -10,7 +10,7 @@ use Rattle.minbft.specs.declared.world.WorldStop.TheVariants as stop
 use Rattle.minbft.specs.declared.replay.RunStop.{RunStop}
 use Rattle.minbft.specs.declared.replay.RunStop.TheVariants as run
 use Rattle.minbft.specs.Hosts.{RepresentsHosts, ArePens}
-use Rattle.minbft.specs.Reports.{refusals}
+use Rattle.mb_theory.specs.Refusals.{refusals}
 use Rattle.mb_sched.specs.Limits.{EventFits}
 use Rattle.mb_theory.specs.World.{World as WorldState, numbered}
 use Rattle.minbft.specs.World.{is_possible, world}

@@ -1,4 +1,4 @@
-//! What a host's step leaves in the world: messages, executed requests, and the line of a refusal.
+//! What a host's step leaves in the world: messages, executed batches, and the line of a refusal.
 
 ghost use Rattle.std.specs.Prelude.{◌≡◌, ◌<◌, ◌++◌, ℕ, length, map, fold, IfOk, OnOk};
 ghost use Rattle.std.specs.Option.{option_to_list};
@@ -6,7 +6,7 @@ ghost use Rattle.mb_model.specs.Histories.{History};
 ghost use Rattle.mb_model.specs.HostStep.{transition};
 ghost use Rattle.minbft.specs.Hosts.{AllRun, RepresentsHosts};
 ghost use Rattle.mb_core.specs.Represents.{IsStep};
-ghost use Rattle.minbft.specs.Reports.{refusal_of};
+ghost use Rattle.mb_theory.specs.Refusals.{refusal_of};
 ghost use Rattle.mb_theory.specs.World.{extended, update};
 ghost use Rattle.minbft.specs.World.{self_of};
 

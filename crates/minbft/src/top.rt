@@ -5,7 +5,6 @@ ghost use Rattle.std.specs.Io.KnownBytes.{IsAtEnd};
 ghost use Rattle.mb_base.specs.Shapes.{Bytes};
 ghost use Rattle.mb_edge.specs.Faults.{Rose, HasNoFault};
 ghost use Rattle.mb_edge.specs.Pieces.{ConsumesBetween};
-ghost use Rattle.mb_edge.specs.declared.reading.TheConstants.{PIECE};
 ghost use Rattle.mb_sched.specs.EventLines.{is_number};
 ghost use Rattle.mb_sched.specs.Limits.{ScheduleFits};
 ghost use Rattle.mb_sched.specs.Report.{report_text};
@@ -193,7 +192,7 @@ fn answer_from<S: Source>(alloc: Global, source: &mut S) -> Result<Answer, Unans
     ensures told { IfSome (S.left source.old) (λ text. IfOk result (λ a. Answers text a.status a.text.items)) }
     ensures known { IfOk result (λ a. IsAnswered a.status) }
     ensures ended { IfOk result (λ a. a.status ≡ 0 → IsAtEnd (S.left source.new)) }
-    ensures limit { ConsumesBetween 0 (max_text + PIECE) (S.left source.old) (S.left source.new) }
+    ensures limit { ConsumesBetween 0 (max_text + 1) (S.left source.old) (S.left source.new) }
     ensures fault { IsErrOf result Unanswered.SourceFault → Rose (S.faults source.old) (S.faults source.new) }
     ensures quiet { S.never_fails source.old → HasNoFault (S.faults source.old) (S.faults source.new) (IsErrOf result Unanswered.SourceFault) }
 {
@@ -230,7 +229,7 @@ fn replay<S: Source, K: Sink>(alloc: Global, source: &mut S, sink: &mut K) -> u8
     ensures told { IfSome (S.left source.old) (λ text. Replays text result (device (S.left source.old) (S.faults source.old)) (device (S.left source.new) (S.faults source.new))
         (device (K.written sink.old) (K.faults sink.old)) (device (K.written sink.new) (K.faults sink.new))) }
     ensures ended { result ≡ 0 → IsAtEnd (S.left source.new) }
-    ensures limit { ConsumesBetween 0 (max_text + PIECE) (S.left source.old) (S.left source.new) }
+    ensures limit { ConsumesBetween 0 (max_text + 1) (S.left source.old) (S.left source.new) }
     ensures quiet_source { S.never_fails source.old → HasNoFault (S.faults source.old) (S.faults source.new) (result ≡ 5) }
     ensures quiet_sink { K.never_fails sink.old → HasNoFault (K.faults sink.old) (K.faults sink.new) (result ≡ 6) }
     ensures source_fault { result ≡ 5 → Rose (S.faults source.old) (S.faults source.new) }
@@ -268,8 +267,8 @@ pub fn minbft<S: Source, K: Sink>(
     // The other words.
     ensures usage { command_of (map string_bytes words.now) ≡ None → Says 1 usage_text result (device (K.written sink.old) (K.faults sink.old)) (device (K.written sink.new) (K.faults sink.new)) }
     ensures unbuilt { command_of (map string_bytes words.now) ≡ Some Command.NotBuilt → Says 11 unbuilt_text result (device (K.written sink.old) (K.faults sink.old)) (device (K.written sink.new) (K.faults sink.new)) }
-    // At most the bytes of the longest text and one piece more are taken from the source.
-    ensures limit { ConsumesBetween 0 (max_text + PIECE) (S.left source.old) (S.left source.new) }
+    // At most the bytes of the longest text and one more are taken from the source.
+    ensures limit { ConsumesBetween 0 (max_text + 1) (S.left source.old) (S.left source.new) }
     // A device's status comes only where its count of faults rose, and never where the device is known not to fail.
     ensures quiet_source { S.never_fails source.old → HasNoFault (S.faults source.old) (S.faults source.new) (result ≡ 5) }
     ensures quiet_sink { K.never_fails sink.old → HasNoFault (K.faults sink.old) (K.faults sink.new) (result ≡ 6) }

@@ -44,7 +44,7 @@ pub struct World {
     /// The messages in the order in which they were made. Message 1 is the first.
     pool: Vec<Items<u8>>,
     hosts: Vec<Replica>,
-    /// The one list of executed requests.
+    /// The one list of executed batches.
     line: Vec<Slot>,
     refused: Vec<RefusedLine>,
     /// How many events happened.
@@ -208,6 +208,7 @@ impl World {
             outcome,
             sent,
             executed,
+            ..
         } = step_of(alloc, &mut self.hosts, host, &Event::Given(bytes))?;
         add_messages(&mut self.pool, sent)?;
         extend_line(&mut self.line, executed)?;

@@ -12,4 +12,4 @@ returns-clause-stands c = λ d st passes.
     let m = c.args.prepare in
     let next = accepted_next (me r) d (stamped.Prepare m) st.own passes in
     accepted_stamped (me r) r _ d (stamped.Prepare m) refl refl refl refl refl refl refl passes st
-    (c.take_prepare.ensures.stands (me r) d (Accepted (message.Prepare m)) m st.tables (inl refl) refl refl refl (sym c.request_digest-digest.ensures) (sym c.whole_request-request.ensures) next.next)
+    (c.take_prepare.ensures.stands (me r) d (Accepted (message.Prepare m)) m st.tables (inl refl) refl refl refl (sym c.batch_digest-digest.ensures) (sym c.whole_batch-batch.ensures) next.next)

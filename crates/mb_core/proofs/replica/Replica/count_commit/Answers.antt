@@ -12,4 +12,4 @@ returns-clause-stands c = λ d st passes.
     let m = c.args.commit.now in
     let next = accepted_next (me r) d (stamped.Commit m) st.own passes in
     accepted_stamped (me r) r _ d (stamped.Commit m) refl refl refl refl refl refl refl passes st
-    (c.take_commit.ensures.stands (me r) d (Accepted (message.Commit m)) m st.tables (inl refl) refl refl refl refl (sym c.request_digest.ensures) next.next)
+    (c.take_commit.ensures.stands (me r) d (Accepted (message.Commit m)) m st.tables (inl refl) refl refl refl refl (sym c.batch_digest.ensures) next.next)

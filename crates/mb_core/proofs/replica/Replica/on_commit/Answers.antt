@@ -13,7 +13,7 @@ unfolding give_stamped
 returns-clause-stands c = λ done x st.
     let passes : stamped_refusal (me c.args.self.now) x.history (stamped.Commit c.args.commit) ≡ None = sym (c.in_ok-outcome.ensures x.history st.history) ∙ c.in_default.is in
     let noted : Progress = note (compared_in (me c.args.self.now) x.history (stamped.Commit c.args.commit)) x in
-    rw passes (refl, c.in_ok-accept_commit.ensures.stands done noted (record { history = st.history; sent = st.sent; executed = st.executed }) passes)
+    rw passes (refl, c.in_ok-accept_commit.ensures.stands done noted (record { history = st.history; sent = st.sent; executed = st.executed; installed = st.installed }) passes)
 
 pub returns-in-Some-clause-stands : goal.returns-in-Some-clause-stands
 returns-in-Some-clause-stands c = λ done x st. commit_refused c.args.self.now done x c.in-Some.outcome st c.args.commit (sym c.in-Some.is ∙ c.in_ok-outcome.ensures x.history st.history)

@@ -1,4 +1,5 @@
-use Rattle.mb_core.proofs.RuleLaws.{prepare-barred, prepare-open, prepare-named}
+use Rattle.std.proofs.Common.{◌∙◌}
+use Rattle.mb_core.proofs.RuleLaws.{prepare-barred, prepare-open}
 use Rattle.mb_core.proofs.replica.Replica.prepare_due.Goals as goal
 
 pub returns-then-not-may_prepare-clause-named : goal.returns-then-not-may_prepare-clause-named
@@ -6,8 +7,7 @@ returns-then-not-may_prepare-clause-named c = λ d st. prepare-barred c.args.sel
 
 pub returns-in_default-clause-named : goal.returns-in_default-clause-named
 returns-in_default-clause-named c = λ d st.
-    prepare-open c.args.self.now d _ _ st c.if-not-may_prepare.false (c.may_prepare.ensures.may d st) (c.in_default.ensures.first d st)
+    prepare-open c.args.self.now d _ _ st c.if-not-may_prepare.false (c.may_prepare.ensures.may d st) (c.in_default.ensures.batch ∙ c.in_ok-filled.ensures.filled d st)
 
 pub returns-clause-named : goal.returns-clause-named
-returns-clause-named c = λ d st.
-    (prepare-named c.args.self.now d _ _ _ (prepare-open c.args.self.now d _ _ st c.if-not-may_prepare.false (c.may_prepare.ensures.may d st) (c.in-Some.ensures.first d st)) c.in_ok-duplicate.ensures, tt)
+returns-clause-named c = λ d st. (prepare-open c.args.self.now d _ _ st c.if-not-may_prepare.false (c.may_prepare.ensures.may d st) (c.in-Some.ensures.batch ∙ c.in_ok-filled.ensures.filled d st), tt)

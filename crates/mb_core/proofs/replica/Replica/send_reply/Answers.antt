@@ -29,7 +29,7 @@ send-requires c =
     }))
 
 pub returns-clause-sent : goal.returns-clause-sent
-returns-clause-sent c = λ d st.
+returns-clause-sent c = λ d served st.
     let r = c.args.self.now in
     let last : LastReply = c.index.result.now in
     let lt : c.args.client < length r.replies.items = omega (arith, r.replies_len, c.requires.client) in

@@ -13,6 +13,7 @@ returns-then-request-index c =
       rest = search rules;
       served = served-below store_machine (served_of self) self.shape c.args.pos c.args.request.now _ _ last c.if-request-index.true;
       fresh = fresh-below store_machine (served_of self) self.shape c.args.pos c.args.request.now _ _ last c.if-request-index.true;
+      unserved = search rules;
     }
 
 pub returns : goal.returns
@@ -25,6 +26,7 @@ returns c =
       served = served-above store_machine (served_of self) self.shape c.args.pos c.args.request.now _ _ last c.if-request-index.false
           _ _ _ c.as_slice.ensures c.in_ok-result.ensures.state c.in_ok-result.ensures.answer;
       fresh = fresh-above store_machine (served_of self) self.shape c.args.pos c.args.request.now _ _ last c.if-request-index.false;
+      unserved = search rules;
     }
 
 pub invariant_of-self-2 : goal.invariant_of-self-2

@@ -21,7 +21,7 @@ returns-clause-stands c = λ s d e m st is ev ep eu ed er next.
     taken_by s e d (stamped.Prepare m) is (prepare_early s.host e m is) c.args.ui.now c.from.result eu c.from.ensures t c.keep_slot.new.self (c.keep_slot.ensures.shape ∙ c.count_vote.ensures.shape) t.fronts_len c.requires.host next
     (ap (λ v. v.items) (c.keep_slot.ensures.fronts ∙ c.count_vote.ensures.fronts))
     (λ i lt. slot_said _ _ _ _ (prepare_slot s.host e m is 0 (0 + i + 1))
-    (prepare_slot-kept m c.args.view c.args.pos i ev ep c.args.ui.now c.args.digest c.args.request _ _ _ (ap (λ v. slice_get v.items i) c.count_vote.ensures.slots) eu ed er kept.0
+    (prepare_slot-kept m c.args.view c.args.pos i ev ep c.args.ui.now c.args.digest c.args.batch _ _ _ (ap (λ v. slice_get v.items i) c.count_vote.ensures.slots) eu ed er kept.0
     (c.keep_slot.ensures.slots i (subst (λ (x : Shape). i < span x) (sym c.count_vote.ensures.shape) lt))))
     (λ i h lt of. vote_said _ _ _ _ (prepare_vote s.host e m is h 0 (0 + i + 1))
     (vote-kept h m.view m.pos i m.body m.ui m.ui.counter c.args.view c.args.pos ev ep c.args.ui.now c.args.digest c.args.ui.now.counter _ _ eu ed (ap (λ u. u.counter) eu) kept.0

@@ -1,5 +1,5 @@
 use Rattle.std.proofs.Common.{sym, refl}
-use Rattle.minbft.specs.Reports.{refusals}
+use Rattle.mb_theory.specs.Refusals.{refusals}
 use Rattle.minbft.proofs.WorldLaws.{nothing_asked}
 use Rattle.minbft.proofs.world.World.make.Goals as goal
 
