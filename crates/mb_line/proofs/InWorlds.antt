@@ -1,0 +1,15 @@
+-- There is one list in each world that nothing stopped, and accepted results are the service's.
+use Rattle.std.proofs.Common.{ℕ}
+use Rattle.mb_theory.specs.Hashed.{HashesApart}
+use Rattle.mb_theory.specs.WorldSteps.{world}
+use Rattle.mb_theory.specs.Stops.{IsUnstopped}
+use Rattle.mb_known.proofs.Facts.{Facts}
+use Rattle.mb_known.proofs.FactsOf.{facts_in}
+use Rattle.mb_line.specs.Worlds.{WorldsHaveOneList}
+use Rattle.mb_line.proofs.SafeWorlds.{safe_from}
+use Rattle.mb_line.proofs.ServedWorlds.{results_from}
+
+pub worlds_have_one_list : (S : Type 0) → WorldsHaveOneList S
+worlds_have_one_list S system built service fits k le none apart =
+    let facts : (k : ℕ) → IsUnstopped system k → HashesApart (world system k).hashed → Facts system (world system k) = facts_in system built fits in
+    record { safe = safe_from system facts fits service k none apart; results = results_from system facts fits service k none apart }

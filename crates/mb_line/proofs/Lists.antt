@@ -1,0 +1,55 @@
+-- Elements and places of lists, and one element more at the end.
+use Rattle.std.proofs.Common.{◌≡◌, ℕ, zero, suc, ◌+◌, ◌<◌, List, [], ◌∷◌, ◌++◌, length, refl, ap, subst, ◌∙◌, inl, inr, ◌⊎◌, arith, Some}
+use Rattle.std.specs.Prelude.{slice_get, take}
+use Rattle.std.specs.List.{AllByRecursion}
+use Rattle.std.proofs.lemmas.List.{take_more}
+use Rattle.std.proofs.lemmas.Option.{get_or_from_slice_get, slice_get_within}
+
+module _ {A : Type 0} where
+  -- ---- what holds of all elements
+
+  pub all_append : (P : A → Type 0) (xs ys : List A) → AllByRecursion P xs → AllByRecursion P ys → AllByRecursion P (xs ++ ys)
+  all_append P [] ys h k = k
+  all_append P (x ∷ xs) ys h k = (h.0, all_append P xs ys h.1 k)
+
+  pub all_at : (P : A → Type 0) (xs : List A) (i : ℕ) (x : A) → AllByRecursion P xs → slice_get xs i ≡ Some x → P x
+  all_at P [] i x h e = absurd cc
+  all_at P (y ∷ xs) zero x h e = let same : y ≡ x = cc in subst P same h.0
+  all_at P (y ∷ xs) (suc i) x h e = all_at P xs i x h.1 e
+
+  -- ---- places
+
+  -- what stands at a place stays there
+  pub get_more : (xs ys : List A) (i : ℕ) (x : A) → slice_get xs i ≡ Some x → slice_get (xs ++ ys) i ≡ Some x
+  get_more [] ys i x e = absurd cc
+  get_more (y ∷ xs) ys zero x e = e
+  get_more (y ∷ xs) ys (suc i) x e = get_more xs ys i x e
+
+  -- what stands in a list with one more stood there before, or is the last
+  pub get_last : (xs : List A) (y : A) (i : ℕ) (x : A) → slice_get (xs ++ y ∷ []) i ≡ Some x → (slice_get xs i ≡ Some x) ⊎ ((i ≡ length xs) × (y ≡ x))
+  get_last [] y zero x e = inr (refl, cc)
+  get_last [] y (suc i) x e = absurd cc
+  get_last (z ∷ xs) y zero x e = inl e
+  get_last (z ∷ xs) y (suc i) x e = elim (get_last xs y i x e) [
+    | inl before ↦ inl before
+    | inr (at, is) ↦ inr (ap suc at, is)
+  ]
+
+  pub get_push : (xs : List A) (y : A) → slice_get (xs ++ y ∷ []) (length xs) ≡ Some y
+  get_push [] y = refl
+  get_push (x ∷ xs) y = get_push xs y
+
+  pub get_there : (xs : List A) (i : ℕ) → i < length xs → (x : A) × (slice_get xs i ≡ Some x)
+  get_there [] i lt = absurd (omega arith)
+  get_there (x ∷ xs) zero lt = (x, refl)
+  get_there (x ∷ xs) (suc i) lt = get_there xs i (omega arith)
+
+  pub take_next : (xs : List A) (i : ℕ) (x : A) → slice_get xs i ≡ Some x → take (i + 1) xs ≡ take i xs ++ x ∷ []
+  take_next xs i x e = take_more xs i x (slice_get_within xs i x e) ∙ ap (λ (y : A). take i xs ++ y ∷ []) (get_or_from_slice_get xs i x x e)
+
+  -- ---- lists that grow
+
+  -- a list is another one with more at its end
+  pub record IsLonger (short long : List A) : Type 0 where
+    pub rest : List A
+    pub is : short ++ rest ≡ long

@@ -1,0 +1,258 @@
+-- The plan that a correct primary announces is a good one: it is made of VIEW_CHANGEs that it holds, each accepted as current or its own.
+use Rattle.std.proofs.Common.{◌≡◌, ℕ, zero, suc, ◌+◌, ◌<◌, ◌≤◌, Bool, true, false, ◌&&◌, ◌||◌, List, [], ◌∷◌, ◌++◌, length, refl, sym, ap, subst, ◌∙◌, inl, inr, eqb, arith, Option, Some, None}
+use Rattle.std.specs.Prelude.{map, take, filter, filter_map, find, not, nat_le, is_none, if◌then◌else◌, ◌==◌}
+use Rattle.std.specs.List.{AllByRecursion, range_with_len, list_any}
+use Rattle.std.proofs.lemmas.Bool.{and_parts, cases_Bool, eqb-true, eqb-false, eq-eqb, ne_eqb, leb-true, lt-ltb, cases_lt}
+use Rattle.std.proofs.lemmas.List.{length-take-le}
+use Rattle.mb_base.specs.Shapes.{host_count, quorum}
+use Rattle.mb_usig.proofs.Laws.{true-same_bytes}
+use Rattle.mb_parts.specs.Claims.{are_rising}
+use Rattle.mb_msg.specs.declared.message.Body.TheVariants.{Whole}
+use Rattle.mb_msg.specs.declared.message.Message.TheVariants as message
+use Rattle.mb_msg.specs.declared.change.ChangeBody.{ChangeBody}
+use Rattle.mb_msg.specs.declared.change.ViewChange.{ViewChange}
+use Rattle.mb_msg.specs.declared.change.NewView.{NewView}
+use Rattle.mb_msg.specs.declared.change.Plan.{Plan}
+use Rattle.mb_msg.specs.declared.stamped.Stamped.TheVariants as stamped
+use Rattle.mb_msg.specs.Plans.{plan_text, plan_end, plan_digest}
+use Rattle.mb_msg.specs.Stamps.{bare_of}
+use Rattle.mb_model.specs.Verified.{verifies}
+use Rattle.mb_model.specs.UsableLogs.{log_fault, is_whole}
+use Rattle.mb_model.specs.Histories.{Entry, Accepted, Stamped, History, Identity, view_of, stamped as all_stamped}
+use Rattle.mb_model.specs.Held.{change_fault, is_current, change_in, arrived, changes_of, by_rising_host, plan_from}
+use Rattle.mb_model.specs.Sending.{next_ui}
+use Rattle.mb_model.specs.Making.{new_view}
+use Rattle.mb_model.proofs.Members.{In}
+use Rattle.mb_model.proofs.Options.{if_some}
+use Rattle.mb_model.proofs.RisingLists.{RiseFrom, rise_found}
+use Rattle.mb_model.proofs.StepArises.{Makes}
+use Rattle.mb_model.proofs.StepHeldEvidence.{announce_seen}
+use Rattle.mb_model.proofs.StepPlanBases.{all_filter, all_append, all_found, all_any}
+use Rattle.mb_theory.specs.WorldEvents.{IsCorrect}
+use Rattle.mb_theory.specs.World.{World, System, self_of}
+use Rattle.mb_known.proofs.Cases.{all_taken, none_is, or_false, some_is, whole_of}
+use Rattle.mb_known.proofs.Rests.{Each, Rests}
+use Rattle.mb_known.proofs.Grown.{IsGivenTo, IsHashed, HasStrings}
+use Rattle.mb_known.proofs.Facts.{Facts, IsKnownBody}
+use Rattle.mb_views.proofs.Follows.{JumpsLed}
+use Rattle.mb_known.proofs.Moments.{IsPast, past_tail, each_at}
+use Rattle.mb_views.proofs.Floors.{arises_then}
+use Rattle.mb_views.proofs.Certified.{stamped_in}
+use Rattle.mb_known.proofs.OwnIssued.{own_stamp}
+use Rattle.mb_views.proofs.UsableChanges.{IsGoodChange}
+use Rattle.mb_views.proofs.HeldChanges.{whole_none, accepted_change}
+use Rattle.mb_views.proofs.GoodPlans.{IsGoodMember, IsGoodPlan}
+
+-- ---- VIEW_CHANGEs of different hosts, by rising host, are as many
+
+abbrev has_host : List ViewChange → ℕ → Bool
+has_host l h = list_any (λ c. c.ui.host == h) l
+
+-- Of each host there is one at most.
+abbrev AreDistinct : List ViewChange → Type 0
+AreDistinct [] = Unit {0}
+AreDistinct (m ∷ l) = (has_host l m.ui.host ≡ false) × AreDistinct l
+
+from_false : (a b : Bool) → a ≡ false → b ≡ false → (a || b) ≡ false
+from_false false b e f = f
+from_false true b e f = absurd cc
+
+less_host : (t : ViewChange → Bool) (l : List ViewChange) (h : ℕ) → has_host l h ≡ false → has_host (filter t l) h ≡ false
+less_host t [] h e = refl
+less_host t (x ∷ l) h e = let b = or_false (x.ui.host == h) (has_host l h) e in elim (cases_Bool (t x)) [
+  | inl stays ↦ rw stays (from_false (x.ui.host == h) (has_host (filter t l) h) b.0 (less_host t l h b.1))
+  | inr goes ↦ rw goes (less_host t l h b.1)
+]
+
+filtered_distinct : (t : ViewChange → Bool) (l : List ViewChange) → AreDistinct l → AreDistinct (filter t l)
+filtered_distinct t [] a = tt
+filtered_distinct t (x ∷ l) a = elim (cases_Bool (t x)) [
+  | inl stays ↦ rw stays (less_host t l x.ui.host a.0, filtered_distinct t l a.1)
+  | inr goes ↦ rw goes (filtered_distinct t l a.1)
+]
+
+taken_host : (n : ℕ) (l : List ViewChange) (h : ℕ) → has_host l h ≡ false → has_host (take n l) h ≡ false
+taken_host zero l h e = refl
+taken_host (suc n) [] h e = refl
+taken_host (suc n) (x ∷ l) h e = let b = or_false (x.ui.host == h) (has_host l h) e in from_false (x.ui.host == h) (has_host (take n l) h) b.0 (taken_host n l h b.1)
+
+taken_distinct : (n : ℕ) (l : List ViewChange) → AreDistinct l → AreDistinct (take n l)
+taken_distinct zero l a = tt
+taken_distinct (suc n) [] a = tt
+taken_distinct (suc n) (x ∷ l) a = (taken_host n l x.ui.host a.0, taken_distinct n l a.1)
+
+more_host : (l : List ViewChange) (m : ViewChange) (h : ℕ) → has_host l h ≡ false → (m.ui.host == h) ≡ false → has_host (l ++ m ∷ []) h ≡ false
+more_host [] m h e o = from_false (m.ui.host == h) false o refl
+more_host (x ∷ l) m h e o = let b = or_false (x.ui.host == h) (has_host l h) e in from_false (x.ui.host == h) (has_host (l ++ m ∷ []) h) b.0 (more_host l m h b.1 o)
+
+pushed_distinct : (l : List ViewChange) (m : ViewChange) → AreDistinct l → AllByRecursion (λ (x : ViewChange). (m.ui.host == x.ui.host) ≡ false) l → AreDistinct (l ++ m ∷ [])
+pushed_distinct [] m a o = (refl, tt)
+pushed_distinct (x ∷ l) m a o = (more_host l m x.ui.host a.0 o.0, pushed_distinct l m a.1 o.1)
+
+others : (m : ViewChange) (l : List ViewChange) → AllByRecursion (λ (x : ViewChange). (m.ui.host == x.ui.host) ≡ false) (filter (λ c. not (c.ui.host == m.ui.host)) l)
+others m [] = tt
+others m (x ∷ l) = elim (cases_Bool (eqb x.ui.host m.ui.host)) [
+  | inl same ↦ rw same (others m l)
+  | inr other ↦ rw other (ne_eqb m.ui.host x.ui.host (λ e. eqb-false x.ui.host m.ui.host other (sym e)), others m l)
+]
+
+-- how many of the numbers from one on have a property
+abbrev many_of : (ℕ → Bool) → ℕ → ℕ → ℕ
+many_of p a zero = 0
+many_of p a (suc n) = (if p a then 1 else 0) + many_of p (a + 1) n
+
+found_any : (t : ViewChange → Bool) (l : List ViewChange) → (list_any t l ≡ true → (m : ViewChange) × (find t l ≡ Some m)) × (list_any t l ≡ false → find t l ≡ None)
+found_any t [] = (λ e. absurd cc, λ e. refl)
+found_any t (x ∷ l) = let r = found_any t l in elim (cases_Bool (t x)) [
+  | inl here ↦ rw here (λ e. (x, refl), λ e. absurd cc)
+  | inr other ↦ rw other (r.0, r.1)
+]
+
+count_found : (l : List ViewChange) (a n : ℕ) → length (filter_map (λ h. find (λ c. c.ui.host == h) l) (range_with_len a n)) ≡ many_of (has_host l) a n
+count_found l a zero = refl
+count_found l a (suc n) = let r = found_any (λ c. c.ui.host == a) l in elim (cases_Bool (has_host l a)) [
+  | inl there ↦ let m = r.0 there in rw (m.1, there) (omega (arith, count_found l (a + 1) n))
+  | inr none ↦ rw (r.1 none, none) (omega (arith, count_found l (a + 1) n))
+]
+
+unchanged : (p : ℕ → Bool) (k a n : ℕ) → k < a → many_of (λ h. (k == h) || p h) a n ≡ many_of p a n
+unchanged p k a zero lt = refl
+unchanged p k a (suc n) lt = rw (ne_eqb k a (λ e. omega arith), unchanged p k (a + 1) n (omega (arith, lt))) refl
+
+one_more : (p : ℕ → Bool) (k a n : ℕ) → p k ≡ false → a ≤ k → k < a + n → many_of (λ h. (k == h) || p h) a n ≡ 1 + many_of p a n
+one_more p k a zero none low high = absurd (omega (arith, low, high))
+one_more p k a (suc n) none low high = elim (cases_Bool (eqb k a)) [
+  | inl same ↦
+      let e : k ≡ a = eqb-true k a same in
+      let here : p a ≡ false = subst (λ (i : ℕ). p i ≡ false) e none in
+      rw (same, here, unchanged p k (a + 1) n (omega (arith, e))) (omega arith)
+  | inr other ↦ rw (other, one_more p k (a + 1) n none (above k a low (eqb-false k a other)) (omega (arith, high))) (omega arith)
+] where
+  above : (k a : ℕ) → a ≤ k → (k ≡ a → ⊥) → a + 1 ≤ k
+  above k a le ne = elim (cases_lt a k) [ inl lt ↦ omega (arith, lt) | inr ge ↦ absurd (ne (omega (arith, le, ge))) ]
+
+rising_count : (l : List ViewChange) (n : ℕ) → AreDistinct l → AllByRecursion (λ (m : ViewChange). m.ui.host < n) l → many_of (has_host l) 0 n ≡ length l
+rising_count [] n d a = empty 0 n where
+  empty : (a n : ℕ) → many_of (λ h. false) a n ≡ 0
+  empty a zero = refl
+  empty a (suc n) = omega (arith, empty (a + 1) n)
+rising_count (m ∷ l) n d a =
+    let low : m.ui.host < n = a.0 in
+    one_more (has_host l) m.ui.host 0 n d.0 (omega arith) (omega (arith, low)) ∙ ap (λ (k : ℕ). 1 + k) (rising_count l n d.1 a.1) ∙ omega arith
+
+find_good : (P : ViewChange → Type 0) (t : ViewChange → Bool) (l : List ViewChange) → AllByRecursion P l → (m : ViewChange) → find t l ≡ Some m → P m × (t m ≡ true)
+find_good P t [] a m e = absurd cc
+find_good P t (x ∷ l) a m e = elim (cases_Bool (t x)) [
+  | inl here ↦ let is : x ≡ m = some_is x m (rw here at e) in (subst P is a.0, subst (λ (y : ViewChange). t y ≡ true) is here)
+  | inr other ↦ find_good P t l a.1 m (rw other at e)
+]
+
+rise_hosts : (n : ℕ) (l : List ViewChange) → RiseFrom (λ (m : ViewChange). m.ui.host) (λ m. Unit {0}) n l → are_rising (map (λ (m : ViewChange). m.ui.host) l) ≡ true
+rise_hosts n [] r = refl
+rise_hosts n (a ∷ []) r = refl
+rise_hosts n (a ∷ b ∷ l) r = let up : a.ui.host + 1 ≤ b.ui.host = r.2.0 in rw (lt-ltb a.ui.host b.ui.host (omega (arith, up))) (rise_hosts (a.ui.host + 1) (b ∷ l) r.2)
+
+module _ {S : Type 0} (system : System S) (w : World) (f : Facts system w) (jumps : (h : ℕ) → IsCorrect system.schedule h → Each (JumpsLed system w f) (w.histories h)) (h : ℕ) (correct : IsCorrect system.schedule h) where
+  abbrev self : Identity S
+  self = self_of system h
+
+  own_change : (m : ViewChange) (b : ChangeBody) (d : History) → IsPast (Stamped (stamped.ViewChange m) ∷ d) (w.histories h) → m.body ≡ Whole b → change_fault self m ≡ None → IsGoodChange system w m b
+  own_change m b d past is none =
+      let own = own_stamp system w f h (stamped.ViewChange m) d correct past in
+      let r : Rests self (IsGivenTo system.schedule w h) (IsHashed system.schedule w) (HasStrings system.schedule w) (Stamped (stamped.ViewChange m)) d = (each_at _ (Stamped (stamped.ViewChange m) ∷ d) (w.histories h) past (f.standing.rests h)).0 in
+      let there : In (all_stamped (w.histories h)) (stamped.ViewChange m) = subst (λ (y : History). In (all_stamped y) (stamped.ViewChange m)) past.is (stamped_in past.later d (stamped.ViewChange m)) in
+      record {
+        body = is;
+        issues = own.issues;
+        host = subst (λ (g : ℕ). g < host_count system.schedule.shape) (sym own.host) correct.0;
+        usable = whole_none (log_fault system.schedule.shape system.schedule.secret (verifies system.schedule.secret) m.ui.host m.view m.ui.counter) m.body b is none;
+        known = subst (λ (g : ℕ). IsKnownBody system.schedule w g b) (sym own.host) (f.changes h correct m b there is);
+        checker = h;
+        compared = rw is at r.1;
+      }
+
+  abbrev IsGood : ViewChange → Type 0
+  IsGood m = IsGoodMember system w m.view m
+
+  entry_good : (e : Entry) (d : History) → IsPast (e ∷ d) (w.histories h) → (m : ViewChange) → change_in self d e ≡ Some m → IsGood m
+  entry_good (Accepted (message.ViewChange n)) d past m e =
+      let t = if_some (is_whole n.body && is_current self d n.view) (Some n) m e in
+      let p = and_parts (is_whole n.body) (is_current self d n.view) t.0 in
+      let b = whole_of n.body p.0 in
+      subst IsGood (some_is n m t.1) (record { shows = b.0; good = accepted_change system w f jumps h n b.0 d correct past b.1 p.1; to = refl })
+  entry_good (Stamped (stamped.ViewChange n)) d past m e =
+      let t = if_some (is_whole n.body && is_none (change_fault self n)) (Some n) m e in
+      let p = and_parts (is_whole n.body) (is_none (change_fault self n)) t.0 in
+      let b = whole_of n.body p.0 in
+      subst IsGood (some_is n m t.1) (record { shows = b.0; good = own_change n b.0 d past b.1 (none_is (change_fault self n) p.1); to = refl })
+  entry_good e d past m is = absurd cc
+
+  arrived_good : (x : Option ViewChange) (l : List ViewChange) → ((m : ViewChange) → x ≡ Some m → IsGood m) → AllByRecursion IsGood l → AllByRecursion IsGood (arrived self x l)
+  arrived_good None l new a = a
+  arrived_good (Some m) l new a = all_append IsGood (filter (λ c. not (c.ui.host == m.ui.host)) l) (m ∷ []) (all_filter IsGood _ l a) (new m refl, tt)
+
+  held_good : (d : History) → IsPast d (w.histories h) → AllByRecursion IsGood (changes_of self d)
+  unfolding changes_of
+  held_good [] p = tt
+  held_good (e ∷ d) p = arrived_good (change_in self d e) (changes_of self d) (λ m is. entry_good e d p m is) (held_good d (past_tail e d (w.histories h) p))
+
+  arrived_distinct : (x : Option ViewChange) (l : List ViewChange) → AreDistinct l → AreDistinct (arrived self x l)
+  arrived_distinct None l a = a
+  arrived_distinct (Some m) l a = pushed_distinct (filter (λ c. not (c.ui.host == m.ui.host)) l) m (filtered_distinct (λ c. not (c.ui.host == m.ui.host)) l a) (others m l)
+
+  held_distinct : (d : History) → AreDistinct (changes_of self d)
+  unfolding changes_of
+  held_distinct [] = tt
+  held_distinct (e ∷ d) = arrived_distinct (change_in self d e) (changes_of self d) (held_distinct d)
+
+  abbrev to_view : ℕ → ViewChange → Type 0
+  to_view view m = IsGoodMember system w view m
+
+  filtered_to : (view : ℕ) (l : List ViewChange) → AllByRecursion IsGood l → AllByRecursion (to_view view) (filter (λ c. c.view == view) l)
+  filtered_to view [] a = tt
+  filtered_to view (m ∷ l) a = elim (cases_Bool (eqb m.view view)) [
+    | inl same ↦ rw same (record { shows = a.0.shows; good = a.0.good; to = eqb-true m.view view same }, filtered_to view l a.1)
+    | inr other ↦ rw other (filtered_to view l a.1)
+  ]
+
+  hosts_below : (view : ℕ) (l : List ViewChange) → AllByRecursion (to_view view) l → AllByRecursion (λ (m : ViewChange). m.ui.host < host_count system.schedule.shape) l
+  hosts_below view [] a = tt
+  hosts_below view (m ∷ l) a = (a.0.good.host, hosts_below view l a.1)
+
+  pub announced_plan : (n : NewView) (d : History) → IsPast (Stamped (stamped.NewView n) ∷ d) (w.histories h) → (changes : List ViewChange) × IsGoodPlan system w n.view n.base n.end n.plan changes × (n.body ≡ Whole (record { changes = changes }))
+  announced_plan n d past =
+      let makes : Makes self d (stamped.NewView n) = (arises_then system w f h correct (jumps h correct) (Stamped (stamped.NewView n) ∷ d) past).0 in
+      let changes : List ViewChange = makes.0 in
+      let plan : Plan = plan_from self changes in
+      let made : NewView = record { view = view_of self d; base = plan.base.pos; end = plan_end plan; plan = plan_digest plan; body = Whole (record { changes = changes }); ui = next_ui self d (bare_of (new_view self d changes)) } in
+      let same : made ≡ n = cc makes.2 in
+      let seen = announce_seen self d changes makes.1 in
+      let l : List ViewChange = filter (λ c. c.view == view_of self d) (changes_of self d) in
+      let t = if_some (nat_le (quorum system.schedule.shape) (length l)) (Some (by_rising_host self (take (quorum system.schedule.shape) l))) changes seen.1 in
+      let first : List ViewChange = take (quorum system.schedule.shape) l in
+      let is : by_rising_host self first ≡ changes = cc t.1 in
+      let view : ℕ = view_of self d in
+      let before : IsPast d (w.histories h) = past_tail (Stamped (stamped.NewView n)) d (w.histories h) past in
+      let good : AllByRecursion (to_view view) first = all_taken (to_view view) (quorum system.schedule.shape) l (filtered_to view (changes_of self d) (held_good d before)) in
+      let found : AllByRecursion (to_view view) (by_rising_host self first) = all_found (λ (i : ℕ). Unit {0}) (to_view view) (λ i. find (λ c. c.ui.host == i) first) (λ i m u e. (find_good (to_view view) (λ c. c.ui.host == i) first good m e).0)
+      (range_with_len 0 (host_count system.schedule.shape)) (all_any (range_with_len 0 (host_count system.schedule.shape))) in
+      let distinct : AreDistinct first = taken_distinct (quorum system.schedule.shape) l (filtered_distinct (λ c. c.view == view) (changes_of self d) (held_distinct d)) in
+      let count : length (by_rising_host self first) ≡ quorum system.schedule.shape =
+      count_found first 0 (host_count system.schedule.shape) ∙ rising_count first (host_count system.schedule.shape) distinct (hosts_below view first good)
+      ∙ length-take-le (quorum system.schedule.shape) l (leb-true (quorum system.schedule.shape) (length l) t.0) in
+      let rises : are_rising (map (λ (m : ViewChange). m.ui.host) (by_rising_host self first)) ≡ true = rise_hosts 0 (by_rising_host self first)
+      (rise_found (λ (m : ViewChange). m.ui.host) (λ m. Unit {0}) (λ i. find (λ c. c.ui.host == i) first) (λ i m e. (eqb-true m.ui.host i (find_good (to_view view) (λ c. c.ui.host == i) first good m e).1, tt)) 0 (host_count system.schedule.shape)) in
+      let r : Rests self (IsGivenTo system.schedule w h) (IsHashed system.schedule w) (HasStrings system.schedule w) (Stamped (stamped.NewView made)) d =
+      subst (λ (y : NewView). Rests self (IsGivenTo system.schedule w h) (IsHashed system.schedule w) (HasStrings system.schedule w) (Stamped (stamped.NewView y)) d) (sym same) (each_at _ (Stamped (stamped.NewView n) ∷ d) (w.histories h) past (f.standing.rests h)).0 in
+      let strings : AllByRecursion (IsHashed system.schedule w) (plan_text plan ∷ []) = r.1 in
+      subst (λ (y : NewView). (l : List ViewChange) × IsGoodPlan system w y.view y.base y.end y.plan l × (y.body ≡ Whole (record { changes = l }))) same (
+        changes,
+        record {
+          members = subst (AllByRecursion (to_view view)) is found;
+          many = ap length (sym is) ∙ count;
+          rising = subst (λ (l : List ViewChange). are_rising (map (λ (m : ViewChange). m.ui.host) l) ≡ true) is rises;
+          described = rw (eq-eqb plan.base.pos plan.base.pos refl, eq-eqb (plan_end plan) (plan_end plan) refl) (true-same_bytes (plan_digest plan) (plan_digest plan) refl);
+          hashed = strings.0;
+        },
+        refl,
+      )
