@@ -29,13 +29,14 @@ use Rattle.mb_theory.specs.Headline.{IsService}
 use Rattle.mb_theory.specs.WorldEvents.{IsCorrect}
 use Rattle.mb_theory.specs.World.{World, System, self_of}
 use Rattle.mb_theory.specs.Safety.{after_line}
-use Rattle.mb_line.proofs.Lists.{get_there, take_next}
+use Rattle.mb_theory.proofs.Lists.{get_there, take_next}
 use Rattle.mb_known.proofs.Rests.{Each}
 use Rattle.mb_known.proofs.Facts.{Facts}
 use Rattle.mb_views.proofs.Follows.{JumpsLed}
 use Rattle.mb_known.proofs.Moments.{IsPast, past_tail}
 use Rattle.mb_line.proofs.OneExecuted.{executed_batch, one_executed}
-use Rattle.mb_line.proofs.Executions.{IsExecution, executed_so, past_adds, in_past, exec_rises}
+use Rattle.mb_known.proofs.Executing.{IsExecution}
+use Rattle.mb_line.proofs.Executions.{executed_so, past_adds, in_past, exec_rises}
 use Rattle.mb_line.proofs.WholeBatches.{IsUnbroken, IsWholeAll, unbroken_back, IsClosed, closes}
 use Rattle.mb_line.proofs.Marks.{requests_of, each_same}
 use Rattle.mb_line.proofs.Line.{LineStands}
@@ -61,6 +62,10 @@ module _ {S : Type 0} (system : System S) (w : World) (f : Facts system w) (jump
 
   pub execution : (h : ℕ) (slot : Slot) (d : History) → IsPast (Executed slot ∷ d) (w.histories h) → IsExecution (self_of system h) d slot
   execution h slot d p = executed_so (self_of system h) d (w.histories h) slot (f.arises h) p
+
+  -- its requests were those that were just served
+  pub requests_served : (h : ℕ) (slot : Slot) (d : History) → IsPast (Executed slot ∷ d) (w.histories h) → slot.requests ≡ just_served d
+  requests_served h slot d p = (past_arises h (Executed slot ∷ d) p).0.served
 
   pub within : (h : ℕ) (d : History) → IsCorrect system.schedule h → IsPast d (w.histories h) → exec_of d ≤ length w.line
   within h d c p =
@@ -162,7 +167,7 @@ module _ {S : Type 0} (system : System S) (w : World) (f : Facts system w) (jump
   executes : (h : ℕ) (slot : Slot) (d : History) → IsCorrect system.schedule h → IsPast (Executed slot ∷ d) (w.histories h) → IsAlong h d → IsAlong h (Executed slot ∷ d)
   unfolding state_of exec_of just_served served_each
   executes h slot d c p before =
-      before ∙ ap (served_each system.machine (after (exec_of d)) (exec_of d + 1)) (sym (execution h slot d p).served) ∙ sym (executes_to h slot d c p)
+      before ∙ ap (served_each system.machine (after (exec_of d)) (exec_of d + 1)) (sym (requests_served h slot d p)) ∙ sym (executes_to h slot d c p)
 
   abbrev Below : ℕ → Type 0
   Below n = (h : ℕ) (d : History) → IsCorrect system.schedule h → IsPast d (w.histories h) → exec_of d < n → IsAlong h d

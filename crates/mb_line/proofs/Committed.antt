@@ -45,7 +45,8 @@ use Rattle.mb_known.proofs.Moments.{IsPast, past_tail}
 use Rattle.mb_views.proofs.Floors.{arises_then}
 use Rattle.mb_line.proofs.OneVote.{stands_voted}
 use Rattle.mb_line.proofs.CountedVotes.{accepted_there, stamped_there, counted_vote}
-use Rattle.mb_line.proofs.Executions.{IsExecution, executed_so}
+use Rattle.mb_known.proofs.Executing.{IsExecution}
+use Rattle.mb_line.proofs.Executions.{executed_so}
 use Rattle.mb_parts.specs.declared.batch.Batch.{Batch}
 use Rattle.mb_model.specs.Service.{batch_of}
 
@@ -161,6 +162,6 @@ module _ {S : Type 0} (system : System S) (w : World) (f : Facts system w) (jump
       record {
         view = v;
         counter = x.known.counter;
-        committed = subst (λ (b : Bytes). IsCommitted (plans system.schedule w) system.schedule.shape (prefix system.schedule w) v slot.pos (record { counter = x.known.counter; request = b })) (s.digest (batch_of slot) x.batch)
+        committed = subst (λ (b : Bytes). IsCommitted (plans system.schedule w) system.schedule.shape (prefix system.schedule w) v slot.pos (record { counter = x.known.counter; request = b })) (s.digest (batch_of slot) x.shown)
             (record { voted = omega (arith, enough, more); led = s.led });
       }

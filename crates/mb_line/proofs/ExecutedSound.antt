@@ -50,16 +50,22 @@ use Rattle.mb_views.proofs.Floors.{arises_then}
 use Rattle.mb_line.proofs.CountedVotes.{other_sender}
 use Rattle.mb_line.proofs.SoundBatches.{OfStamped, IsSoundRequest, IsOwn, brought, own_tail, brought_request, IsSoundBatch}
 use Rattle.mb_line.proofs.HeldBatches.{plan_at_sound}
-use Rattle.mb_line.proofs.StateParts.{get_in}
+use Rattle.mb_theory.proofs.Lists.{in_at}
 use Rattle.mb_msg.specs.Bodies.{whole_body, inside_whole, body_digest}
 use Rattle.mb_parts.specs.Spelling.{batch_bytes}
-use Rattle.mb_line.proofs.Executions.{IsExecution, executed_so}
+use Rattle.mb_known.proofs.Executing.{IsExecution}
+use Rattle.mb_line.proofs.Executions.{executed_so}
 use Rattle.mb_known.proofs.Parts.{accepted_fits, body_string}
 use Rattle.mb_model.specs.Passed.{PassesBody}
 use Rattle.mb_line.proofs.Fitting.{first_fits, first_all}
 use Rattle.mb_model.specs.Batches.{first_batch}
 use Rattle.mb_line.proofs.Batches.{shown_batches}
 use Rattle.mb_parts.specs.declared.batch.Batch.{Batch}
+
+-- what is kept of a request that waits, where it is still fresh
+pub fresh_is : {S : Type 0} (self : Identity S) (x : Served S) (o : Option Request) (r : Request) → if_fresh self x o ≡ Some r → o ≡ Some r
+fresh_is self x None r e = absurd cc
+fresh_is self x (Some q) r e = (if_some (is_fresh x q) (Some q) r e).1
 
 module _ {S : Type 0} (system : System S) (w : World) (f : Facts system w) (jumps : (h : ℕ) → IsCorrect system.schedule h → Each (JumpsLed system w f) (w.histories h))
     (asked_fits : (r : Request) → In w.asked r → FitsRequest system.schedule.shape r) (h : ℕ) (correct : IsCorrect system.schedule h) where
@@ -119,7 +125,7 @@ module _ {S : Type 0} (system : System S) (w : World) (f : Facts system w) (jump
   own_slot m (Short z) r is own e = absurd cc
 
   open_found : (base p : ℕ) (b : Body OpenBody) (r : Batch) → AllByRecursion R (inside_whole (λ (x : OpenBody). x.batches) b) → option_and_then (λ (x : OpenBody). batch_from base p x.batches) (whole_body b) ≡ Some r → R r
-  open_found base p (Whole x) r own e = let t = if_some (nat_lt base p) (slice_get x.batches (p - base - 1)) r e in all_in R x.batches r own (get_in x.batches (p - base - 1) r t.1)
+  open_found base p (Whole x) r own e = let t = if_some (nat_lt base p) (slice_get x.batches (p - base - 1)) r e in all_in R x.batches r own (in_at x.batches (p - base - 1) r t.1)
   open_found base p (Short z) r own e = absurd cc
 
   open_slot : (m : OpenMessage) (v p : ℕ) (k : KnownSlot) → OfStamped R (stamped.Open m) → slot_of_open m v p ≡ Some k → SlotSound k
@@ -151,10 +157,6 @@ module _ {S : Type 0} (system : System S) (w : World) (f : Facts system w) (jump
 
   -- ---- a pending request came by itself
 
-  fresh_is : (x : Served S) (o : Option Request) (r : Request) → if_fresh self x o ≡ Some r → o ≡ Some r
-  fresh_is x None r e = absurd cc
-  fresh_is x (Some q) r e = (if_some (is_fresh x q) (Some q) r e).1
-
   request_came : (q : Request) (d : History) → Past (Accepted (message.Request q) ∷ d) → Sound q
   unfolding requests_in
   request_came q d past =
@@ -173,7 +175,7 @@ module _ {S : Type 0} (system : System S) (w : World) (f : Facts system w) (jump
     | inl here ↦ pending_sound d (past_tail (entry.Served pos p) d (w.histories h) past) c r (above_is p.request.seq (pending self d c) r (rw here at e))
     | inr other ↦ pending_sound d (past_tail (entry.Served pos p) d (w.histories h) past) c r (rw other at e)
   ]
-  pending_sound (Installed pos parts ∷ d) past c r e = pending_sound d (past_tail (Installed pos parts) d (w.histories h) past) c r (fresh_is (state_of self (Installed pos parts ∷ d)) (pending self d c) r e)
+  pending_sound (Installed pos parts ∷ d) past c r e = pending_sound d (past_tail (Installed pos parts) d (w.histories h) past) c r (fresh_is self (state_of self (Installed pos parts ∷ d)) (pending self d c) r e)
   pending_sound (x ∷ d) past c r e = pending_sound d (past_tail x d (w.histories h) past) c r e
 
   unordered_all : (d : History) → Past d → (cs : List ℕ) → AllByRecursion Sound (filter_map (unordered_of self d) cs)
@@ -276,4 +278,4 @@ module _ {S : Type 0} (system : System S) (w : World) (f : Facts system w) (jump
   executed_sound slot d past =
       let before : Past d = past_tail (Executed slot) d (w.histories h) past in
       let x : IsExecution self d slot = executed_so self d (w.histories h) slot (f.arises h) past in
-      slot_at_sound d before (own_sound d before) slot.pos x.known x.there (batch_of slot) x.batch
+      slot_at_sound d before (own_sound d before) slot.pos x.known x.there (batch_of slot) x.shown

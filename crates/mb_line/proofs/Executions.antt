@@ -1,20 +1,12 @@
 -- Executions in a history that arises: what each rests on, and that each is above all before it, and the last position never falls.
-use Rattle.std.proofs.Common.{◌≡◌, ℕ, ◌+◌, ◌≤◌, ◌<◌, ◌⊎◌, List, [], ◌∷◌, ◌++◌, refl, sym, ap, subst, ◌∙◌, inl, inr, arith}
+use Rattle.std.proofs.Common.{◌≡◌, ◌+◌, ◌≤◌, ◌<◌, ◌⊎◌, List, [], ◌∷◌, ◌++◌, refl, sym, ap, subst, inl, inr, arith}
 use Rattle.mb_msg.specs.declared.event.Slot.{Slot}
-use Rattle.mb_model.specs.Histories.{Entry, Accepted, Stamped, Jumped, Closed, Served, Executed, Installed, DroppedParts, LostPatience, Nudged, History, Identity, is_open}
-use Rattle.mb_model.specs.Positions.{exec_of, slot_at}
-use Rattle.mb_parts.specs.declared.batch.Batch.{Batch}
-use Rattle.std.specs.Prelude.{true, ◌&&◌, nat_le, option_map, Option, Some, None}
-use Rattle.mb_model.specs.declared.known.KnownSlot.{KnownSlot}
-use Rattle.mb_model.specs.Service.{batch_of}
-use Rattle.mb_model.specs.Stable.{low_of}
-use Rattle.mb_model.specs.CarriedOut.{just_served}
-use Rattle.mb_model.specs.EnabledRules.{Execute, is_committed, if_committed, execute_enabled}
-use Rattle.mb_model.proofs.Options.{if_some, map_some}
-use Rattle.std.proofs.lemmas.Bool.{and_parts}
+use Rattle.mb_model.specs.Histories.{Entry, Accepted, Stamped, Jumped, Closed, Served, Executed, Installed, DroppedParts, LostPatience, Nudged, History, Identity}
+use Rattle.mb_model.specs.Positions.{exec_of}
 use Rattle.mb_model.proofs.Members.{In, in_right}
 use Rattle.mb_model.proofs.StepArises.{Executes, Adds, Arises}
 use Rattle.mb_known.proofs.Moments.{IsPast}
+use Rattle.mb_known.proofs.Executing.{IsExecution, execution}
 
 pub in_parts : {A : Type 0} (a b : List A) (x : A) → In (a ++ b) x → In a x ⊎ In b x
 in_parts [] b x i = inr i
@@ -35,52 +27,9 @@ module _ {S : Type 0} (self : Identity S) where
   past_adds [] d a = a
   past_adds (e ∷ later) d a = past_adds later d a.1
 
-  -- ---- an execution
-
-  -- In an open view f+1 votes were for the slot behind the last executed one, and it had its batch, whose requests were just served.
-  pub record IsExecution (d : History) (slot : Slot) : Type 0 where
-    pub opened : is_open self d ≡ true
-    pub caught_up : nat_le (low_of self d) (exec_of d) ≡ true
-    pub place : slot.pos ≡ exec_of d + 1
-    pub known : KnownSlot
-    pub there : slot_at self d slot.pos ≡ Some known
-    pub batch : known.batch ≡ Some (batch_of slot)
-    pub committed : is_committed self d slot.pos known ≡ true
-    pub served : slot.requests ≡ just_served d
-
-  record WasCommitted (d : History) (q : ℕ) (k : Option KnownSlot) (b : Batch) : Type 0 where
-    known : KnownSlot
-    there : k ≡ Some known
-    batch : known.batch ≡ Some b
-    committed : is_committed self d q known ≡ true
-
-  was_committed : (d : History) (q p : ℕ) (k : Option KnownSlot) (b : Batch) → if_committed self d q k ≡ Some (Execute p b) → WasCommitted d q k b
-  was_committed d q p None b e = absurd cc
-  was_committed d q p (Some k) b e =
-      let t = if_some (is_committed self d q k) (option_map (Execute q) k.batch) (Execute p b) e in
-      let m = map_some (Execute q) k.batch (Execute p b) t.1 in
-      let same : m.0 ≡ b = cc (m.2) in
-      record { known = k; there = refl; batch = m.1 ∙ ap (λ (x : Batch). Some x) same; committed = t.0 }
-
-  pub executes_so : (d : History) (slot : Slot) → Adds self d (Executed slot) → IsExecution d slot
-  unfolding execute_enabled
-  executes_so d slot a =
-      let t = if_some (is_open self d && nat_le (low_of self d) (exec_of d)) (if_committed self d (exec_of d + 1) (slot_at self d (exec_of d + 1))) (Execute slot.pos (batch_of slot)) a.enabled in
-      let o = and_parts (is_open self d) (nat_le (low_of self d) (exec_of d)) t.0 in
-      let c : WasCommitted d (exec_of d + 1) (slot_at self d (exec_of d + 1)) (batch_of slot) = was_committed d (exec_of d + 1) slot.pos (slot_at self d (exec_of d + 1)) (batch_of slot) t.1 in
-      record {
-        opened = o.0;
-        caught_up = o.1;
-        place = a.place;
-        known = c.known;
-        there = subst (λ (q : ℕ). slot_at self d q ≡ Some c.known) (sym a.place) c.there;
-        batch = c.batch;
-        committed = subst (λ (q : ℕ). is_committed self d q c.known ≡ true) (sym a.place) c.committed;
-        served = a.served;
-      }
-
-  pub executed_so : (d whole : History) (slot : Slot) → Arises self whole → IsPast (Executed slot ∷ d) whole → IsExecution d slot
-  executed_so d whole slot a p = executes_so d slot (past_adds p.later (Executed slot ∷ d) (subst (λ (y : History). Arises self y) (sym p.is) a)).0
+  -- what an execution rested on
+  pub executed_so : (d whole : History) (slot : Slot) → Arises self whole → IsPast (Executed slot ∷ d) whole → IsExecution self d slot
+  executed_so d whole slot a p = execution self d slot (past_adds p.later (Executed slot ∷ d) (subst (λ (y : History). Arises self y) (sym p.is) a)).0
 
   -- ---- positions
 

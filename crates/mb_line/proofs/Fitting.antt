@@ -1,17 +1,15 @@
 -- The batch of the first requests of a list: it has the values of the grammar where the requests have, and what holds of them holds of its requests.
-use Rattle.std.proofs.Common.{◌≡◌, ℕ, zero, suc, ◌+◌, ◌≤◌, ◌^◌, true, List, [], ◌∷◌, length, ap, subst, ◌∙◌, inl, inr, arith, length-append, Some}
+use Rattle.std.proofs.Common.{◌≡◌, ℕ, zero, suc, ◌+◌, ◌≤◌, true, List, [], ◌∷◌, length, ap, subst, ◌∙◌, inl, inr, arith, length-append, Some}
 use Rattle.std.specs.List.{AllByRecursion, flat_map}
-use Rattle.std.specs.Int.{w8, w16, w64}
 use Rattle.std.proofs.lemmas.Bool.{cases_Bool, leb-true, le-leb}
 use Rattle.std.proofs.lemmas.List.Concat.{flat_map-cons}
 use Rattle.mb_base.specs.declared.shape.Shape.{Shape}
-use Rattle.mb_base.specs.Spelling.{number}
-use Rattle.mb_base.proofs.Laws.{number_length, wide8, wide16, wide64}
 use Rattle.mb_parts.specs.declared.request.Request.{Request}
 use Rattle.mb_parts.specs.declared.batch.Batch.{Batch}
 use Rattle.mb_parts.specs.Spelling.{request_bytes}
 use Rattle.mb_parts.specs.Fits.{FitsRequest, FitsBatch}
 use Rattle.mb_model.specs.Batches.{batch_limit, batch_bytes_limit, has_place, fitting, first_batch}
+use Rattle.mb_msg.proofs.Sizes.{request_short}
 use Rattle.mb_known.proofs.Cases.{some_is}
 
 -- ---- what the requests have
@@ -53,22 +51,9 @@ fitting_short (suc most) used (r ∷ l) le = elim (cases_Bool (has_place used r)
       ap length (flat_map-cons request_bytes r more) ∙ length-append (request_bytes r) (flat_map request_bytes more) in
       omega (arith, rest, joined)
 
-length8 : (n : ℕ) → length (number w8 n) ≡ 1
-length8 n = number_length w8 (2 ^ 8) n wide8
-
-length16 : (n : ℕ) → length (number w16 n) ≡ 2
-length16 n = number_length w16 (2 ^ 16) n wide16
-
-length64 : (n : ℕ) → length (number w64 n) ≡ 8
-length64 n = number_length w64 (2 ^ 64) n wide64
-
-request_short : (s : Shape) (r : Request) → FitsRequest s r → 0 + length (request_bytes r) ≤ 2048
-unfolding request_bytes
-request_short s r f = simp (length-append, length8, length16, length64, f.tag) (omega (arith, f.op))
-
 -- A request by itself goes into a batch.
 alone : (s : Shape) (r : Request) → FitsRequest s r → has_place 0 r ≡ true
-alone s r f = le-leb (0 + length (request_bytes r)) batch_bytes_limit (request_short s r f)
+alone s r f = le-leb (0 + length (request_bytes r)) batch_bytes_limit (omega (arith, request_short s r f))
 
 first_some : (most : ℕ) (r : Request) (l : List Request) → has_place 0 r ≡ true → 1 ≤ length (fitting (suc most) 0 (r ∷ l))
 unfolding fitting

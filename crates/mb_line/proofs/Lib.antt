@@ -2,7 +2,6 @@
 -- What is executed is committed (`Committed`), so two hosts execute one batch at a position (`OneExecuted`). A history is walked through move by move
 -- (`Walks`, `Moves`); the line grows with executions alone (`Line`); an installed state is one that a correct host had (`InstalledState`). So each host
 -- has at each moment the state of a beginning of the line (`Along`, `SafeWorlds`), and each reply that counts is the line's (`Served`, `ServedWorlds`).
-pub mod Lists
 pub mod OneVote
 pub mod CountedVotes
 pub mod Committed
@@ -27,7 +26,6 @@ pub mod HeldBatches
 pub mod ExecutedSound
 pub mod OneExecuted
 pub mod Along
-pub mod Rising
 pub mod SafeStatic
 pub mod Askers
 pub mod AskerWorlds

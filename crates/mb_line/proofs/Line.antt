@@ -14,7 +14,7 @@ use Rattle.mb_model.proofs.Members.{In, in_right}
 use Rattle.mb_model.proofs.StepArises.{Adds, Arises}
 use Rattle.mb_theory.specs.WorldEvents.{IsCorrect}
 use Rattle.mb_theory.specs.World.{World, System, self_of, extended}
-use Rattle.mb_line.proofs.Lists.{get_last}
+use Rattle.mb_theory.proofs.Lists.{get_last}
 use Rattle.mb_known.proofs.Moments.{IsPast, past_tail}
 use Rattle.mb_line.proofs.StepDone.{slots_in, IsDone, step_done}
 use Rattle.mb_line.proofs.Moves.{IsStep, Moves}

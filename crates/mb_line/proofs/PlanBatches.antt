@@ -26,7 +26,7 @@ use Rattle.mb_model.proofs.StepPlanBases.{all_filter}
 use Rattle.mb_model.proofs.Members.{all_in}
 use Rattle.mb_known.proofs.Cases.{some_is}
 use Rattle.mb_known.proofs.Found.{all_newest}
-use Rattle.mb_line.proofs.StateParts.{get_in}
+use Rattle.mb_theory.proofs.Lists.{in_at}
 use Rattle.mb_line.proofs.Batches.{batch_in, batches_in_open, shown_batches}
 use Rattle.mb_model.specs.Verified.{are_rightly_tagged}
 use Rattle.mb_parts.specs.declared.batch.Batch.{Batch}
@@ -51,7 +51,7 @@ module _ (R : Batch → Type 0) where
   of_plan base c p (Whole b) z a e =
       let t = if_some (nat_lt base p) (option_map (λ x. (c, x)) (slice_get b.batches (p - base - 1))) z e in
       let r = map_some (λ (x : Batch). (c, x)) (slice_get b.batches (p - base - 1)) z t.1 in
-      subst R (ap (λ (y : ShownVote). y.1) r.2) (all_in R b.batches r.0 a (get_in b.batches (p - base - 1) r.0 r.1))
+      subst R (ap (λ (y : ShownVote). y.1) r.2) (all_in R b.batches r.0 a (in_at b.batches (p - base - 1) r.0 r.1))
   of_plan base c p (Short d) z a e = absurd cc
 
   voted : (p : ℕ) (l : List Shown) (z : ShownVote) → AllShown l → vote_since p l ≡ Some z → R z.1

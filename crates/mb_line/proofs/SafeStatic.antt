@@ -25,13 +25,14 @@ use Rattle.mb_known.proofs.Moments.{IsPast, past_tail}
 use Rattle.mb_views.proofs.Follows.{JumpsLed}
 use Rattle.mb_line.proofs.StepDone.{past_whole}
 use Rattle.mb_line.proofs.WholeBatches.{IsWholeAll}
-use Rattle.mb_line.proofs.Marks.{requests_of, AreMarked, marked_push, marked_same, marked_at}
-use Rattle.mb_line.proofs.Rising.{fresh_rises}
-use Rattle.mb_line.proofs.StateParts.{get_in}
+use Rattle.mb_theory.proofs.Lists.{in_at}
+use Rattle.mb_theory.proofs.Marked.{AreMarked, marked_push, marked_same, marked_at}
+use Rattle.mb_theory.proofs.Rising.{fresh_rises}
+use Rattle.mb_line.proofs.Marks.{requests_of}
 use Rattle.mb_line.proofs.OneExecuted.{IsSound, executed_batch}
 use Rattle.mb_line.proofs.Executions.{in_past, past_in}
 use Rattle.mb_line.proofs.Line.{LineStands}
-use Rattle.mb_line.proofs.Along.{past_arises, execution, IsOnLine, on_line, matched, IsAlong, between, along}
+use Rattle.mb_line.proofs.Along.{past_arises, execution, requests_served, IsOnLine, on_line, matched, IsAlong, between, along}
 
 slot_same : (x y : Slot) → x.pos ≡ y.pos → x.requests ≡ y.requests → x ≡ y
 slot_same x y a b = parts x.pos y.pos x.requests y.requests a b where
@@ -65,7 +66,7 @@ module _ {S : Type 0} (system : System S) (w : World) (f : Facts system w) (jump
 
   -- an executed batch
   marked : (h : ℕ) (slot : Slot) (d : History) → IsCorrect system.schedule h → IsPast (Executed slot ∷ d) (w.histories h) → Marked (exec_of d) slot.requests
-  marked h slot d c p = subst (Marked (exec_of d)) (sym (execution system w f jumps asked_fits service line whole h slot d p).served)
+  marked h slot d c p = subst (Marked (exec_of d)) (sym (requests_served system w f jumps asked_fits service line whole h slot d p))
       (served_marked h d c (past_tail (Executed slot) d (w.histories h) p))
 
   line_marked : (q : ℕ) (slot : Slot) → OnLine q slot → Marked q slot.requests
@@ -81,7 +82,7 @@ module _ {S : Type 0} (system : System S) (w : World) (f : Facts system w) (jump
   sound q slot o = executed_batch system w f jumps asked_fits o.host slot o.before o.correct o.past
 
   request_there : (ps : List Placed) (i : ℕ) (p : Placed) → slice_get ps i ≡ Some p → In (requests_of ps) p.request
-  request_there ps i p at = in_map (λ (x : Placed). x.request) ps p (get_in ps i p at)
+  request_there ps i p at = in_map (λ (x : Placed). x.request) ps p (in_at ps i p at)
 
   slots : (h : ℕ) (slot : Slot) → IsCorrect system.schedule h → Contains (w.histories h) (Executed slot) → (q : ℕ) × (slot.pos ≡ q + 1) × (slice_get w.line q ≡ Some slot)
   slots h slot c there =
@@ -90,7 +91,7 @@ module _ {S : Type 0} (system : System S) (w : World) (f : Facts system w) (jump
       let m = matched system w f jumps asked_fits service line whole h slot d c p.1 in
       let e = (execution system w f jumps asked_fits service line whole h slot d p.1).place in
       let requests : m.found.requests ≡ slot.requests =
-      marked_same system.machine (after_line system w (exec_of d)) (exec_of d + 1) m.found.requests slot.requests (line_marked (exec_of d) m.found m.on) (marked h slot d c p.1) m.requests in
+      marked_same system.machine (after_line system w (exec_of d)) (exec_of d + 1) m.found.requests slot.requests m.requests (line_marked (exec_of d) m.found m.on) (marked h slot d c p.1) in
       (exec_of d, e, m.there ∙ ap Some (slot_same m.found slot (m.on.place ∙ sym e) requests))
 
   line_request : (q : ℕ) (slot : Slot) → OnLine q slot → (i : ℕ) (p : Placed) → slice_get slot.requests i ≡ Some p → IsLineRequest system w q slot i p
@@ -122,7 +123,7 @@ module _ {S : Type 0} (system : System S) (w : World) (f : Facts system w) (jump
       let first = (line_slot q at.slot at.in_line).requests i x at.in_slot in
       let second = (line_slot r there.slot there.in_line).requests j y there.in_slot in
       let client = first.client in
-      fresh_rises system.machine (start system.machine system.initial clients) w.line q i r j at.slot there.slot x y lt at.in_line there.in_line at.in_slot
+      fresh_rises system.machine (start system.machine system.initial clients) w.line q r at.slot there.slot i j x y lt at.in_line there.in_line at.in_slot
       (omega (arith, client, length-replicate {A = LastReply} clients no_reply)) (sym first.fresh ∙ fresh) (sym second.fresh ∙ fresh') same
 
   pub safe_static : IsSafe system w

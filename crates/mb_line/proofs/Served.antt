@@ -26,11 +26,11 @@ use Rattle.mb_model.specs.Execution.{state_of}
 use Rattle.mb_model.specs.CarriedOut.{just_served}
 use Rattle.mb_model.specs.Clients.{agrees}
 use Rattle.mb_model.proofs.Members.{in_contained, contained, all_in}
-use Rattle.mb_model.proofs.ServiceLaws.{served_push, each_length}
+use Rattle.mb_model.proofs.ServiceLaws.{each_push, served_push, each_length}
 use Rattle.mb_theory.specs.WorldEvents.{IsCorrect, IsCorrectClient}
 use Rattle.mb_theory.specs.World.{World, System, self_of}
 use Rattle.mb_theory.specs.Safety.{after_line, after_requests, IsServedResult, AreServedResults, IsSafe}
-use Rattle.mb_line.proofs.Lists.{get_there, take_next}
+use Rattle.mb_theory.proofs.Lists.{get_there, take_next}
 use Rattle.mb_known.proofs.Facts.{Facts}
 use Rattle.mb_known.proofs.Moments.{IsPast}
 use Rattle.mb_line.proofs.ReplyBytes.{wish_differs, number_same, FitsWidely, AreLike, same_reply}
@@ -38,7 +38,6 @@ use Rattle.mb_line.proofs.Replied.{IsReplied, IsTagged, AllTagged}
 use Rattle.mb_line.proofs.Askers.{IsCounted, IsAnswer, AskerStands}
 use Rattle.mb_line.proofs.Executions.{executed_so, past_in}
 use Rattle.mb_line.proofs.WholeBatches.{IsClosed}
-use Rattle.mb_line.proofs.Rising.{next_within}
 use Rattle.mb_line.proofs.ServedFits.{FitsLast, FitsServed}
 
 -- ---- the stored reply of a client
@@ -127,7 +126,7 @@ module _ {S : Type 0} (system : System S) (w : World) (safe : IsSafe system w) w
     one_more : (q : ℕ) (slot : Slot) (i c : ℕ) (p : Placed) → slice_get w.line q ≡ Some slot → q ≤ length w.line → slice_get slot.requests i ≡ Some p → c < clients → Answered (during q slot i) c → Answered (during q slot (i + 1)) c
     one_more q slot i c p there le at lt before some =
         let x : Served S = during q slot i in
-        let next : during q slot (i + 1) ≡ served system.machine x slot.pos p.request = next_within system.machine (after q) slot i p at in
+        let next : during q slot (i + 1) ≡ served system.machine x slot.pos p.request = ap (served_each system.machine (after q) slot.pos) (take_next slot.requests i p at) ∙ each_push system.machine (after q) slot.pos (take i slot.requests) p in
         let many = (line_fits q le).many in
         let long = each_length system.machine (after q) slot.pos (take i slot.requests) in
         let l = safe.line q slot there in

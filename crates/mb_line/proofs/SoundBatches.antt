@@ -37,7 +37,7 @@ use Rattle.mb_model.proofs.StepPlanBases.{all_filter}
 use Rattle.mb_theory.specs.Inside.{requests_in, bodies_in}
 use Rattle.mb_theory.specs.WorldEvents.{IsCorrect, IsCorrectClient}
 use Rattle.mb_theory.specs.World.{World, System, self_of}
-use Rattle.mb_line.proofs.Lists.{all_append}
+use Rattle.mb_theory.proofs.Lists.{all_append}
 use Rattle.mb_known.proofs.Cases.{same_whole, some_is, all_holds}
 use Rattle.mb_known.proofs.Rests.{Each}
 use Rattle.mb_known.proofs.Grown.{WasAsked}

@@ -34,7 +34,8 @@ use Rattle.mb_known.proofs.Moments.{IsPast, past_tail, each_at, past_past}
 use Rattle.mb_known.proofs.Rests.{IsPart}
 use Rattle.mb_known.proofs.Grown.{IsGivenTo}
 use Rattle.mb_known.proofs.Facts.{Facts}
-use Rattle.mb_line.proofs.StateParts.{get_in, part_digest, part_from, stable_stays, each_held}
+use Rattle.mb_theory.proofs.Lists.{in_at}
+use Rattle.mb_line.proofs.StateParts.{part_digest, part_from, stable_stays, each_held}
 
 -- ---- lists of digests
 
@@ -141,7 +142,7 @@ module _ {S : Type 0} (system : System S) (w : World) (f : Facts system w) (h : 
         string = subst (λ (p : ℕ). In w.hashed (digest_string m.digests p)) place string;
         state = subst (λ (p : ℕ). sha256 (digest_string m.digests p) ≡ (stable_of self d).state) place state;
         listed = part_digest m.digests m.parts m.first i b passes.parts x.first x.part;
-        hashed = all_at (In w.hashed) (state_strings_in (message.State m)) strings b (in_left m.parts _ b (get_in m.parts (i - m.first) b x.part));
+        hashed = all_at (In w.hashed) (state_strings_in (message.State m)) strings b (in_left m.parts _ b (in_at m.parts (i - m.first) b x.part));
         short = omega (arith, place, low);
       } where
         each_adds : (then : History) → IsPast then (w.histories h) → Rattle.mb_model.proofs.StepArises.Arises self then

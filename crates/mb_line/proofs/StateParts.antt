@@ -15,18 +15,12 @@ use Rattle.mb_model.specs.Stable.{further, learnt_in, stable_of, low_of}
 use Rattle.mb_model.specs.Execution.{part_in, part_of, part_held, missing}
 use Rattle.mb_model.specs.PlainChecks.{wrong_part, string_at}
 use Rattle.mb_model.proofs.Options.{or_some, if_some}
-use Rattle.mb_model.proofs.Members.{In}
 use Rattle.mb_model.proofs.StepPotential.{grown_low}
-use Rattle.mb_known.proofs.Cases.{not_false, slice_bound, some_is, some_none}
+use Rattle.mb_known.proofs.Cases.{not_false, slice_bound, some_none}
 use Rattle.mb_known.proofs.Moments.{IsPast}
 use Rattle.mb_line.proofs.StepDone.{past_whole, past_more}
 
 -- ---- lists
-
-pub get_in : {A : Type 0} (l : List A) (i : ℕ) (x : A) → slice_get l i ≡ Some x → In l x
-get_in [] i x e = absurd cc
-get_in (y ∷ l) zero x e = inl (some_is y x e)
-get_in (y ∷ l) (suc i) x e = inr (get_in l i x e)
 
 -- a search through a range that finds nothing passes over each of its numbers
 pub none_in_range : (t : ℕ → Bool) (a n : ℕ) → find t (range_with_len a n) ≡ None → (i : ℕ) → i < n → t (a + i) ≡ false

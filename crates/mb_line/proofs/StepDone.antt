@@ -14,7 +14,7 @@ use Rattle.mb_model.specs.Sending.{Letter, Progress, begin, write, send, to_clie
 use Rattle.mb_model.specs.CarriedOut.{placed_in, with_reply, serve, serve_all, slot_for, with_slot}
 use Rattle.mb_model.specs.Given.{stored_reply}
 use Rattle.mb_model.specs.HostStep.{transition}
-use Rattle.mb_line.proofs.Lists.{all_append}
+use Rattle.mb_theory.proofs.Lists.{all_append}
 use Rattle.mb_known.proofs.Cases.{all_more}
 use Rattle.mb_known.proofs.Moments.{IsPast}
 use Rattle.mb_line.proofs.Walks.{is_quiet, is_reply, IsWalked}

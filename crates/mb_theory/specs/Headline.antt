@@ -50,6 +50,6 @@ module _ {S : Type 0} (system : System S) where
   HoldsAtEachEvent = (k : ℕ) → k ≤ length system.schedule.events → IsUnstopped system k → HashesApart (world system k).hashed → Promises (world system k)
 
 -- For every service and every schedule with at most f faulty hosts and nothing forged, whatever is lost, repeated and reordered, where the
--- whole protocol is built. This is what is to be proved. It is not proved yet.
+-- whole protocol is built.
 abbrev pub HostsStayOne : Type 0 → Type 0
 HostsStayOne S = (system : System S) → system.built ≡ everything → IsService system.machine system.snapshots system.initial → IsSchedule system.schedule → HoldsAtEachEvent system

@@ -296,7 +296,6 @@ module _ {S : Type 0} (self : Identity S) (d : History) where
     pub executes_with_commit : ExecutesWithCommit
     pub executes_with_prepare : ExecutesWithPrepare
 
--- After any events, whoever is faulty and whatever is forged, no host has left anything undone, where the whole protocol is built. Not all
--- of it is proved yet.
+-- After any events, whoever is faulty and whatever is forged, no host has left anything undone, where the whole protocol is built.
 abbrev pub HostsLeaveNothing : Type 0 → Type 0
 HostsLeaveNothing S = (system : System S) → system.built ≡ everything → (k h : ℕ) → LeavesNothing (self_of system h) ((world system k).histories h)

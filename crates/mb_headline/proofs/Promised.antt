@@ -1,0 +1,58 @@
+-- All promises hold of each world that nothing stopped, while no two of its hashed strings share a digest.
+use Rattle.std.proofs.Common.{ap}
+use Rattle.mb_theory.specs.World.{self_of}
+use Rattle.mb_theory.specs.WorldSteps.{world}
+use Rattle.mb_theory.specs.NothingLeft.{HostsLeaveNothing}
+use Rattle.mb_theory.specs.CarriedOut.{HasCarriedOut}
+use Rattle.mb_theory.specs.Headline.{HostsStayOne}
+use Rattle.mb_theory.proofs.CarriedOut.{hosts_carry_out}
+use Rattle.mb_views.proofs.InWorlds.{worlds_agree}
+use Rattle.mb_line.specs.Worlds.{HasOneList}
+use Rattle.mb_line.proofs.InWorlds.{worlds_have_one_list}
+use Rattle.mb_justified.specs.Worlds.{HoldsOfTheCorrect}
+use Rattle.mb_justified.proofs.InWorlds.{worlds_are_justified}
+use Rattle.mb_due.proofs.Taken.{hosts_take_what_passes}
+use Rattle.mb_due.proofs.OrdersAll.{orders_all_that_fit}
+use Rattle.mb_due.proofs.OpensCount.{counts_opens_of}
+use Rattle.mb_due.proofs.Completing.{hosts_execute_with_commit, hosts_execute_with_prepare}
+
+-- Nothing that is due is left undone, whoever is faulty and whatever is forged.
+pub nothing_left : (S : Type 0) → HostsLeaveNothing S
+nothing_left S system built k h =
+    let c : HasCarriedOut (self_of system h) ((world system k).histories h) = hosts_carry_out S system k h in
+    record {
+      orders = c.orders;
+      fills = orders_all_that_fit system k h;
+      commits = c.commits;
+      executes = c.executes;
+      checkpoints = c.checkpoints;
+      leaves = c.leaves;
+      announces = c.announces;
+      enters = c.enters;
+      opens = c.opens;
+      opens_by_enters = c.opens_by_enters;
+      joins_behind = c.joins_behind;
+      joins_past = c.joins_past;
+      installs = c.installs;
+      takes = hosts_take_what_passes system built k h;
+      keeps_slots = c.keeps_slots;
+      counts_prepares = c.counts_prepares;
+      counts_commits = c.counts_commits;
+      counts_opens = counts_opens_of system (ap (λ b. b.order) built) k h;
+      executes_with_commit = hosts_execute_with_commit system built k h;
+      executes_with_prepare = hosts_execute_with_prepare system built k h;
+    }
+
+pub all_stay_one : (S : Type 0) → HostsStayOne S
+all_stay_one S system built service fits k le none apart =
+    let line : HasOneList system (world system k) = worlds_have_one_list S system built service fits k le none apart in
+    let held : HoldsOfTheCorrect system (world system k) = worlds_are_justified S system built fits k le none apart in
+    record {
+      agrees = worlds_agree S system built fits k le none apart;
+      safe = line.safe;
+      results = line.results;
+      justified = held.justified;
+      done = λ h correct. nothing_left S system built k h;
+      bounded = held.bounded;
+      blameless = held.blameless;
+    }

@@ -1,0 +1,20 @@
+//! The promise about all hosts, whole: they stay one, whoever is faulty. It holds no code.
+#![tactic(auto)]
+
+ghost use Rattle.mb_theory.specs.Headline.{HostsStayOne};
+ghost use Rattle.mb_theory.specs.NothingLeft.{HostsLeaveNothing};
+
+/// After any events no correct host has left anything undone that is due, whoever else is faulty and whatever is forged: it has ordered, committed,
+/// executed and changed views as far as it may; what passes its tests is taken, each vote that it takes counts, and the f+1st matching vote
+/// executes in its step. So it is of whole hosts over any service.
+pub fn hosts_leave_nothing<V>()
+    ensures { HostsLeaveNothing V }
+{}
+
+/// For every service that can be replicated and every schedule with at most f faulty hosts and nothing forged, whatever is lost, repeated and
+/// reordered: views agree; correct hosts execute beginnings of one list; accepted results are the service's there; each execution is justified
+/// by what the host was given; nothing that is due is left undone, and the f+1st matching vote executes in its step; logs and votes keep their
+/// limits; and the correct are never blamed. So it is after each event, of whole hosts, while no two of the strings hashed so far share a digest.
+pub fn hosts_stay_one<V>()
+    ensures { HostsStayOne V }
+{}

@@ -1,0 +1,17 @@
+-- All that correct hosts executed and installed is justified by what they stamped and what they were given.
+use Rattle.std.proofs.Common.{ℕ}
+use Rattle.mb_theory.specs.WorldEvents.{IsCorrect}
+use Rattle.mb_theory.specs.World.{World, System}
+use Rattle.mb_theory.specs.WorldRecord.{IsConsistent}
+use Rattle.mb_theory.specs.Justification.{IsJustified}
+use Rattle.mb_known.proofs.Rests.{Each}
+use Rattle.mb_known.proofs.Facts.{Facts}
+use Rattle.mb_views.proofs.Follows.{JumpsLed}
+use Rattle.mb_justified.proofs.JustifiedSlots.{executed_justified}
+use Rattle.mb_justified.proofs.JustifiedStates.{installed_justified}
+
+pub justified_in : {S : Type 0} (system : System S) (w : World) (f : Facts system w) → ((h : ℕ) → IsCorrect system.schedule h → Each (JumpsLed system w f) (w.histories h)) → IsConsistent system.schedule w → IsJustified system.schedule w
+justified_in system w f jumps record_is = record {
+  executed = λ h later before slot correct is. executed_justified system w f jumps record_is h correct later before slot is;
+  installed = λ h pos parts correct there. installed_justified system w f h correct pos parts there;
+}

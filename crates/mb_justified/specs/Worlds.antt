@@ -1,0 +1,22 @@
+-- What correct hosts did is justified and within its limits, and they are never blamed, in each world of a schedule.
+use Rattle.std.specs.Prelude.{◌≡◌, ℕ, ◌≤◌, length}
+use Rattle.mb_model.specs.Built.{everything}
+use Rattle.mb_theory.specs.Hashed.{HashesApart}
+use Rattle.mb_theory.specs.WorldEvents.{IsSchedule}
+use Rattle.mb_theory.specs.World.{World, System}
+use Rattle.mb_theory.specs.WorldSteps.{world}
+use Rattle.mb_theory.specs.Stops.{IsUnstopped}
+use Rattle.mb_theory.specs.Justification.{IsJustified}
+use Rattle.mb_theory.specs.Bounds.{AreBounded, IsBlameless}
+
+-- What correct hosts executed and installed is justified, their logs and votes keep their limits, and they are never blamed.
+pub record HoldsOfTheCorrect {S : Type 0} (system : System S) (w : World) : Type 0 where
+  pub justified : IsJustified system.schedule w
+  pub bounded : AreBounded system w
+  pub blameless : IsBlameless system w
+
+-- For every service and every schedule with at most f faulty hosts, where the whole protocol is built: after each event, while nothing was
+-- forged or refused by the world and no two of the strings hashed so far share a digest.
+abbrev pub WorldsAreJustified : Type 0 → Type 0
+WorldsAreJustified S = (system : System S) → system.built ≡ everything → IsSchedule system.schedule
+    → (k : ℕ) → k ≤ length system.schedule.events → IsUnstopped system k → HashesApart (world system k).hashed → HoldsOfTheCorrect system (world system k)
