@@ -1,0 +1,5 @@
+pub mod Places
+pub mod Inside
+pub mod Lent
+pub mod Refusing
+pub mod Represents
