@@ -27,7 +27,7 @@ pub struct Gate {
 }
 
 impl Gate {
-    ghost use Rattle.std.specs.Prelude.{◌≡◌, ◌+◌, ◌-◌, ◌^◌, ◌<◌, Bool, ◌∷◌, min, IsTrue};
+    ghost use Rattle.std.specs.Prelude.{◌≡◌, ◌+◌, ◌-◌, ◌^◌, ◌<◌, Bool, ◌∷◌, min, Some, IsTrue};
     ghost use Rattle.mb_base.specs.Shapes.{host_count};
     ghost use Rattle.mb_parts.specs.Bares.{Bare};
     ghost use Rattle.mb_parts.specs.Ordered.{initial_floor};
@@ -103,11 +103,31 @@ impl Gate {
     {
         let answer = self.judge(mark, inner);
         match answer {
-            Offer::Next => self.advance(mark),
-            Offer::Illegal { .. } => self.closed = Some(mark.counter),
+            Offer::Next => self.follow(mark),
+            Offer::Illegal { .. } => self.close(mark.counter),
             Offer::Stale { .. } | Offer::Ahead { .. } | Offer::Convicted { .. } => {}
         }
         answer
+    }
+
+    /// Takes a message that is next: one that was judged so before, or one of the gate's own host. It is not judged again.
+    pub fn follow(&mut self, mark: &Mark)
+        requires { IsTrue (is_stamped_kind mark.now.kind) }
+        ensures { (log : SenderLog) (m : Bare) (inner : Bool) → Represents self.old log → IsMarkOf mark.now m
+            → answer log m mark.now.counter inner ≡ Offer.Next → Represents self.new (record log { taken = m ∷ log.taken }) }
+    {
+        let kind = Kind::of(mark);
+        self.at = rules::behind(&self.at, kind, mark);
+        if let Kind::Checkpoint = kind {
+            self.recent.push(self.at);
+        }
+    }
+
+    /// Closes the gate at a counter. One that is closed is closed at this counter from now on.
+    pub fn close(&mut self, counter: Counter)
+        ensures { (log : SenderLog) → Represents self.old log → Represents self.new (record log { closed = Some counter }) }
+    {
+        self.closed = Some(counter);
     }
 
     /// Goes on from a floor, and forgets what stands before it. True exactly where the floor's counter is not below the next one and the gate
@@ -150,18 +170,5 @@ impl Gate {
         ensures { result ≡ shut_before self.now.closed counter }
     {
         self.closed.filter(|closed| *closed <= counter)
-    }
-
-    /// Takes a message that is next.
-    fn advance(&mut self, mark: &Mark)
-        requires { IsTrue (is_stamped_kind mark.now.kind) }
-        ensures { (log : SenderLog) (m : Bare) (inner : Bool) → Represents self.old log → IsMarkOf mark.now m
-            → answer log m mark.now.counter inner ≡ Offer.Next → Represents self.new (record log { taken = m ∷ log.taken }) }
-    {
-        let kind = Kind::of(mark);
-        self.at = rules::behind(&self.at, kind, mark);
-        if let Kind::Checkpoint = kind {
-            self.recent.push(self.at);
-        }
     }
 }

@@ -249,6 +249,20 @@ fn floors_are_those_of_the_last_two_checkpoints(rt: HostRuntime) -> Result<(), F
 }
 
 #[test]
+fn what_is_followed_is_taken_until_the_gate_is_closed(rt: HostRuntime) -> Result<(), Fail> {
+    let mut gate = Gate::new(three_hosts()?, 0);
+    gate.follow(&prepare(1, 1));
+    gate.follow(&checkpoint(2, 4));
+    let stands = floor_at(2, (0, Open, 1, 1, 4));
+    assert_eq!(rt; (gate.at(), gate.floor(5)), (stands, Some(stands)));
+    gate.close(4);
+    assert_answers(&rt, &mut gate, &[(3, 2, Offer::Next)]);
+    gate.close(3);
+    assert_answers(&rt, &mut gate, &[(3, 2, Offer::Convicted { counter: 3 })]);
+    Ok(())
+}
+
+#[test]
 fn counters_end(rt: HostRuntime) -> Result<(), Fail> {
     let last = floor_at(Counter::MAX, (0, Open, 5, 5, 4));
     let stale = Offer::Stale { next: Counter::MAX };

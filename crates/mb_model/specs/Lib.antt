@@ -10,7 +10,6 @@ pub mod Agreement
 pub mod ViewChangeRecord
 pub mod CarriedLogs
 pub mod Built
-pub mod OtherTags
 pub mod States
 pub mod Histories
 pub mod Held

@@ -35,7 +35,7 @@ pub enum Outcome {
     LaterView { view: View },
     /// A position beyond the window above the stable position, which is told.
     BeyondWindow { low: Pos },
-    /// A vote without its request, at a position that isn't executed. The host's view and last executed position are told.
+    /// A vote without its batch, at a position that isn't executed. The host's view and last executed position are told.
     NeedBody { view: View, exec: Pos },
     /// A request, wish or STOP whose tag does not verify.
     BadTag,

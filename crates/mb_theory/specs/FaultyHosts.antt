@@ -3,7 +3,7 @@ use Rattle.std.specs.Prelude.{ℕ, ◌+◌, ◌-◌, Bool, false, ◌&&◌, List
 use Rattle.mb_base.specs.Shapes.{Bytes}
 use Rattle.mb_base.specs.declared.names.Ui.{Ui}
 use Rattle.mb_base.specs.declared.limits.TheConstants.{MESSAGE_LIMIT}
-use Rattle.mb_usig.specs.Tags.{certificate, reply_tag}
+use Rattle.mb_usig.specs.Tags.{certificate, reply_tag, wish_tag}
 use Rattle.mb_parts.specs.declared.request.Request.{Request}
 use Rattle.mb_parts.specs.declared.batch.Batch.{Batch}
 use Rattle.mb_parts.specs.Spelling.{ui_bytes, request_bytes}
@@ -19,7 +19,6 @@ use Rattle.mb_msg.specs.declared.stamped.Stamped.TheVariants as stamped
 use Rattle.mb_msg.specs.Spelling.{spelling}
 use Rattle.mb_msg.specs.Stamps.{bare_of, with_ui, as_stamped, as_message}
 use Rattle.mb_model.specs.Batches.{has_place}
-use Rattle.mb_model.specs.OtherTags.{wish_tag}
 use Rattle.mb_model.specs.UsableLogs.{normal_limit, other_limit}
 use Rattle.mb_model.specs.Plans.{no_base}
 use Rattle.mb_model.specs.OwnLog.{kept_forms, as_shown}

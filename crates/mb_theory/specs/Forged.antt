@@ -1,7 +1,7 @@
 -- What is forged: a certificate or a tag in a message that verifies, and that was never made.
 use Rattle.std.specs.Prelude.{Bool, ◌&&◌, not, Option, find}
 use Rattle.std.specs.List.{list_any}
-use Rattle.mb_usig.specs.Tags.{same_bytes, request_tag, reply_tag}
+use Rattle.mb_usig.specs.Tags.{same_bytes, request_tag, reply_tag, wish_tag}
 use Rattle.mb_parts.specs.declared.request.Request.{Request}
 use Rattle.mb_parts.specs.Spelling.{request_bytes}
 use Rattle.mb_parts.specs.Claims.{Claim}
@@ -11,7 +11,6 @@ use Rattle.mb_msg.specs.declared.message.Message.{Message}
 use Rattle.mb_msg.specs.declared.message.Message.TheVariants as message
 use Rattle.mb_msg.specs.Spelling.{spelling}
 use Rattle.mb_model.specs.Verified.{verifies}
-use Rattle.mb_model.specs.OtherTags.{wish_tag}
 use Rattle.mb_theory.specs.Inside.{claims_in, requests_in}
 use Rattle.mb_theory.specs.WorldEvents.{Schedule, is_faulty, is_faulty_client}
 use Rattle.mb_theory.specs.World.{World}

@@ -4,7 +4,7 @@ use Rattle.std.specs.Cmp.Lexicographic.{bytes_decides}
 use Rattle.sha2.proofs.Facts256.{length-sha256}
 use Rattle.mb_base.specs.Shapes.{Bytes}
 use Rattle.mb_usig.specs.Hmac.{hmac_of}
-use Rattle.mb_usig.specs.Tags.{same_bytes, usig_key, client_key, certificate, signed_request, signed_reply, is_certified}
+use Rattle.mb_usig.specs.Tags.{same_bytes, usig_key, client_key, certificate, signed_request, signed_reply, wish_tag, stop_tag, is_certified}
 
 -- a tag has 32 bytes
 pub length-hmac_of : (key message : Bytes) → length (hmac_of key message) ≡ 32
@@ -31,6 +31,14 @@ module _ (secret : Bytes) where
   pub length-signed_reply : (host client : ℕ) (text : Bytes) → length (signed_reply secret host client text) ≡ 32
   unfolding signed_reply
   length-signed_reply host client text = length-hmac_of _ _
+
+  pub length-wish_tag : (host view : ℕ) → length (wish_tag secret host view) ≡ 32
+  unfolding wish_tag
+  length-wish_tag host view = length-hmac_of _ _
+
+  pub length-stop_tag : length (stop_tag secret) ≡ 32
+  unfolding stop_tag
+  length-stop_tag = length-hmac_of _ _
 
 -- the test answers whether the byte strings are equal
 pub same_bytes-decides : (x y : Bytes) → Decides (same_bytes x y) (x ≡ y)

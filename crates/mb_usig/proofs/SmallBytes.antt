@@ -7,7 +7,7 @@ use Rattle.sha2.specs.Sha256.{digest_bytes, final_hash, initial_hash_256, sha256
 use Rattle.mb_base.specs.Shapes.{Bytes}
 use Rattle.mb_base.proofs.Laws.{IsBytes}
 use Rattle.mb_usig.specs.Hmac.{hmac_of}
-use Rattle.mb_usig.specs.Tags.{certificate, signed_request, signed_reply}
+use Rattle.mb_usig.specs.Tags.{certificate, signed_request, signed_reply, wish_tag, stop_tag}
 
 abbrev AllSmall : Bytes → Type 0
 AllSmall = AllByRecursion (λ b. b < 256)
@@ -49,3 +49,11 @@ module _ (secret : Bytes) where
   pub IsBytes-signed_reply : (host client : ℕ) (text : Bytes) → IsBytes (signed_reply secret host client text)
   unfolding signed_reply
   IsBytes-signed_reply host client text = IsBytes-hmac_of _ _
+
+  pub IsBytes-wish_tag : (host view : ℕ) → IsBytes (wish_tag secret host view)
+  unfolding wish_tag
+  IsBytes-wish_tag host view = IsBytes-hmac_of _ _
+
+  pub IsBytes-stop_tag : IsBytes (stop_tag secret)
+  unfolding stop_tag
+  IsBytes-stop_tag = IsBytes-hmac_of _ _

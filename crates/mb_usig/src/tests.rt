@@ -1,4 +1,4 @@
-use crate::{Pen, Usig, hmac};
+use crate::{Pen, Spent, Usig, hmac};
 use mb_base::{Key, Shape, Ui};
 
 const SECRET: Key = [0; 32];
@@ -19,8 +19,18 @@ const REQUEST_TAG: &[u8; 32] =
 
 const REPLY: &[u8] = b"\x03\0\0\0\0\0\0\0\x07\0\0\0\0\0\0\0\x09\0\x02OK";
 
+// The same behind the host, which is 2.
+const REPLY_OF_HOST: &[u8] = b"\x02\x03\0\0\0\0\0\0\0\x07\0\0\0\0\0\0\0\x09\0\x02OK";
+
 const REPLY_TAG: &[u8; 32] =
     b"\xaa\xe1\xa4\x64\x54\xdb\xb6\x85\xa1\x0b\x87\x9d\x95\x09\xeb\x63\x31\xca\xd9\x30\xc0\x55\x5b\xa1\x53\xbc\xea\x26\x2b\x29\x8f\x55";
+
+// Of host 2 for view 5.
+const WISH_TAG: &[u8; 32] =
+    b"\x91\x2f\x5d\xb4\x7f\x59\xaa\x13\xf4\x2d\xb3\xc3\xc5\x1f\x79\xf5\xf9\x59\xa5\x6d\x0d\xdd\xcb\xc0\x6f\x8f\x7a\xda\xc3\xdc\x77\xc6";
+
+const STOP_TAG: &[u8; 32] =
+    b"\xd1\x73\x0a\x0e\x78\xe6\xaf\x0f\x6e\x60\x88\xc5\x65\x08\xe6\x46\xb2\xc1\xa7\xff\x83\x28\xf9\x85\xea\x23\x91\x32\x38\xa5\xfd\xe4";
 
 // The first two test cases of RFC 4231.
 #[test]
@@ -81,11 +91,49 @@ fn counters_rise(rt: HostRuntime) {
 }
 
 #[test]
+fn counters_go_on(rt: HostRuntime) {
+    let shape = Shape::new(1, 4, 4).expect(&rt, "1, 4 and 4 are a shape");
+    let mut usig = Usig::resumed(shape, 2, &SECRET, 1);
+    let second = usig
+        .create_ui(b"second message")
+        .expect(&rt, "counters are left");
+    assert_eq!(rt;
+        second,
+        Ui {
+            host: 2,
+            counter: 2,
+            cert: *SECOND_CERT
+        }
+    );
+    let mut spent = Usig::resumed(shape, 2, &SECRET, u64::MAX);
+    assert_eq!(rt; spent.create_ui(b"one more"), Err(Spent));
+}
+
+#[test]
 fn tags_of_clients(rt: HostRuntime) {
     let shape = Shape::new(1, 4, 4).expect(&rt, "1, 4 and 4 are a shape");
     let usig = Usig::new(shape, 2, &SECRET);
-    assert_eq!(rt; Pen::new(&SECRET, 3).tag_request(REQUEST), *REQUEST_TAG);
+    let pen = Pen::new(&SECRET, 3);
+    assert_eq!(rt; pen.tag_request(REQUEST), *REQUEST_TAG);
+    assert!(rt; pen.verify_request(REQUEST, REQUEST_TAG));
+    assert!(rt; !Pen::new(&SECRET, 2).verify_request(REQUEST, REQUEST_TAG));
     assert!(rt; usig.verify_request(3, REQUEST, REQUEST_TAG));
     assert!(rt; !usig.verify_request(2, REQUEST, REQUEST_TAG));
     assert_eq!(rt; usig.tag_reply(3, REPLY), *REPLY_TAG);
+    assert!(rt; pen.verify_reply(REPLY_OF_HOST, REPLY_TAG));
+    assert!(rt; !pen.verify_reply(REPLY, REPLY_TAG));
+}
+
+#[test]
+fn tags_of_wishes_and_stops(rt: HostRuntime) {
+    let shape = Shape::new(1, 4, 4).expect(&rt, "1, 4 and 4 are a shape");
+    let usig = Usig::new(shape, 2, &SECRET);
+    assert_eq!(rt; usig.tag_wish(5), *WISH_TAG);
+    let other = Usig::new(shape, 0, &SECRET);
+    assert!(rt; other.verify_wish(2, 5, WISH_TAG));
+    assert!(rt; !other.verify_wish(1, 5, WISH_TAG));
+    assert!(rt; !other.verify_wish(2, 6, WISH_TAG));
+    assert_eq!(rt; Pen::new(&SECRET, 0).tag_stop(), *STOP_TAG);
+    assert!(rt; other.verify_stop(STOP_TAG));
+    assert!(rt; !other.verify_stop(WISH_TAG));
 }

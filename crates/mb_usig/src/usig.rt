@@ -5,11 +5,11 @@ ghost use Rattle.std.specs.Int.{w8, w64};
 ghost use Rattle.mb_base.specs.Shapes.{host_count, client_count};
 ghost use Rattle.mb_base.specs.Spelling.{number};
 ghost use Rattle.mb_usig.specs.Hmac.{hmac_of};
-ghost use Rattle.mb_usig.specs.Tags.{client_key, certificate, is_certified, same_bytes, signed_request, signed_reply};
+ghost use Rattle.mb_usig.specs.Tags.{client_key, certificate, is_certified, same_bytes, signed_request, signed_reply, wish_tag, stop_tag};
 
 use crate::keyed_hash::HmacKey;
 use crate::keys::{ClientKeys, client_keys_of, usig_key_of};
-use mb_base::{Client, Counter, Digest, Host, Key, Shape, Ui};
+use mb_base::{Client, Counter, Digest, Host, Key, Shape, Ui, View};
 use sha2::{Digest as _, Sha256};
 use std::marker::Model;
 
@@ -68,6 +68,17 @@ impl Usig {
             counter: 0,
             key: HmacKey::new(usig_key.as_slice()),
             client_keys: client_keys_of(secret, shape.clients()),
+        }
+    }
+
+    /// The part of a host that bound its last message to this counter.
+    pub fn resumed(shape: Shape, host: Host, secret: &Key, last: Counter) -> Usig
+        requires { host < host_count shape }
+        ensures { result ≡ record { shape = shape; host = host; secret = secret.now; counter = last } }
+    {
+        Usig {
+            counter: last,
+            ..Usig::new(shape, host, secret)
         }
     }
 
@@ -143,5 +154,35 @@ impl Usig {
         ensures { result ≡ signed_reply self.now.secret self.now.host client signed.now }
     {
         self.client_tag(client, &[b'R', self.host], signed)
+    }
+
+    // The tag of a host's wish for a view.
+    #[tactic(auto, unfolding(crate::specs::Tags::wish_tag, mb_base::specs::Spelling::number))]
+    fn wish_tag(&self, host: Host, view: View) -> Digest
+        ensures { result ≡ wish_tag self.now.secret host view }
+    {
+        self.key.tag(&[b'W', host], &view.to_be_bytes())
+    }
+
+    /// This host's tag of its wish for a view.
+    pub fn tag_wish(&self, view: View) -> Digest
+        ensures { result ≡ wish_tag self.now.secret self.now.host view }
+    {
+        self.wish_tag(self.host, view)
+    }
+
+    /// Whether a tag is the one of a host's wish for a view.
+    pub fn verify_wish(&self, host: Host, view: View, tag: &Digest) -> bool
+        ensures { result ≡ same_bytes tag.now (wish_tag self.now.secret host view) }
+    {
+        *tag == self.wish_tag(host, view)
+    }
+
+    /// Whether a tag is the one of a STOP, which is client 0's.
+    #[tactic(auto, unfolding(crate::specs::Tags::stop_tag))]
+    pub fn verify_stop(&self, tag: &Digest) -> bool
+        ensures { result ≡ same_bytes tag.now (stop_tag self.now.secret) }
+    {
+        *tag == self.client_tag(0, b"S", &[])
     }
 }

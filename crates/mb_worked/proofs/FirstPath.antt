@@ -3,7 +3,7 @@
 use Rattle.std.proofs.Common.{◌≡◌, ℕ, ◌+◌, List, [], ◌∷◌, length, map, Option, Some, None, refl}
 use Rattle.std.specs.Prelude.{true, replicate}
 use Rattle.mb_base.specs.Shapes.{Bytes}
-use Rattle.mb_usig.specs.Tags.{certificate, request_tag}
+use Rattle.mb_usig.specs.Tags.{certificate, request_tag, stop_tag}
 use Rattle.mb_parts.specs.declared.request.Request.{Request}
 use Rattle.mb_parts.specs.declared.batch.Batch.{Batch}
 use Rattle.mb_parts.specs.Bares.{bare_bytes, batch_digest}
@@ -21,7 +21,6 @@ use Rattle.mb_msg.specs.declared.stamped.Stamped.{Stamped as StampedMessage}
 use Rattle.mb_msg.specs.declared.stamped.Stamped.TheVariants as stamped
 use Rattle.mb_msg.specs.Spelling.{kind_of}
 use Rattle.mb_msg.specs.Stamps.{bare_of, with_ui, as_message}
-use Rattle.mb_model.specs.OtherTags.{stop_tag}
 use Rattle.mb_model.specs.Built.{first_path}
 use Rattle.mb_model.specs.Histories.{Entry, Accepted, Stamped, Served, Executed, History, Identity}
 use Rattle.mb_model.specs.Sending.{Progress, begin}

@@ -1,7 +1,7 @@
 use Rattle.std.proofs.Common.{sym, ◌∙◌}
 use Rattle.mb_gate.proofs.FloorsBehind.{floors_more, floors_same}
 use Rattle.mb_gate.proofs.Standing.{takes}
-use Rattle.mb_gate.proofs.gate.Gate.advance.Goals as goal
+use Rattle.mb_gate.proofs.gate.Gate.follow.Goals as goal
 
 pub returns-in-Checkpoint : goal.returns-in-Checkpoint
 returns-in-Checkpoint c = λ log m inner r is e.
