@@ -11,6 +11,7 @@ use Rattle.std.specs.Map.{keys_of, lookup, remove_entry}
 use Rattle.std.specs.BTreeMap.{insert_entry, is_at}
 use Rattle.std.proofs.lemmas.Bool.{leb-false}
 use Rattle.std.proofs.lemmas.Map.Lookups.{exact_bytes}
+use Rattle.std.proofs.lemmas.Option.{same_Some}
 use Rattle.mb_base.specs.Shapes.{Bytes}
 use Rattle.mb_kv.specs.declared.kept.Kept.{Kept}
 use Rattle.mb_kv.specs.declared.limits.TheConstants.{MAX_KEYS, MAX_VALUE}
@@ -18,6 +19,7 @@ use Rattle.mb_kv.specs.Pairs.{Pairs, compare, value_of, with_value, without}
 use Rattle.mb_kv.specs.Operations.{is_full_for}
 use Rattle.mb_kv.specs.Snapshots.{bucket_of}
 use Rattle.mb_kv.specs.States.{PairFits, IsState}
+use Rattle.mb_kv.specs.Laws.OrderLaws.{key_is}
 use Rattle.mb_kv.specs.Seen.{pair_seen, pairs_seen, EntryFits, AreKept}
 
 abbrev pub Entry : Type 0
@@ -109,6 +111,15 @@ found_short key (e ∷ es) v all is =
       | inr later ↦ found_short key es v all.1 later
     ]
 
+-- a key that is found stands in its own bucket
+pub found_own : (key : Bytes) (es : List Entry) (v : Kept) → AllByRecursion EntryFits es → lookup (is_at (search_for key)) es ≡ Some v → v.bucket ≡ bucket_of key
+found_own key [] v all e = absurd cc
+found_own key (e ∷ es) v all is = by (is_eq (compare key e.0.items)) refl is (λ later. found_own key es v all.1 later)
+  where
+    by : (b : Bool) → is_eq (compare key e.0.items) ≡ b → cond b (Some e.1) (lookup (is_at (search_for key)) es) ≡ Some v → (lookup (is_at (search_for key)) es ≡ Some v → v.bucket ≡ bucket_of key) → v.bucket ≡ bucket_of key
+    by true here h more = ap (λ (k : Kept). k.bucket) (sym (same_Some e.1 v h)) ∙ all.0.bucket_is ∙ ap bucket_of (sym (key_is key e.0.items here))
+    by false here h more = more h
+
 none_found : (b : Bool) (v : Bytes) (rest : Option Bytes) → cond b (Some v) rest ≡ None → (b ≡ false) × (rest ≡ None)
 none_found true v rest e = absurd cc
 none_found false v rest e = (refl, e)
@@ -142,8 +153,8 @@ pairs_fit [] all = tt
 pairs_fit (e ∷ es) all = (all.0.fits, pairs_fit es all.1)
 
 -- what a map keeps is a state
-pub kept_is_state : (es : List Entry) → IsStrictlySortedBy key_order (keys_of es) → AreKept es → IsState (pairs_seen es)
-kept_is_state es rise kept = record {
+pub kept_is_state : (es : List Entry) (digests : List (Option Bytes)) → IsStrictlySortedBy key_order (keys_of es) → AreKept es digests → IsState (pairs_seen es)
+kept_is_state es digests rise kept = record {
   rises = keys_rise es rise;
   fits = pairs_fit es kept.fits;
   few = omega (arith, kept.few, length-map es pair_seen);

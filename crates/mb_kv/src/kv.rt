@@ -9,7 +9,8 @@ use crate::bucket::bucket_of;
 use crate::kept::{Entry, Kept};
 use crate::limits::MAX_KEYS;
 use crate::results::{ABSENT, DONE, FOUND, FULL, OTHER, plain, with_value};
-use mb_base::{Items, NoMemory};
+use mb_base::{Digest, Items, NoMemory};
+use mb_service::PARTS;
 use std::alloc::Global;
 use std::collections::BTreeMap;
 use std::marker::Model;
@@ -18,6 +19,8 @@ use std::marker::Model;
 #[derive(Debug, Drop)]
 pub struct Kv {
     pub(crate) pairs: BTreeMap<Vec<u8>, Kept>,
+    /// For each part its digest, where it was hashed and its bucket did not change since.
+    pub(crate) digests: [Option<Digest>; PARTS as usize],
 }
 
 impl Model for Kv {
@@ -28,7 +31,7 @@ impl Model for Kv {
 
     ghost view = { λ kv. pairs_seen kv.pairs.entries };
 
-    ghost invariant = { λ kv. AreKept kv.pairs.entries };
+    ghost invariant = { λ kv. AreKept kv.pairs.entries kv.digests };
 }
 
 /// A key of a bucket with its value, as they are kept.
@@ -49,6 +52,7 @@ pub(crate) fn entry_of(
 
 impl Kv {
     ghost use Rattle.std.specs.Prelude.{◌≡◌, ◌≤◌, false, [], length, IfOk, IfSome, OnOk, OnErr, is_some, option_copied};
+    ghost use Rattle.mb_service.specs.Parts.{IsShort};
     ghost use Rattle.mb_kv.specs.declared.limits.TheConstants.{MAX_VALUE};
     ghost use Rattle.mb_kv.specs.Pairs.{value_of, with_value, without};
     ghost use Rattle.mb_kv.specs.Operations.{Put, Get, Delete, Swap, after_operation, result_of, is_full_for};
@@ -61,6 +65,7 @@ impl Kv {
     {
         Kv {
             pairs: BTreeMap::new(alloc),
+            digests: [None; PARTS as usize],
         }
     }
 
@@ -101,6 +106,7 @@ impl Kv {
         ensures kept { OnErr result (self.new ≡ self.old) }
     {
         let (key, kept) = entry;
+        self.digests[usize::from(kept.bucket)] = None;
         self.pairs.insert(key, kept)?;
         Ok(())
     }
@@ -108,7 +114,9 @@ impl Kv {
     fn remove(&mut self, key: &[u8])
         ensures { self.new ≡ without self.old key.now }
     {
-        self.pairs.remove(key);
+        if let Some(removed) = self.pairs.remove(key) {
+            self.digests[usize::from(removed.bucket)] = None;
+        }
     }
 
     pub(crate) fn put(
@@ -120,7 +128,7 @@ impl Kv {
         requires { PairFits (key.now, value.now) }
         ensures answer { IfOk result (λ r. r ≡ result_of (Put key.now value.now) self.old) }
         ensures state { OnOk result (self.new ≡ after_operation (Put key.now value.now) self.old) }
-        ensures short { IfOk result (λ r. length r ≤ 1) }
+        ensures short { IfOk result IsShort }
         ensures kept { OnErr result (self.new ≡ self.old) }
     {
         if self.is_full_for(key) {
@@ -133,7 +141,7 @@ impl Kv {
 
     pub(crate) fn get(&self, alloc: Global, key: &[u8]) -> Result<Items<u8>, NoMemory>
         ensures answer { IfOk result (λ r. r ≡ result_of (Get key.now) self.now) }
-        ensures short { IfOk result (λ r. length r ≤ 515) }
+        ensures short { IfOk result IsShort }
     {
         match self.value_of(key) {
             Some(value) => with_value(alloc, FOUND, value),
@@ -144,7 +152,7 @@ impl Kv {
     pub(crate) fn delete(&mut self, alloc: Global, key: &[u8]) -> Result<Items<u8>, NoMemory>
         ensures answer { IfOk result (λ r. r ≡ result_of (Delete key.now) self.old) }
         ensures state { OnOk result (self.new ≡ after_operation (Delete key.now) self.old) }
-        ensures short { IfOk result (λ r. length r ≤ 1) }
+        ensures short { IfOk result IsShort }
         ensures kept { OnErr result (self.new ≡ self.old) }
     {
         if !self.has(key) {
@@ -166,7 +174,7 @@ impl Kv {
         requires { PairFits (key.now, new.now) }
         ensures answer { IfOk result (λ r. r ≡ result_of (Swap key.now old.now new.now) self.old) }
         ensures state { OnOk result (self.new ≡ after_operation (Swap key.now old.now new.now) self.old) }
-        ensures short { IfOk result (λ r. length r ≤ 515) }
+        ensures short { IfOk result IsShort }
         ensures kept { OnErr result (self.new ≡ self.old) }
     {
         match self.value_of(key) {

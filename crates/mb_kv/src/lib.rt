@@ -4,6 +4,7 @@
 mod bucket;
 mod kept;
 mod kv;
+mod laws;
 mod limits;
 mod operation;
 mod results;
@@ -12,6 +13,7 @@ mod snapshot;
 mod unread;
 
 pub use kv::Kv;
+pub use laws::kv_is_replicable;
 pub use limits::{MAX_KEY, MAX_KEYS, MAX_VALUE};
 
 #[cfg(test)]

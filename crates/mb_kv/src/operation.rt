@@ -3,7 +3,8 @@
 ghost use Rattle.std.specs.Prelude.{◌≡◌, ◌≤◌, length, IfOk};
 ghost use Rattle.mb_base.specs.Fields.{GivesIn, place_of};
 ghost use Rattle.mb_kv.specs.Operations.{key_at, value_at, operation_of};
-ghost use Rattle.mb_kv.specs.Seen.{as_operation, kind_and_operation_at, OperationFits};
+ghost use Rattle.mb_kv.specs.Seen.{as_operation, kind_and_operation_at};
+ghost use Rattle.mb_kv.specs.States.{OperationFits};
 
 use crate::limits::{MAX_KEY, MAX_VALUE};
 use mb_base::{BadField, Fields};
@@ -35,7 +36,7 @@ pub(crate) enum Operation<'a> {
 #[tactic(auto, unfolding(crate::specs::Operations::operation_of))]
 pub(crate) fn read_operation(op: &[u8]) -> Operation<'_>
     ensures read { as_operation result ≡ operation_of op.now }
-    ensures fits { OperationFits result }
+    ensures fits { OperationFits (as_operation result) }
 {
     let mut fields = Fields::over(op);
     match next_operation(&mut fields) {
@@ -47,7 +48,7 @@ pub(crate) fn read_operation(op: &[u8]) -> Operation<'_>
 #[tactic(auto, unfolding(crate::specs::Operations::operation_at))]
 fn next_operation<'a>(fields: &mut Fields<'a>) -> Result<Operation<'a>, BadField>
     ensures read { GivesIn as_operation result fields.new (kind_and_operation_at (place_of fields.old)) }
-    ensures fits { IfOk result OperationFits }
+    ensures fits { IfOk result (λ operation. OperationFits (as_operation operation)) }
 {
     match fields.get_u8()? {
         1 => {

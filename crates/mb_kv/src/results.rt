@@ -2,6 +2,7 @@
 
 ghost use Rattle.std.specs.Prelude.{◌≡◌, ◌≤◌, ◌∷◌, [], length, IfOk};
 ghost use Rattle.mb_base.specs.Spelling.{text16};
+ghost use Rattle.mb_service.specs.Parts.{IsShort};
 
 use crate::limits::MAX_VALUE;
 use mb_base::{Items, NoMemory, put_bytes, put_u8, put_u16};
@@ -39,7 +40,7 @@ pub(crate) fn plain(alloc: Global, first: u8) -> Result<Items<u8>, NoMemory>
 pub(crate) fn with_value(alloc: Global, first: u8, value: &[u8]) -> Result<Items<u8>, NoMemory>
     requires { length value.now ≤ MAX_VALUE }
     ensures found { IfOk result (λ r. r ≡ first ∷ text16 value.now) }
-    ensures short { IfOk result (λ r. length r ≤ 515) }
+    ensures short { IfOk result IsShort }
 {
     let mut result = Vec::with_capacity(alloc, 3 + value.len())?;
     put_u8(&mut result, first)?;

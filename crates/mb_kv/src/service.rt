@@ -4,14 +4,16 @@ use crate::kv::Kv;
 use crate::operation::{Operation, read_operation};
 use crate::results::{BAD, plain};
 use crate::snapshot::{read_parts, restored_of, write_part};
-use mb_base::{Items, NoMemory};
+use mb_base::{Digest, Items, NoMemory};
 use mb_service::{Restore, Service};
+use sha2::{Digest as _, Sha256};
 use std::alloc::Global;
 
 impl Service for Kv {
     ghost use Rattle.mb_kv.specs.Operations.{after, answer};
     ghost use Rattle.mb_kv.specs.Snapshots.{part_of, restored};
     ghost use Rattle.mb_kv.specs.States.{IsState};
+    ghost use Rattle.mb_kv.specs.Laws.StateLaws.{states_stay, answers_are_short};
     ghost use Rattle.mb_kv.specs.Laws.SnapshotLaws.{parts_give_the_state, one_list_of_parts};
 
     ghost is_state = { IsState };
@@ -23,6 +25,10 @@ impl Service for Kv {
     ghost part_of = { part_of };
 
     ghost restored = { restored };
+
+    ghost states_stay = { states_stay };
+
+    ghost answers_are_short = { answers_are_short };
 
     ghost parts_give_the_state = { parts_give_the_state };
 
@@ -47,6 +53,16 @@ impl Service for Kv {
         // A state has few pairs, and they are short.
         self.known();
         write_part(alloc, self, part)
+    }
+
+    fn part_digest(&mut self, alloc: Global, part: u8) -> Result<Digest, NoMemory> {
+        if let Some(digest) = self.digests[usize::from(part)] {
+            return Ok(digest);
+        }
+        let text = write_part(alloc, self, part)?;
+        let digest = Sha256::digest(text.as_slice());
+        self.digests[usize::from(part)] = Some(digest);
+        Ok(digest)
     }
 
     fn restore(&mut self, alloc: Global, parts: &[Items<u8>]) -> Result<(), Restore> {

@@ -1,10 +1,11 @@
 //! A service: what operations do to its state, and its state as parts.
 
 ghost use Rattle.std.specs.Prelude.{◌≡◌, ◌<◌, ◌≤◌, ℕ, List, length, Result, Ok, IfOk, OnOk, OnErr};
-ghost use Rattle.mb_service.specs.Parts.{parts_of, AreParts, Restores};
+ghost use Rattle.sha2.specs.Sha256.{sha256};
+ghost use Rattle.mb_service.specs.Parts.{IsShort, parts_of, AreParts, Restores};
 
 use crate::restore::Restore;
-use mb_base::{Items, NoMemory};
+use mb_base::{Digest, Items, NoMemory};
 use std::alloc::Global;
 
 /// How many parts a state has.
@@ -40,7 +41,7 @@ pub trait Service {
     /// Applies an operation, and gives its result. After `NoMemory` the state is as before.
     fn apply(&mut self, alloc: Global, op: &[u8]) -> Result<Items<u8>, NoMemory>
         ensures answer { IfOk result (λ r. r ≡ answer self.old op.now) }
-        ensures short { IfOk result (λ r. length r ≤ MAX_RESULT) }
+        ensures short { IfOk result IsShort }
         ensures state { OnOk result (self.new ≡ after self.old op.now) }
         ensures kept { OnErr result (self.new ≡ self.old) };
 
@@ -50,10 +51,22 @@ pub trait Service {
         ensures part { IfOk result (λ r. r ≡ part_of self.now part) }
         ensures short { IfOk result (λ r. length r ≤ MAX_PART) };
 
+    /// The SHA-256 of a part of the state. The state stays as it is: the call may only keep what it hashed.
+    fn part_digest(&mut self, alloc: Global, part: u8) -> Result<Digest, NoMemory>
+        requires { part < PARTS }
+        ensures digest { IfOk result (λ d. d ≡ sha256 (part_of self.old part)) }
+        ensures kept { self.new ≡ self.old };
+
     /// Takes the state of these parts in the place of its own.
     fn restore(&mut self, alloc: Global, parts: &[Items<u8>]) -> Result<(), Restore>
         requires { length parts.now ≡ PARTS }
         ensures { Restores restored parts.now result self.old self.new };
+
+    /// After each operation a state is a state.
+    ghost states_stay: { (s : Self) (op : List ℕ) → is_state s → is_state (after s op) };
+
+    /// In a state each result is short.
+    ghost answers_are_short: { (s : Self) (op : List ℕ) → is_state s → IsShort (answer s op) };
 
     /// The parts of a state give that state. So parts that give none are no state's.
     ghost parts_give_the_state: { (s : Self) → is_state s → restored (parts_of part_of s) ≡ Ok s };

@@ -4,4 +4,4 @@ use Rattle.mb_kv.proofs.EntryLaws.{kept_is_state}
 use Rattle.mb_kv.proofs.service.KvService.known.Goals as goal
 
 pub returns : goal.returns
-returns c = subst IsState c.self.view_is (kept_is_state c.self.inside.pairs.entries c.len-count.ensures.ordered c.self.invariant)
+returns c = subst IsState c.self.view_is (kept_is_state c.self.inside.pairs.entries c.self.inside.digests c.len-count.ensures.ordered c.self.invariant)
