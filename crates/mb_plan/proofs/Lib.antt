@@ -1,0 +1,6 @@
+pub mod Counts
+pub mod Marked
+pub mod TestLists
+pub mod Openings
+pub mod TakenEntries
+pub mod AtGate

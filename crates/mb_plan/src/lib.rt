@@ -1,0 +1,36 @@
+//! Shown logs: whether what a VIEW_CHANGE shows is usable.
+//!
+//! A VIEW_CHANGE shows all that its host stamped since a floor that f+1 hosts certified, or since its start. It is usable where nothing is left
+//! out, altered or out of order. The reasons for which it may not be are looked for in this order; the first three stand before all entries,
+//! and the next six are asked of each entry before the next one:
+//!
+//! | Reason | What fails |
+//! |---|---|
+//! | 1 | the floor certificate does not check for the host |
+//! | 2 | the stable certificate does not check, or is below the floor certificate |
+//! | 9 | more entries than allowed, of one sort or the other |
+//! | 3 | the counter is not the next one |
+//! | 4 | the entry is not the host's, or its tag does not verify |
+//! | 5 | the entry may not stand there |
+//! | 6 | a body is shown that isn't asked for, or isn't shown where it is |
+//! | 7 | a vote, or an OPEN's end, is more than 2K above the stable position |
+//! | 8 | a request's tag does not verify, or the body of an OPEN is not that of its plan |
+//!
+//! Behind the last entry 3 and 5 are asked of the VIEW_CHANGE itself: it has the next counter, and goes to a later view.
+//!
+//! The protocol is MinBFT (Veronese, Correia, Bessani, Lung, Verissimo: *Efficient Byzantine Fault-Tolerance*, IEEE Transactions on Computers,
+//! 2013). There too a VIEW-CHANGE shows all messages that its replica sent since its last checkpoint certificate.
+#![tactic(auto)]
+
+mod bodies;
+mod certificates;
+mod entries;
+mod shown;
+mod tags;
+
+pub use bodies::{check_open, inner_valid};
+pub use shown::{BadProof, usable};
+pub use tags::{are_tagged, is_tagged};
+
+#[cfg(test)]
+mod tests;
