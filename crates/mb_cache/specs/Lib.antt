@@ -1,0 +1,5 @@
+pub mod Tables
+pub mod Answers
+pub mod Reading
+pub mod Represents
+pub mod Digests

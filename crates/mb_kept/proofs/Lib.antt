@@ -1,0 +1,5 @@
+pub mod Rows
+pub mod Agreed
+pub mod Places
+pub mod InHistories
+pub mod Found

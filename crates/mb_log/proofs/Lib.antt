@@ -1,0 +1,3 @@
+pub mod Packing
+pub mod Keeping
+pub mod Histories

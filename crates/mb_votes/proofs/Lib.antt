@@ -1,0 +1,3 @@
+pub mod Ranks
+pub mod Scans
+pub mod Behind
