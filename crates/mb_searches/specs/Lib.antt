@@ -1,0 +1,4 @@
+pub mod Speaks
+pub mod Behind
+pub mod Gates
+pub mod Sound
