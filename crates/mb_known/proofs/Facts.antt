@@ -25,7 +25,9 @@ use Rattle.mb_model.specs.OwnLists.{AreNumbered}
 use Rattle.mb_model.proofs.StepArises.{Arises}
 use Rattle.mb_theory.specs.Hashed.{HashesApart}
 use Rattle.mb_theory.specs.Inside.{floor_bodies}
-use Rattle.mb_theory.specs.WorldEvents.{Schedule, is_faulty, IsCorrect}
+use Rattle.mb_sched.specs.declared.schedule.Schedule.{Schedule}
+use Rattle.mb_sched.specs.Limits.{is_faulty}
+use Rattle.mb_theory.specs.WorldEvents.{IsCorrect}
 use Rattle.mb_theory.specs.World.{World, System, self_of, stamps}
 use Rattle.mb_theory.specs.WorldRecord.{issued}
 use Rattle.mb_known.proofs.Grown.{IsGivenTo, IsHashed}

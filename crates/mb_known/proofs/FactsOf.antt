@@ -15,7 +15,7 @@ use Rattle.mb_model.proofs.StepArises.{Arises}
 use Rattle.mb_model.proofs.StepEventsArise.{after_arises}
 use Rattle.mb_model.proofs.OwnListsOrdered.{own_lists}
 use Rattle.mb_theory.specs.Hashed.{HashesApart}
-use Rattle.mb_theory.specs.WorldEvents.{IsSchedule}
+use Rattle.mb_sched.specs.Limits.{IsSchedule}
 use Rattle.mb_theory.specs.World.{World, System, self_of, if_read}
 use Rattle.mb_theory.specs.WorldSteps.{world}
 use Rattle.mb_theory.specs.Stops.{IsUnstopped}

@@ -13,7 +13,10 @@ use Rattle.mb_msg.specs.Spelling.{spelling}
 use Rattle.mb_msg.specs.declared.event.Event.{Event}
 use Rattle.mb_msg.specs.declared.event.Event.TheVariants as event
 use Rattle.mb_model.specs.Histories.{History, said, stamped}
-use Rattle.mb_theory.specs.WorldEvents.{WorldEvent, HostName, ClientName, Ask, Give, Take, Raw, Patience, Nudge, Sign, TagReply, TagWish, StampPrepare, StampCommit, StampCheckpoint, StampChange, StampAs, StampRaw, EventFits, IsSchedule, is_faulty, is_faulty_client}
+use Rattle.mb_sched.specs.declared.schedule.Name.TheVariants as name
+use Rattle.mb_sched.specs.declared.schedule.WorldEvent.{WorldEvent}
+use Rattle.mb_sched.specs.declared.schedule.WorldEvent.TheVariants.{Ask, Give, Take, Raw, Patience, Nudge, Sign, TagReply, TagWish, StampPrepare, StampCommit, StampCheckpoint, StampChange, StampAs, StampRaw}
+use Rattle.mb_sched.specs.Limits.{EventFits, IsSchedule, is_faulty, is_faulty_client}
 use Rattle.mb_theory.specs.World.{numbered, World, System, stamps, steps, give_host, give_client, client_reads, heard, signal, arrives, made, request_of}
 use Rattle.mb_theory.specs.FaultyHosts.{stamp_some, stamp_content, content, prepare_of, commit_for, stamp_bytes, checkpoint_with, change_after, reply_of_host, wish_of_host}
 use Rattle.mb_theory.specs.WorldSteps.{where_faulty, with_message, stamps_some, happens, after, world}
@@ -75,8 +78,8 @@ module _ {S : Type 0} (system : System S) where
   event_quiet w (Ask c op) f q = q
   event_quiet w (Give m h) f q = message_quiet (give_host system h) (numbered w.pool m) w (λ b. host_quiet h b w f q) q
   event_quiet w (Take m c) f q = message_quiet (give_client system.schedule c) (numbered w.pool m) w (λ b. client_quiet c b w q) q
-  event_quiet w (Raw (HostName h) bytes) f q = host_quiet h bytes w f q
-  event_quiet w (Raw (ClientName c) bytes) f q = client_quiet c bytes w q
+  event_quiet w (Raw (name.Host h) bytes) f q = host_quiet h bytes w f q
+  event_quiet w (Raw (name.Client c) bytes) f q = client_quiet c bytes w q
   event_quiet w (Patience h) f q = signal_quiet h event.Patience w f q
   event_quiet w (Nudge h) f q = signal_quiet h event.Nudge w f q
   event_quiet w (Sign c seq op) f q = faulty_quiet (is_faulty_client system.schedule c) (made system.schedule (spelling (message.Request (request_of system.schedule c seq op)))) w q q

@@ -26,7 +26,10 @@ use Rattle.mb_model.specs.Sending.{Letter, Progress}
 use Rattle.mb_model.specs.HostStep.{transition}
 use Rattle.mb_model.proofs.Members.{In, in_left, in_right}
 use Rattle.mb_theory.specs.Inside.{strings_in, claims_in}
-use Rattle.mb_theory.specs.WorldEvents.{WorldEvent, HostName, ClientName, Ask, Give, Take, Raw, Patience, Nudge, Sign, TagReply, TagWish, StampPrepare, StampCommit, StampCheckpoint, StampChange, StampAs, StampRaw, is_faulty, is_faulty_client}
+use Rattle.mb_sched.specs.declared.schedule.Name.TheVariants as name
+use Rattle.mb_sched.specs.declared.schedule.WorldEvent.{WorldEvent}
+use Rattle.mb_sched.specs.declared.schedule.WorldEvent.TheVariants.{Ask, Give, Take, Raw, Patience, Nudge, Sign, TagReply, TagWish, StampPrepare, StampCommit, StampCheckpoint, StampChange, StampAs, StampRaw}
+use Rattle.mb_sched.specs.Limits.{is_faulty, is_faulty_client}
 use Rattle.mb_theory.specs.World.{update, numbered, World, FaultyStamp, System, nothing_happened, self_of, read, stamps, steps, answered, give_host, give_client, client_reads, client_asks, heard, signal, arrives, made, request_of, given_strings, state_strings_in, with_tagged, is_tagged_message, Lost}
 use Rattle.mb_theory.specs.FaultyHosts.{stamp_as, stamp_some, stamp_content, stamp_bytes, content, prepare_of, commit_for, checkpoint_with, change_after, reply_of_host, wish_of_host}
 use Rattle.mb_theory.specs.WorldSteps.{where_faulty, with_message, stamps_some, happens, after, world}
@@ -399,8 +402,8 @@ module _ {S : Type 0} (system : System S) where
   happens_standing w (Ask c op) none s = asks_standing c op w s
   happens_standing w (Give m h) none s = pool_standing w m h none s
   happens_standing w (Take m c) none s = take_standing w c (numbered w.pool m) s
-  happens_standing w (Raw (HostName h) bytes) none s = host_standing h bytes w (λ correct x r. no_forgery w (Raw (HostName h) bytes) none x (rw correct r)) s
-  happens_standing w (Raw (ClientName c) bytes) none s = client_standing c bytes w s
+  happens_standing w (Raw (name.Host h) bytes) none s = host_standing h bytes w (λ correct x r. no_forgery w (Raw (name.Host h) bytes) none x (rw correct r)) s
+  happens_standing w (Raw (name.Client c) bytes) none s = client_standing c bytes w s
   happens_standing w (Patience h) none s = signalled h event.Patience w (λ given old done a. patience_event (self_of system h) given old done (w.histories h) a) s
   happens_standing w (Nudge h) none s = signalled h event.Nudge w (λ given old done a. nudge_event (self_of system h) given old done (w.histories h) a) s
   happens_standing w (Sign c seq op) none s = faulty_standing (is_faulty_client system.schedule c) (made system.schedule (spelling (message.Request (request_of system.schedule c seq op)))) w (made_standing _ w s) s

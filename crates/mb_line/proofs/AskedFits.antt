@@ -17,7 +17,11 @@ use Rattle.mb_msg.specs.Spelling.{spelling}
 use Rattle.mb_msg.specs.Stamps.{as_stamped}
 use Rattle.mb_model.specs.Clients.{Asker, Taken, Waiting, Accepted, BadTag, OtherSeq, taken, left_by, takes}
 use Rattle.mb_model.proofs.Members.{In}
-use Rattle.mb_theory.specs.WorldEvents.{WorldEvent, HostName, ClientName, Ask, Give, Take, Raw, Patience, Nudge, Sign, TagReply, TagWish, StampPrepare, StampCommit, StampCheckpoint, StampChange, StampAs, StampRaw, Schedule, is_faulty, is_faulty_client, EventFits, IsSchedule}
+use Rattle.mb_sched.specs.declared.schedule.Name.TheVariants as name
+use Rattle.mb_sched.specs.declared.schedule.WorldEvent.{WorldEvent}
+use Rattle.mb_sched.specs.declared.schedule.WorldEvent.TheVariants.{Ask, Give, Take, Raw, Patience, Nudge, Sign, TagReply, TagWish, StampPrepare, StampCommit, StampCheckpoint, StampChange, StampAs, StampRaw}
+use Rattle.mb_sched.specs.declared.schedule.Schedule.{Schedule}
+use Rattle.mb_sched.specs.Limits.{is_faulty, is_faulty_client, EventFits, IsSchedule}
 use Rattle.mb_theory.specs.World.{numbered, World, System, give_host, give_client, client_reads, heard, signal, made, request_of}
 use Rattle.mb_theory.specs.FaultyHosts.{stamp_some, stamp_content, stamp_bytes, content, prepare_of, commit_for, checkpoint_with, change_after, reply_of_host, wish_of_host}
 use Rattle.mb_theory.specs.WorldSteps.{where_faulty, with_message, stamps_some, happens, after, world}
@@ -76,8 +80,8 @@ module _ {S : Type 0} (system : System S) where
     event_asks (Ask c op) fits = inr (c, op, fits, refl)
     event_asks (Give m h) fits = inl (given_same h (numbered w.pool m))
     event_asks (Take m c) fits = inl (taken_same c (numbered w.pool m))
-    event_asks (Raw (HostName h) bytes) fits = inl (host_same h bytes)
-    event_asks (Raw (ClientName c) bytes) fits = inl (client_same c bytes)
+    event_asks (Raw (name.Host h) bytes) fits = inl (host_same h bytes)
+    event_asks (Raw (name.Client c) bytes) fits = inl (client_same c bytes)
     event_asks (Patience h) fits = inl (signal_same h event.Patience)
     event_asks (Nudge h) fits = inl (signal_same h event.Nudge)
     event_asks (Sign c seq op) fits = inl (faulty_same (is_faulty_client s c) (made s (spelling (message.Request (request_of s c seq op)))) refl)

@@ -20,7 +20,11 @@ use Rattle.mb_model.specs.Clients.{asks, is_right, takes}
 use Rattle.mb_model.proofs.Options.{or_none}
 use Rattle.mb_model.proofs.EarlyHistories.{shape_fits}
 use Rattle.mb_model.proofs.Members.{In, any_in}
-use Rattle.mb_theory.specs.WorldEvents.{WorldEvent, HostName, ClientName, Ask, Give, Take, Raw, Patience, Nudge, Sign, TagReply, TagWish, StampPrepare, StampCommit, StampCheckpoint, StampChange, StampAs, StampRaw, Schedule, is_faulty, is_faulty_client, IsSchedule}
+use Rattle.mb_sched.specs.declared.schedule.Name.TheVariants as name
+use Rattle.mb_sched.specs.declared.schedule.WorldEvent.{WorldEvent}
+use Rattle.mb_sched.specs.declared.schedule.WorldEvent.TheVariants.{Ask, Give, Take, Raw, Patience, Nudge, Sign, TagReply, TagWish, StampPrepare, StampCommit, StampCheckpoint, StampChange, StampAs, StampRaw}
+use Rattle.mb_sched.specs.declared.schedule.Schedule.{Schedule}
+use Rattle.mb_sched.specs.Limits.{is_faulty, is_faulty_client, IsSchedule}
 use Rattle.mb_theory.specs.World.{update, numbered, World, System, read, if_read, give_host, give_client, client_reads, heard, signal, made, request_of}
 use Rattle.mb_theory.specs.FaultyHosts.{stamp_some, stamp_content, stamp_bytes, content, prepare_of, commit_for, checkpoint_with, change_after, reply_of_host, wish_of_host}
 use Rattle.mb_theory.specs.Forged.{was_tagged, has_forged_tag}
@@ -122,8 +126,8 @@ module _ {S : Type 0} (system : System S) where
       asks_same (inr (inr x)) = inr (inr (record { reply = x.reply; bytes = x.bytes; reads = x.reads; unforged = x.unforged; left = x.left }))
     event_moves (Give m h) none = inl (given_same h (numbered w.pool m))
     event_moves (Take m k) none = taken_moves k m none
-    event_moves (Raw (HostName h) bytes) none = inl (host_same h bytes)
-    event_moves (Raw (ClientName k) bytes) none = client_moves k bytes (λ correct m r. none_forged w (Raw (ClientName k) bytes) none m (rw correct r))
+    event_moves (Raw (name.Host h) bytes) none = inl (host_same h bytes)
+    event_moves (Raw (name.Client k) bytes) none = client_moves k bytes (λ correct m r. none_forged w (Raw (name.Client k) bytes) none m (rw correct r))
     event_moves (Patience h) none = inl (signal_same h event.Patience)
     event_moves (Nudge h) none = inl (signal_same h event.Nudge)
     event_moves (Sign k seq op) none = inl (faulty_same (is_faulty_client s k) (made s (spelling (message.Request (request_of s k seq op)))) refl)

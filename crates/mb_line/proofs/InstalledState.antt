@@ -31,7 +31,8 @@ use Rattle.mb_model.specs.Making.{floors_under, checkpoint, present_parts}
 use Rattle.mb_model.proofs.Members.{In, contained, in_map}
 use Rattle.mb_model.proofs.StepArises.{JustExecuted, Makes}
 use Rattle.mb_model.proofs.StepHeldStable.{stable_checks}
-use Rattle.mb_theory.specs.WorldEvents.{is_faulty, IsCorrect}
+use Rattle.mb_sched.specs.Limits.{is_faulty}
+use Rattle.mb_theory.specs.WorldEvents.{IsCorrect}
 use Rattle.mb_theory.specs.World.{World, System, self_of}
 use Rattle.mb_theory.specs.WorldRecord.{issued}
 use Rattle.mb_known.proofs.Cases.{all_holds}

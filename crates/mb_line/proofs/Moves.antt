@@ -12,7 +12,11 @@ use Rattle.mb_msg.specs.Stamps.{as_stamped}
 use Rattle.mb_msg.specs.declared.event.Event.{Event}
 use Rattle.mb_msg.specs.declared.event.Event.TheVariants as event
 use Rattle.mb_model.specs.HostStep.{transition}
-use Rattle.mb_theory.specs.WorldEvents.{WorldEvent, HostName, ClientName, Ask, Give, Take, Raw, Patience, Nudge, Sign, TagReply, TagWish, StampPrepare, StampCommit, StampCheckpoint, StampChange, StampAs, StampRaw, is_faulty, is_faulty_client, IsCorrect, EventFits, IsSchedule}
+use Rattle.mb_sched.specs.declared.schedule.Name.TheVariants as name
+use Rattle.mb_sched.specs.declared.schedule.WorldEvent.{WorldEvent}
+use Rattle.mb_sched.specs.declared.schedule.WorldEvent.TheVariants.{Ask, Give, Take, Raw, Patience, Nudge, Sign, TagReply, TagWish, StampPrepare, StampCommit, StampCheckpoint, StampChange, StampAs, StampRaw}
+use Rattle.mb_sched.specs.Limits.{is_faulty, is_faulty_client, EventFits, IsSchedule}
+use Rattle.mb_theory.specs.WorldEvents.{IsCorrect}
 use Rattle.mb_theory.specs.World.{update, numbered, World, System, self_of, give_host, give_client, client_reads, heard, signal, made, request_of, with_tagged, extended}
 use Rattle.mb_theory.specs.FaultyHosts.{stamp_some, stamp_content, stamp_bytes, content, prepare_of, commit_for, checkpoint_with, change_after, reply_of_host, wish_of_host}
 use Rattle.mb_theory.specs.WorldSteps.{where_faulty, with_message, stamps_some, happens, after, world}
@@ -90,8 +94,8 @@ module _ {S : Type 0} (system : System S) (w : World) where
   event_moves (Ask c op) fits = inl (record { histories = λ g. refl; line = refl; tagged = refl })
   event_moves (Give m h) fits = given_moves h (numbered w.pool m) fits
   event_moves (Take m c) fits = inl (taken_same c (numbered w.pool m))
-  event_moves (Raw (HostName h) bytes) fits = host_moves h bytes fits
-  event_moves (Raw (ClientName c) bytes) fits = inl (client_same c bytes)
+  event_moves (Raw (name.Host h) bytes) fits = host_moves h bytes fits
+  event_moves (Raw (name.Client c) bytes) fits = inl (client_same c bytes)
   event_moves (Patience h) fits = signal_moves h event.Patience fits
   event_moves (Nudge h) fits = signal_moves h event.Nudge fits
   event_moves (Sign c seq op) fits = inl (faulty_same (is_faulty_client system.schedule c) (made system.schedule (spelling (message.Request (request_of system.schedule c seq op)))) (record { histories = λ g. refl; line = refl; tagged = refl }))

@@ -4,9 +4,10 @@ use Rattle.std.specs.Fmt.{digits}
 use Rattle.hex.proofs.OnLiterals.{hex_on_literals}
 use Rattle.mb_sched.specs.EventLines.{event_line}
 use Rattle.mb_sched.specs.Headers.{header_by, are_faulty}
-use Rattle.mb_sched.specs.Schedules.{schedule_of, events_from}
+use Rattle.mb_sched.specs.Schedules.{schedule_of}
+use Rattle.mb_sched.specs.TextLines.{all_lines}
 use Rattle.mb_sched.specs.Report.{report_text}
 
 unfoldable pub texts_on_literals : ⊤
-unfolding hex_on_literals digits event_line header_by are_faulty events_from schedule_of report_text
+unfolding hex_on_literals digits event_line header_by are_faulty all_lines schedule_of report_text
 texts_on_literals = tt

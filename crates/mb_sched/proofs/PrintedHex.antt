@@ -1,11 +1,11 @@
 -- Bytes that are printed in hexadecimal are read again.
-use Rattle.std.proofs.Common.{◌≡◌, ℕ, zero, suc, ◌*◌, ◌/◌, ◌%◌, ◌<◌, ◌≤◌, leb, ltb, eqb, Bool, true, false, ◌&&◌, [], ◌∷◌, length, slice_index, Some, refl, inl, inr, arith}
+use Rattle.std.proofs.Common.{◌≡◌, ℕ, zero, suc, ◌*◌, ◌/◌, ◌%◌, ◌<◌, ◌≤◌, leb, ltb, eqb, Bool, true, false, ◌&&◌, [], ◌∷◌, length, slice_index, cond, Some, None, refl, ap, ◌∙◌, inl, inr, arith}
 use Rattle.std.specs.List.{list_all}
 use Rattle.std.proofs.lemmas.Bool.{and_parts, and_from, and_right, leb-true, le-leb, lt-ltb, eq-eqb, cases_eq, or_cases}
 use Rattle.hex.specs.Hex.{IsBytes, encode_with, encode_lower, lower_digits}
 use Rattle.hex.proofs.HexLemmas.{length-encode_with, decode_of-encode_lower, decode_sized-encode_lower}
 use Rattle.mb_base.specs.Shapes.{Bytes}
-use Rattle.mb_sched.specs.Words.{is, is_lower_hex_digit, operation_of, digest_of}
+use Rattle.mb_sched.specs.Words.{is, is_lower_hex_digit, is_hex, bytes_of, operation_of, digest_of}
 use Rattle.mb_sched.specs.Printing.{hex_word}
 use Rattle.mb_sched.proofs.PrintedWords.{IsWord, weaker}
 
@@ -38,15 +38,32 @@ no_dash [] lt = absurd (omega arith)
 no_dash (b ∷ []) lt = absurd (omega arith)
 no_dash (b ∷ c ∷ bs) lt = and_right (eqb b 45) false refl
 
-pub operation_of-hex_word : (op : Bytes) → IsBytes op → length op ≤ 1024 → operation_of (hex_word op) ≡ Some op
-operation_of-hex_word [] fits le = refl
-operation_of-hex_word (b ∷ bs) fits le =
+is_hex-hex_word : (bytes : Bytes) → IsBytes bytes → is_hex (hex_word bytes) ≡ true
+is_hex-hex_word [] fits = refl
+is_hex-hex_word (b ∷ bs) fits =
     let len : length (encode_lower (b ∷ bs)) ≡ 2 * length (b ∷ bs) = length-encode_with lower_digits (b ∷ bs) in
     let even : eqb (length (encode_lower (b ∷ bs)) % 2) 0 ≡ true = eq-eqb _ _ (omega arith) in
     let some : ltb 0 (length (encode_lower (b ∷ bs))) ≡ true = lt-ltb _ _ (omega arith) in
-    let short : leb (length (encode_lower (b ∷ bs))) (2 * 1024) ≡ true = le-leb _ _ (omega arith) in
     let dash = no_dash (encode_lower (b ∷ bs)) (omega arith) in
-    rw (dash, lower (b ∷ bs) fits, some, even, short, decode_of-encode_lower (b ∷ bs) fits) refl
+    rw (dash, lower (b ∷ bs) fits, some, even) refl
+
+pub bytes_of-hex_word : (bytes : Bytes) → IsBytes bytes → bytes_of (hex_word bytes) ≡ Some bytes
+bytes_of-hex_word [] fits = refl
+bytes_of-hex_word (b ∷ bs) fits =
+    let len : length (encode_lower (b ∷ bs)) ≡ 2 * length (b ∷ bs) = length-encode_with lower_digits (b ∷ bs) in
+    let dash = no_dash (encode_lower (b ∷ bs)) (omega arith) in
+    rw (is_hex-hex_word (b ∷ bs) fits, dash, decode_of-encode_lower (b ∷ bs) fits) refl
+
+short_word : (bytes : Bytes) → length bytes ≤ 1024 → leb (length (hex_word bytes)) (2 * 1024) ≡ true
+short_word [] le = refl
+short_word (b ∷ bs) le =
+    let len : length (encode_lower (b ∷ bs)) ≡ 2 * length (b ∷ bs) = length-encode_with lower_digits (b ∷ bs) in
+    le-leb _ _ (omega arith)
+
+pub operation_of-hex_word : (op : Bytes) → IsBytes op → length op ≤ 1024 → operation_of (hex_word op) ≡ Some op
+operation_of-hex_word op fits le =
+    let allowed = and_from (is_hex (hex_word op)) (leb (length (hex_word op)) (2 * 1024)) (is_hex-hex_word op fits) (short_word op le) in
+    ap (λ (b : Bool). cond b (bytes_of (hex_word op)) None) allowed ∙ bytes_of-hex_word op fits
 
 pub digest_of-encode_lower : (bytes : Bytes) → IsBytes bytes → length bytes ≡ 32 → digest_of (encode_lower bytes) ≡ Some bytes
 digest_of-encode_lower bytes fits len = rw (decode_sized-encode_lower bytes 32 len fits) refl

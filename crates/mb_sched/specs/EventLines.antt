@@ -1,126 +1,203 @@
 -- What an event line says.
-use Rattle.std.specs.Prelude.{ℕ, ◌-◌, ◌^◌, Bool, true, false, ◌&&◌, ◌||◌, if◌then◌else◌, List, [], ◌∷◌, length, Option, Some, None, is_some}
-use Rattle.std.specs.List.{list_all, list_any}
-use Rattle.mb_base.specs.Shapes.{Bytes, is_within}
+use Rattle.std.specs.Prelude.{ℕ, ◌-◌, ◌^◌, ◌&&◌, nat_le, if◌then◌else◌, List, [], ◌∷◌, length, Option, Some, None}
+use Rattle.mb_base.specs.Shapes.{Bytes}
 use Rattle.mb_sched.specs.declared.schedule.WorldEvent.{WorldEvent}
-use Rattle.mb_sched.specs.declared.schedule.WorldEvent.TheVariants.{Ask, Give}
-use Rattle.mb_sched.specs.Lines.{Line, bad, unbuilt, says}
-use Rattle.mb_sched.specs.Words.{is, number_in, host_in, client_in, is_hex, is_operation, operation_of, digest_of}
+use Rattle.mb_sched.specs.declared.schedule.WorldEvent.TheVariants.{Ask, Give, Take, Raw, Patience, Nudge, Sign, TagReply, TagWish, StampPrepare, StampCommit, StampCheckpoint, StampChange, StampAs, StampRaw}
+use Rattle.mb_sched.specs.Words.{is, number_in, host_in, client_in, name_in, bytes_of, operation_of, digest_of, all_of, ◌>>=◌}
 
--- an event of two things, each of which has to be read
-abbrev pub event_of : {A B : Type 0} → (A → B → WorldEvent) → Option A → Option B → Option WorldEvent
-event_of make (Some a) (Some b) = Some (make a b)
-event_of make (Some a) None = None
-event_of make None b = None
+-- ---- numbers
+
+-- a message's number, or a counter that may be 0
+abbrev pub message_in : Bytes → Option ℕ
+message_in word = number_in 0 (2 ^ 64 - 1) word
+
+-- a request's number
+abbrev pub seq_in : Bytes → Option ℕ
+seq_in word = number_in 1 (2 ^ 64 - 1) word
+
+-- a view or a position that may be 0
+abbrev pub place_in : Bytes → Option ℕ
+place_in word = number_in 0 (2 ^ 63 - 1) word
+
+-- a view or a position from 1 on
+abbrev pub place_from_1 : Bytes → Option ℕ
+place_from_1 word = number_in 1 (2 ^ 63 - 1) word
+
+-- ---- what comes to someone; each line behind its first word
 
 -- `ask C HEX`
 abbrev pub ask_of : ℕ → List Bytes → Option WorldEvent
-ask_of clients (verb ∷ client ∷ operation ∷ []) =
-    if is "ask" verb then event_of Ask (client_in clients client) (operation_of operation) else None
+ask_of clients (client ∷ operation ∷ []) = do
+  c ← client_in clients client
+  op ← operation_of operation
+  Some (Ask c op)
 ask_of clients _ = None
 
 -- `give M H`
 abbrev pub give_of : ℕ → List Bytes → Option WorldEvent
-give_of hosts (verb ∷ message ∷ host ∷ []) =
-    if is "give" verb then event_of Give (number_in 0 (2 ^ 64 - 1) message) (host_in hosts host) else None
+give_of hosts (message ∷ host ∷ []) = do
+  m ← message_in message
+  h ← host_in hosts host
+  Some (Give m h)
 give_of hosts _ = None
 
--- whether a line has as many words as a form, each of which passes its test
-abbrev pub fits : List (Bytes → Bool) → List Bytes → Bool
-fits [] [] = true
-fits [] (word ∷ words) = false
-fits (test ∷ tests) [] = false
-fits (test ∷ tests) (word ∷ words) = test word && fits tests words
+-- `take M C`
+abbrev pub take_of : ℕ → List Bytes → Option WorldEvent
+take_of clients (message ∷ client ∷ []) = do
+  m ← message_in message
+  c ← client_in clients client
+  Some (Take m c)
+take_of clients _ = None
 
-abbrev pub is_number : ℕ → ℕ → Bytes → Bool
-is_number low high word = is_some (number_in low high word)
+-- `raw NAME HEX`
+abbrev pub raw_of : ℕ → ℕ → List Bytes → Option WorldEvent
+raw_of hosts clients (who ∷ word ∷ []) = do
+  name ← name_in hosts clients who
+  bytes ← bytes_of word
+  Some (Raw name bytes)
+raw_of hosts clients _ = None
 
--- a message's number, or a counter that may be 0
-abbrev pub is_message : Bytes → Bool
-is_message word = is_number 0 (2 ^ 64 - 1) word
+-- `patience H`
+abbrev pub patience_of : ℕ → List Bytes → Option WorldEvent
+patience_of hosts (host ∷ []) = do
+  h ← host_in hosts host
+  Some (Patience h)
+patience_of hosts _ = None
 
--- a request's number
-abbrev pub is_seq : Bytes → Bool
-is_seq word = is_number 1 (2 ^ 64 - 1) word
+-- `nudge H`
+abbrev pub nudge_of : ℕ → List Bytes → Option WorldEvent
+nudge_of hosts (host ∷ []) = do
+  h ← host_in hosts host
+  Some (Nudge h)
+nudge_of hosts _ = None
 
--- a view or a position, from low on
-abbrev pub is_place : ℕ → Bytes → Bool
-is_place low word = is_number low (2 ^ 63 - 1) word
+-- ---- what faulty clients and hosts make
 
-abbrev pub is_host : ℕ → Bytes → Bool
-is_host hosts word = is_some (host_in hosts word)
+-- `sign C SEQ HEX`
+abbrev pub sign_of : ℕ → List Bytes → Option WorldEvent
+sign_of clients (client ∷ number ∷ operation ∷ []) = do
+  c ← client_in clients client
+  seq ← seq_in number
+  op ← operation_of operation
+  Some (Sign c seq op)
+sign_of clients _ = None
 
-abbrev pub is_client : ℕ → Bytes → Bool
-is_client clients word = is_some (client_in clients word)
+-- the position and the result of a reply
+abbrev pub answer_of : ℕ → ℕ → ℕ → List Bytes → Option WorldEvent
+answer_of h c seq (position ∷ text ∷ []) = do
+  pos ← place_in position
+  result ← operation_of text
+  Some (TagReply h c seq pos result)
+answer_of h c seq _ = None
 
--- 64 hexadecimal digits
-abbrev pub is_digest : Bytes → Bool
-is_digest word = is_some (digest_of word)
+-- `tag H reply C SEQ POS HEX`, behind `reply`
+abbrev pub reply_of : ℕ → ℕ → List Bytes → Option WorldEvent
+reply_of clients h (client ∷ number ∷ words) = do
+  c ← client_in clients client
+  seq ← seq_in number
+  answer_of h c seq words
+reply_of clients h _ = None
 
--- whether a line is of one of these forms
-abbrev pub fits_one : List (List (Bytes → Bool)) → List Bytes → Bool
-fits_one forms words = list_any (λ form. fits form words) forms
+-- `tag H wish V`, behind `wish`
+abbrev pub wish_of : ℕ → List Bytes → Option WorldEvent
+wish_of h (word ∷ []) = do
+  view ← place_from_1 word
+  Some (TagWish h view)
+wish_of h _ = None
 
--- the forms of lines that are in the grammar and not built yet
-abbrev pub unbuilt_forms : ℕ → ℕ → List (List (Bytes → Bool))
-unbuilt_forms hosts clients =
-    (is "take" ∷ is_message ∷ is_client clients ∷ [])
-    ∷ (is "raw" ∷ (λ name. is_host hosts name || is_client clients name) ∷ is_hex ∷ [])
-    ∷ (is "patience" ∷ is_host hosts ∷ [])
-    ∷ (is "nudge" ∷ is_host hosts ∷ [])
-    ∷ (is "sign" ∷ is_client clients ∷ is_seq ∷ is_operation ∷ [])
-    ∷ []
+abbrev pub tag_of : ℕ → ℕ → List Bytes → Option WorldEvent
+tag_of hosts clients (host ∷ what ∷ words) = do
+  h ← host_in hosts host
+  if is "reply" what then reply_of clients h words else (if is "wish" what then wish_of h words else None)
+tag_of hosts clients _ = None
 
--- what a faulty host tags
-abbrev pub tag_forms : ℕ → ℕ → List (List (Bytes → Bool))
-tag_forms hosts clients =
-    (is "tag" ∷ is_host hosts ∷ is "reply" ∷ is_client clients ∷ is_seq ∷ is_place 0 ∷ is_operation ∷ [])
-    ∷ (is "tag" ∷ is_host hosts ∷ is "wish" ∷ is_place 1 ∷ [])
-    ∷ []
+-- the numbers of messages
+abbrev pub numbers_of : List Bytes → Option (List ℕ)
+numbers_of words = all_of message_in words
 
--- as many messages as a batch may have requests
-abbrev pub are_messages : List Bytes → Bool
-are_messages words = is_within 1 16 (length words) && list_all is_message words
+-- 1 to 16 of them
+abbrev pub messages_of : List Bytes → Option (List ℕ)
+messages_of words = if nat_le 1 (length words) && nat_le (length words) 16 then numbers_of words else None
 
--- whether a line has the words of a form, and such messages behind them
-abbrev pub fits_with_messages : List (Bytes → Bool) → List Bytes → Bool
-fits_with_messages [] words = are_messages words
-fits_with_messages (test ∷ tests) [] = false
-fits_with_messages (test ∷ tests) (word ∷ words) = test word && fits_with_messages tests words
+-- `stamp H prepare V P M..`, behind `prepare`
+abbrev pub prepare_of : ℕ → List Bytes → Option WorldEvent
+prepare_of h (word ∷ position ∷ words) = do
+  view ← place_in word
+  pos ← place_from_1 position
+  messages ← messages_of words
+  Some (StampPrepare h view pos messages)
+prepare_of h _ = None
 
--- `stamp H prepare V P M..`: the requests of these messages are the batch
-abbrev pub prepare_form : ℕ → List (Bytes → Bool)
-prepare_form hosts = is "stamp" ∷ is_host hosts ∷ is "prepare" ∷ is_place 0 ∷ is_place 1 ∷ []
+-- `stamp H commit M`, behind `commit`
+abbrev pub commit_of : ℕ → List Bytes → Option WorldEvent
+commit_of h (message ∷ []) = do
+  m ← message_in message
+  Some (StampCommit h m)
+commit_of h _ = None
 
-abbrev pub is_stamped_prepare : ℕ → List Bytes → Bool
-is_stamped_prepare hosts words = fits_with_messages (prepare_form hosts) words
+-- `stamp H checkpoint P DIGEST`, behind `checkpoint`
+abbrev pub checkpoint_of : ℕ → List Bytes → Option WorldEvent
+checkpoint_of h (position ∷ word ∷ []) = do
+  pos ← place_from_1 position
+  digest ← digest_of word
+  Some (StampCheckpoint h pos digest)
+checkpoint_of h _ = None
 
--- what else a faulty host stamps
-abbrev pub stamp_forms : ℕ → List (List (Bytes → Bool))
-stamp_forms hosts =
-    (is "stamp" ∷ is_host hosts ∷ is "commit" ∷ is_message ∷ [])
-    ∷ (is "stamp" ∷ is_host hosts ∷ is "checkpoint" ∷ is_place 1 ∷ is_digest ∷ [])
-    ∷ (is "stamp" ∷ is_host hosts ∷ is "change" ∷ is_place 1 ∷ is_message ∷ [])
-    ∷ (is "stamp" ∷ is_host hosts ∷ is "as" ∷ is_message ∷ [])
-    ∷ (is "stamp" ∷ is_host hosts ∷ is "raw" ∷ is_hex ∷ [])
-    ∷ []
+-- `stamp H change V C`, behind `change`
+abbrev pub change_of : ℕ → List Bytes → Option WorldEvent
+change_of h (word ∷ number ∷ []) = do
+  view ← place_from_1 word
+  counter ← message_in number
+  Some (StampChange h view counter)
+change_of h _ = None
 
-abbrev pub is_tag : ℕ → ℕ → List Bytes → Bool
-is_tag hosts clients words = fits_one (tag_forms hosts clients) words
+-- `stamp H as M`, behind `as`
+abbrev pub as_of : ℕ → List Bytes → Option WorldEvent
+as_of h (message ∷ []) = do
+  m ← message_in message
+  Some (StampAs h m)
+as_of h _ = None
 
-abbrev pub is_stamp : ℕ → List Bytes → Bool
-is_stamp hosts words = is_stamped_prepare hosts words || fits_one (stamp_forms hosts) words
+-- `stamp H raw HEX`, behind `raw`
+abbrev pub stamp_raw_of : ℕ → List Bytes → Option WorldEvent
+stamp_raw_of h (word ∷ []) = do
+  bytes ← bytes_of word
+  Some (StampRaw h bytes)
+stamp_raw_of h _ = None
 
-abbrev pub is_unbuilt : ℕ → ℕ → List Bytes → Bool
-is_unbuilt hosts clients words =
-    fits_one (unbuilt_forms hosts clients) words || (is_tag hosts clients words || is_stamp hosts words)
+abbrev pub stamped_of : ℕ → Bytes → List Bytes → Option WorldEvent
+stamped_of h what words =
+    if is "prepare" what then prepare_of h words
+    else (if is "commit" what then commit_of h words
+    else (if is "checkpoint" what then checkpoint_of h words
+    else (if is "change" what then change_of h words
+    else (if is "as" what then as_of h words
+    else (if is "raw" what then stamp_raw_of h words
+    else None)))))
 
--- an event that was read, or else what the line is otherwise
-abbrev pub or_else : Option WorldEvent → Line WorldEvent → Line WorldEvent
-or_else (Some event) other = says event
-or_else None other = other
+abbrev pub stamp_of : ℕ → List Bytes → Option WorldEvent
+stamp_of hosts (host ∷ what ∷ words) = do
+  h ← host_in hosts host
+  stamped_of h what words
+stamp_of hosts _ = None
+
+-- ---- any line
+
+-- what a line says by its first word and those behind it
+abbrev pub event_by : ℕ → ℕ → Bytes → List Bytes → Option WorldEvent
+event_by hosts clients verb words =
+    if is "ask" verb then ask_of clients words
+    else (if is "give" verb then give_of hosts words
+    else (if is "take" verb then take_of clients words
+    else (if is "raw" verb then raw_of hosts clients words
+    else (if is "patience" verb then patience_of hosts words
+    else (if is "nudge" verb then nudge_of hosts words
+    else (if is "sign" verb then sign_of clients words
+    else (if is "tag" verb then tag_of hosts clients words
+    else (if is "stamp" verb then stamp_of hosts words
+    else None))))))))
 
 -- what the words of an event line say, in a system of so many hosts and clients
-unfoldable pub event_line : ℕ → ℕ → List Bytes → Line WorldEvent
-event_line hosts clients words =
-    or_else (ask_of clients words) (or_else (give_of hosts words) (if is_unbuilt hosts clients words then unbuilt else bad))
+unfoldable pub event_line : ℕ → ℕ → List Bytes → Option WorldEvent
+event_line hosts clients [] = None
+event_line hosts clients (verb ∷ words) = event_by hosts clients verb words

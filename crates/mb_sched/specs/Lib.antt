@@ -5,6 +5,10 @@ pub mod Headers
 pub mod Schedules
 pub mod Limits
 pub mod ScheduleText
-pub mod Forms
 pub mod Printing
 pub mod Report
+pub mod TextLines
+pub mod Settings
+pub mod Configs
+pub mod Records
+pub mod Spellings

@@ -1,12 +1,13 @@
--- What a whole text says: a schedule, or its first line that is bad or unbuilt.
-use Rattle.std.specs.Prelude.{◌≡◌, ℕ, ◌+◌, ◌*◌, ◌≤◌, ◌<◌, Bool, false, if◌then◌else◌, List, [], ◌∷◌, length, drop, replicate, Result, Ok, Err}
+-- What a whole text says: a schedule, or the number of its first line that is bad.
+use Rattle.std.specs.Prelude.{◌≡◌, ℕ, ◌+◌, ◌*◌, ◌≤◌, ◌<◌, Bool, List, length, drop, Result, Ok, Err}
 use Rattle.mb_base.specs.Shapes.{Bytes, max_faults, interval, client_count}
 use Rattle.mb_sched.specs.declared.schedule.BadText.{BadText}
 use Rattle.mb_sched.specs.declared.schedule.BadText.TheVariants as text
 use Rattle.mb_sched.specs.declared.schedule.Schedule.{Schedule}
 use Rattle.mb_sched.specs.declared.schedule.WorldEvent.{WorldEvent}
 use Rattle.mb_sched.specs.Words.{words}
-use Rattle.mb_sched.specs.Lines.{lines, is_ended, numbered, Fault, Bad, Unbuilt, ◌>>=◌}
+use Rattle.mb_sched.specs.Lines.{lines, is_ended, ◌>>=◌}
+use Rattle.mb_sched.specs.TextLines.{all_lines}
 use Rattle.mb_sched.specs.Headers.{HeaderContents, header_of}
 use Rattle.mb_sched.specs.EventLines.{event_line}
 
@@ -19,12 +20,8 @@ abbrev pub line_number : ℕ → ℕ
 line_number event = event + 6
 
 -- the events of lines, the first of which has the number n; where the text isn't ended, one more line is bad
-unfoldable pub events_from : ℕ → ℕ → Bool → ℕ → List Bytes → Result (List WorldEvent) Fault
-events_from hosts clients ended n [] = if ended then Ok [] else Err (Bad n)
-events_from hosts clients ended n (line ∷ more) = do
-  event ← numbered n (event_line hosts clients (words line))
-  events ← events_from hosts clients ended (n + 1) more
-  Ok (event ∷ events)
+abbrev pub events_from : ℕ → ℕ → Bool → ℕ → List Bytes → Result (List WorldEvent) ℕ
+events_from hosts clients ended n lines = all_lines (λ line. event_line hosts clients (words line)) ended n lines
 
 -- a schedule as its text says it, with its shape by the three numbers
 pub record Contents : Type 0 where
@@ -36,20 +33,20 @@ pub record Contents : Type 0 where
   pub faulty_clients : List Bool
   pub events : List WorldEvent
 
--- a header and events with nobody faulty
+-- a header and events
 abbrev pub with_events : HeaderContents → List WorldEvent → Contents
 with_events header events = record {
   f = header.f;
   k = header.k;
   clients = header.clients;
   secret = header.secret;
-  faulty_hosts = replicate (2 * header.f + 1) false;
-  faulty_clients = replicate header.clients false;
+  faulty_hosts = header.faulty.hosts;
+  faulty_clients = header.faulty.clients;
   events = events;
 }
 
--- the schedule of a text, or its first line that is bad or unbuilt
-unfoldable pub schedule_of : Bytes → Result Contents Fault
+-- the schedule of a text, or the number of its first line that is bad
+unfoldable pub schedule_of : Bytes → Result Contents ℕ
 schedule_of text = do
   header ← header_of (lines text)
   events ← events_from (2 * header.f + 1) header.clients (is_ended text) (line_number 1) (drop 6 (lines text))
@@ -74,11 +71,10 @@ IsScheduleText text s = (length text ≤ max_text) × (schedule_of text ≡ Ok (
 -- what a text's fault is called
 abbrev pub IsFault : BadText → Bytes → Type 0
 IsFault text.TooLong bytes = max_text < length bytes
-IsFault (text.BadLine number) bytes = (length bytes ≤ max_text) × (schedule_of bytes ≡ Err (Bad number))
-IsFault (text.Unbuilt number) bytes = (length bytes ≤ max_text) × (schedule_of bytes ≡ Err (Unbuilt number))
+IsFault (text.BadLine number) bytes = (length bytes ≤ max_text) × (schedule_of bytes ≡ Err number)
 IsFault text.NoMemory bytes = Unit {0}
 
--- parsing answers the text's schedule or its first fault, and says nothing only where memory runs out
+-- parsing answers the text's schedule or its first bad line, and says nothing only where memory runs out
 abbrev pub Parses : Result Schedule BadText → Bytes → Type 0
 Parses (Ok s) bytes = IsScheduleText bytes s
 Parses (Err e) bytes = IsFault e bytes

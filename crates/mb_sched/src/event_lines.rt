@@ -1,105 +1,56 @@
 //! What an event line says.
 
 ghost use Rattle.std.specs.Prelude.{◌≡◌, IfOk};
-ghost use Rattle.std.specs.List.{list_all};
 ghost use Rattle.mb_base.specs.Shapes.{host_count, client_count};
-ghost use Rattle.mb_sched.specs.Words.{words, texts};
-ghost use Rattle.mb_sched.specs.EventLines.{ask_of, give_of, fits, is_message, are_messages, fits_with_messages, is_stamped_prepare, is_tag, is_stamp, is_unbuilt, event_line};
-ghost use Rattle.mb_sched.specs.Forms.{passes, tests_of};
+ghost use Rattle.mb_sched.specs.Words.{words, texts, after};
+ghost use Rattle.mb_sched.specs.EventLines.{message_in, seq_in, place_in, place_from_1, ask_of, give_of, take_of, raw_of, patience_of, nudge_of, sign_of, answer_of, reply_of, wish_of, tag_of, numbers_of, messages_of, prepare_of, commit_of, checkpoint_of, change_of, as_of, stamp_raw_of, stamped_of, stamp_of, event_by, event_line};
 
-use crate::lines::Line;
 use crate::schedule::WorldEvent;
 use crate::words::{
-    client_in, digest_of, host_in, is_hex, is_operation, is_word, number_in, operation_of, words_of,
+    bytes_of, client_in, digest_of, host_in, is_word, name_in, number_in, operation_of, words_of,
 };
-use mb_base::{NoMemory, Shape};
+use mb_base::{Client, Host, Items, NoMemory, Seq, Shape};
 use mb_parts::MAX_REQUESTS;
 use std::alloc::Global;
-
-/// What a word of a line has to be.
-#[derive(Clone, Copy)]
-enum Field {
-    /// This word.
-    Word(&'static [u8]),
-    Number { low: u64, high: u64 },
-    Host,
-    Client,
-    /// A host or a client.
-    Party,
-    /// Bytes in hexadecimal.
-    Hex,
-    /// At most 1,024 bytes in hexadecimal.
-    Operation,
-    /// 64 hexadecimal digits.
-    Digest,
-}
 
 /// The greatest view and the greatest position, 2^63 - 1.
 const MAX_PLACE: u64 = u64::MAX / 2;
 
 /// The number of a message, or a counter that may be 0.
-const MESSAGE: Field = Field::Number {
-    low: 0,
-    high: u64::MAX,
-};
-
-/// The number of a request.
-const SEQ: Field = Field::Number {
-    low: 1,
-    high: u64::MAX,
-};
-
-/// A view or a position, which may be 0.
-const PLACE: Field = Field::Number {
-    low: 0,
-    high: MAX_PLACE,
-};
-
-/// A view or a position from 1 on.
-const PLACE_FROM_1: Field = Field::Number {
-    low: 1,
-    high: MAX_PLACE,
-};
-
-fn passes(shape: Shape, field: Field, word: &[u8]) -> bool
-    ensures { result ≡ passes (host_count shape) (client_count shape) field word.now }
+fn message_in(word: &[u8]) -> Option<u64>
+    ensures { result ≡ message_in word.now }
 {
-    match field {
-        Field::Word(text) => is_word(word, text),
-        Field::Number { low, high } => number_in(low, high, word).is_some(),
-        Field::Host => host_in(shape, word).is_some(),
-        Field::Client => client_in(shape, word).is_some(),
-        Field::Party => host_in(shape, word).is_some() || client_in(shape, word).is_some(),
-        Field::Hex => is_hex(word),
-        Field::Operation => is_operation(word),
-        Field::Digest => digest_of(word).is_some(),
-    }
+    number_in(0, u64::MAX, word)
 }
 
-/// Whether a line has as many words as a form, each of them as its field has to be.
-fn fits(shape: Shape, form: &[Field], words: &[&[u8]]) -> bool
-    ensures { result
-        ≡ fits (tests_of (host_count shape) (client_count shape) form.now) (texts words.now) }
+/// The number of a request.
+fn seq_in(word: &[u8]) -> Option<u64>
+    ensures { result ≡ seq_in word.now }
 {
-    match form {
-        [] => words.is_empty(),
-        [field, form @ ..] => match words {
-            [] => false,
-            [word, words @ ..] => passes(shape, *field, word) && fits(shape, form, words),
-        },
-    }
+    number_in(1, u64::MAX, word)
+}
+
+/// A view or a position, which may be 0.
+fn place_in(word: &[u8]) -> Option<u64>
+    ensures { result ≡ place_in word.now }
+{
+    number_in(0, MAX_PLACE, word)
+}
+
+/// A view or a position from 1 on.
+fn place_from_1(word: &[u8]) -> Option<u64>
+    ensures { result ≡ place_from_1 word.now }
+{
+    number_in(1, MAX_PLACE, word)
 }
 
 /// `ask C HEX`
 fn ask_of(alloc: Global, shape: Shape, words: &[&[u8]]) -> Result<Option<WorldEvent>, NoMemory>
     ensures { IfOk result (λ event. event ≡ ask_of (client_count shape) (texts words.now)) }
 {
-    let [verb, client, operation] = words else {
+    let [client, operation] = words else {
         return Ok(None);
     };
-    if !is_word(verb, b"ask") {
-        return Ok(None);
-    }
     let Some(client) = client_in(shape, client) else {
         return Ok(None);
     };
@@ -113,153 +64,375 @@ fn ask_of(alloc: Global, shape: Shape, words: &[&[u8]]) -> Result<Option<WorldEv
 fn give_of(shape: Shape, words: &[&[u8]]) -> Option<WorldEvent>
     ensures { result ≡ give_of (host_count shape) (texts words.now) }
 {
-    let [verb, message, host] = words else {
+    let [message, host] = words else {
         return None;
     };
-    if !is_word(verb, b"give") {
-        return None;
-    }
-    let message = number_in(0, u64::MAX, message)?;
+    let message = message_in(message)?;
     let host = host_in(shape, host)?;
     Some(WorldEvent::Give { message, host })
 }
 
-/// Whether a line is of a form that is in the grammar and not built yet.
-fn is_unbuilt(shape: Shape, words: &[&[u8]]) -> bool
-    ensures { result ≡ is_unbuilt (host_count shape) (client_count shape) (texts words.now) }
+/// `take M C`
+fn take_of(shape: Shape, words: &[&[u8]]) -> Option<WorldEvent>
+    ensures { result ≡ take_of (client_count shape) (texts words.now) }
 {
-    use Field::{Client, Hex, Host, Operation, Party, Word};
-    fits(shape, &[Word(b"take"), MESSAGE, Client], words)
-        || fits(shape, &[Word(b"raw"), Party, Hex], words)
-        || fits(shape, &[Word(b"patience"), Host], words)
-        || fits(shape, &[Word(b"nudge"), Host], words)
-        || fits(shape, &[Word(b"sign"), Client, SEQ, Operation], words)
-        || is_tag(shape, words)
-        || is_stamp(shape, words)
+    let [message, client] = words else {
+        return None;
+    };
+    let message = message_in(message)?;
+    let client = client_in(shape, client)?;
+    Some(WorldEvent::Take { message, client })
 }
 
-/// `tag H reply C SEQ POS HEX` and `tag H wish V`
-fn is_tag(shape: Shape, words: &[&[u8]]) -> bool
-    ensures { result ≡ is_tag (host_count shape) (client_count shape) (texts words.now) }
+/// `raw NAME HEX`
+fn raw_of(alloc: Global, shape: Shape, words: &[&[u8]]) -> Result<Option<WorldEvent>, NoMemory>
+    ensures { IfOk result (λ event. event
+        ≡ raw_of (host_count shape) (client_count shape) (texts words.now)) }
 {
-    use Field::{Client, Host, Operation, Word};
-    fits(
-        shape,
-        &[
-            Word(b"tag"),
-            Host,
-            Word(b"reply"),
-            Client,
-            SEQ,
-            PLACE,
-            Operation,
-        ],
-        words,
-    ) || fits(
-        shape,
-        &[Word(b"tag"), Host, Word(b"wish"), PLACE_FROM_1],
-        words,
-    )
+    let [name, bytes] = words else {
+        return Ok(None);
+    };
+    let Some(name) = name_in(shape, name) else {
+        return Ok(None);
+    };
+    let Some(bytes) = bytes_of(alloc, bytes)? else {
+        return Ok(None);
+    };
+    Ok(Some(WorldEvent::Raw { name, bytes }))
 }
 
-/// Whether each word is the number of a message.
-fn are_numbers(words: &[&[u8]]) -> bool
-    ensures { result ≡ list_all is_message (texts words.now) }
+/// `patience H`
+fn patience_of(shape: Shape, words: &[&[u8]]) -> Option<WorldEvent>
+    ensures { result ≡ patience_of (host_count shape) (texts words.now) }
 {
-    match words {
-        [] => true,
-        [word, words @ ..] => number_in(0, u64::MAX, word).is_some() && are_numbers(words),
+    let [host] = words else {
+        return None;
+    };
+    let host = host_in(shape, host)?;
+    Some(WorldEvent::Patience { host })
+}
+
+/// `nudge H`
+fn nudge_of(shape: Shape, words: &[&[u8]]) -> Option<WorldEvent>
+    ensures { result ≡ nudge_of (host_count shape) (texts words.now) }
+{
+    let [host] = words else {
+        return None;
+    };
+    let host = host_in(shape, host)?;
+    Some(WorldEvent::Nudge { host })
+}
+
+/// `sign C SEQ HEX`
+fn sign_of(alloc: Global, shape: Shape, words: &[&[u8]]) -> Result<Option<WorldEvent>, NoMemory>
+    ensures { IfOk result (λ event. event ≡ sign_of (client_count shape) (texts words.now)) }
+{
+    let [client, seq, operation] = words else {
+        return Ok(None);
+    };
+    let Some(client) = client_in(shape, client) else {
+        return Ok(None);
+    };
+    let Some(seq) = seq_in(seq) else {
+        return Ok(None);
+    };
+    let Some(op) = operation_of(alloc, operation)? else {
+        return Ok(None);
+    };
+    Ok(Some(WorldEvent::Sign { client, seq, op }))
+}
+
+/// `tag H reply C SEQ POS HEX`, behind `reply`
+fn reply_of(
+    alloc: Global,
+    shape: Shape,
+    host: Host,
+    words: &[&[u8]],
+) -> Result<Option<WorldEvent>, NoMemory>
+    ensures { IfOk result (λ event. event ≡ reply_of (client_count shape) host (texts words.now)) }
+{
+    let [client, seq, rest @ ..] = words else {
+        return Ok(None);
+    };
+    let Some(client) = client_in(shape, client) else {
+        return Ok(None);
+    };
+    let Some(seq) = seq_in(seq) else {
+        return Ok(None);
+    };
+    answer_of(alloc, host, client, seq, rest)
+}
+
+/// The position and the result of a reply.
+fn answer_of(
+    alloc: Global,
+    host: Host,
+    client: Client,
+    seq: Seq,
+    words: &[&[u8]],
+) -> Result<Option<WorldEvent>, NoMemory>
+    ensures { IfOk result (λ event. event ≡ answer_of host client seq (texts words.now)) }
+{
+    let [pos, text] = words else {
+        return Ok(None);
+    };
+    let Some(pos) = place_in(pos) else {
+        return Ok(None);
+    };
+    let Some(answer) = operation_of(alloc, text)? else {
+        return Ok(None);
+    };
+    Ok(Some(WorldEvent::TagReply {
+        host,
+        client,
+        seq,
+        pos,
+        result: answer,
+    }))
+}
+
+/// `tag H wish V`, behind `wish`
+fn wish_of(host: Host, words: &[&[u8]]) -> Option<WorldEvent>
+    ensures { result ≡ wish_of host (texts words.now) }
+{
+    let [view] = words else {
+        return None;
+    };
+    let view = place_from_1(view)?;
+    Some(WorldEvent::TagWish { host, view })
+}
+
+/// `tag H` and what is tagged
+fn tag_of(alloc: Global, shape: Shape, words: &[&[u8]]) -> Result<Option<WorldEvent>, NoMemory>
+    ensures { IfOk result (λ event. event
+        ≡ tag_of (host_count shape) (client_count shape) (texts words.now)) }
+{
+    let [host, what, rest @ ..] = words else {
+        return Ok(None);
+    };
+    let Some(host) = host_in(shape, host) else {
+        return Ok(None);
+    };
+    if is_word(what, b"reply") {
+        return reply_of(alloc, shape, host, rest);
     }
-}
-
-/// As many messages as a batch may have requests.
-fn are_messages(words: &[&[u8]]) -> bool
-    ensures { result ≡ are_messages (texts words.now) }
-{
-    1 <= words.len() && words.len() <= usize::from(MAX_REQUESTS) && are_numbers(words)
-}
-
-/// Whether a line has the words of a form, and such messages behind them.
-fn fits_with_messages(shape: Shape, form: &[Field], words: &[&[u8]]) -> bool
-    ensures { result
-        ≡ fits_with_messages (tests_of (host_count shape) (client_count shape) form.now) (texts words.now) }
-{
-    match form {
-        [] => are_messages(words),
-        [field, form @ ..] => match words {
-            [] => false,
-            [word, words @ ..] => {
-                passes(shape, *field, word) && fits_with_messages(shape, form, words)
-            }
-        },
+    if is_word(what, b"wish") {
+        return Ok(wish_of(host, rest));
     }
+    Ok(None)
 }
 
-/// `stamp H prepare V P M..`: the requests of these messages are the batch
-fn is_stamped_prepare(shape: Shape, words: &[&[u8]]) -> bool
-    ensures { result ≡ is_stamped_prepare (host_count shape) (texts words.now) }
+/// The numbers of messages, behind those that were read before. The words are few, and each is a call.
+#[tactic(auto, using(crate::proofs::ReadWords::regroup))]
+fn numbers_behind(mut before: Items<u64>, words: &[&[u8]]) -> Result<Option<Items<u64>>, NoMemory>
+    ensures { IfOk result (λ numbers. numbers ≡ after before (numbers_of (texts words.now))) }
 {
-    use Field::{Host, Word};
-    fits_with_messages(
-        shape,
-        &[Word(b"stamp"), Host, Word(b"prepare"), PLACE, PLACE_FROM_1],
-        words,
-    )
+    let [word, more @ ..] = words else {
+        return Ok(Some(before));
+    };
+    let Some(message) = message_in(word) else {
+        return Ok(None);
+    };
+    before.push(message)?;
+    numbers_behind(before, more)
+}
+
+/// The numbers of as many messages as a batch may have requests.
+#[tactic(auto, using(crate::proofs::ReadWords::no_front))]
+fn messages_of(alloc: Global, words: &[&[u8]]) -> Result<Option<Items<u64>>, NoMemory>
+    ensures { IfOk result (λ numbers. numbers ≡ messages_of (texts words.now)) }
+{
+    if words.is_empty() || words.len() > usize::from(MAX_REQUESTS) {
+        return Ok(None);
+    }
+    numbers_behind(Items::new(alloc), words)
+}
+
+/// `stamp H prepare V P M..`, behind `prepare`: the requests of these messages are the batch
+fn prepare_of(alloc: Global, host: Host, words: &[&[u8]]) -> Result<Option<WorldEvent>, NoMemory>
+    ensures { IfOk result (λ event. event ≡ prepare_of host (texts words.now)) }
+{
+    let [view, pos, rest @ ..] = words else {
+        return Ok(None);
+    };
+    let Some(view) = place_in(view) else {
+        return Ok(None);
+    };
+    let Some(pos) = place_from_1(pos) else {
+        return Ok(None);
+    };
+    let Some(messages) = messages_of(alloc, rest)? else {
+        return Ok(None);
+    };
+    Ok(Some(WorldEvent::StampPrepare {
+        host,
+        view,
+        pos,
+        messages,
+    }))
+}
+
+/// `stamp H commit M`, behind `commit`
+fn commit_of(host: Host, words: &[&[u8]]) -> Option<WorldEvent>
+    ensures { result ≡ commit_of host (texts words.now) }
+{
+    let [message] = words else {
+        return None;
+    };
+    let message = message_in(message)?;
+    Some(WorldEvent::StampCommit { host, message })
+}
+
+/// `stamp H checkpoint P DIGEST`, behind `checkpoint`
+fn checkpoint_of(host: Host, words: &[&[u8]]) -> Option<WorldEvent>
+    ensures { result ≡ checkpoint_of host (texts words.now) }
+{
+    let [pos, digest] = words else {
+        return None;
+    };
+    let pos = place_from_1(pos)?;
+    let digest = digest_of(digest)?;
+    Some(WorldEvent::StampCheckpoint { host, pos, digest })
+}
+
+/// `stamp H change V C`, behind `change`
+fn change_of(host: Host, words: &[&[u8]]) -> Option<WorldEvent>
+    ensures { result ≡ change_of host (texts words.now) }
+{
+    let [view, counter] = words else {
+        return None;
+    };
+    let view = place_from_1(view)?;
+    let counter = message_in(counter)?;
+    Some(WorldEvent::StampChange {
+        host,
+        view,
+        counter,
+    })
+}
+
+/// `stamp H as M`, behind `as`
+fn as_of(host: Host, words: &[&[u8]]) -> Option<WorldEvent>
+    ensures { result ≡ as_of host (texts words.now) }
+{
+    let [message] = words else {
+        return None;
+    };
+    let message = message_in(message)?;
+    Some(WorldEvent::StampAs { host, message })
+}
+
+/// `stamp H raw HEX`, behind `raw`
+fn stamp_raw_of(alloc: Global, host: Host, words: &[&[u8]]) -> Result<Option<WorldEvent>, NoMemory>
+    ensures { IfOk result (λ event. event ≡ stamp_raw_of host (texts words.now)) }
+{
+    let [bytes] = words else {
+        return Ok(None);
+    };
+    let Some(bytes) = bytes_of(alloc, bytes)? else {
+        return Ok(None);
+    };
+    Ok(Some(WorldEvent::StampRaw { host, bytes }))
+}
+
+/// What a faulty host stamps, behind the host.
+fn stamped_of(
+    alloc: Global,
+    host: Host,
+    what: &[u8],
+    words: &[&[u8]],
+) -> Result<Option<WorldEvent>, NoMemory>
+    ensures { IfOk result (λ event. event ≡ stamped_of host what.now (texts words.now)) }
+{
+    if is_word(what, b"prepare") {
+        return prepare_of(alloc, host, words);
+    }
+    if is_word(what, b"commit") {
+        return Ok(commit_of(host, words));
+    }
+    if is_word(what, b"checkpoint") {
+        return Ok(checkpoint_of(host, words));
+    }
+    if is_word(what, b"change") {
+        return Ok(change_of(host, words));
+    }
+    if is_word(what, b"as") {
+        return Ok(as_of(host, words));
+    }
+    if is_word(what, b"raw") {
+        return stamp_raw_of(alloc, host, words);
+    }
+    Ok(None)
 }
 
 /// `stamp H` and what is stamped
-fn is_stamp(shape: Shape, words: &[&[u8]]) -> bool
-    ensures { result ≡ is_stamp (host_count shape) (texts words.now) }
+fn stamp_of(alloc: Global, shape: Shape, words: &[&[u8]]) -> Result<Option<WorldEvent>, NoMemory>
+    ensures { IfOk result (λ event. event ≡ stamp_of (host_count shape) (texts words.now)) }
 {
-    use Field::{Digest, Hex, Host, Word};
-    is_stamped_prepare(shape, words)
-        || fits(
-            shape,
-            &[Word(b"stamp"), Host, Word(b"commit"), MESSAGE],
-            words,
-        )
-        || fits(
-            shape,
-            &[
-                Word(b"stamp"),
-                Host,
-                Word(b"checkpoint"),
-                PLACE_FROM_1,
-                Digest,
-            ],
-            words,
-        )
-        || fits(
-            shape,
-            &[Word(b"stamp"), Host, Word(b"change"), PLACE_FROM_1, MESSAGE],
-            words,
-        )
-        || fits(shape, &[Word(b"stamp"), Host, Word(b"as"), MESSAGE], words)
-        || fits(shape, &[Word(b"stamp"), Host, Word(b"raw"), Hex], words)
+    let [host, what, rest @ ..] = words else {
+        return Ok(None);
+    };
+    let Some(host) = host_in(shape, host) else {
+        return Ok(None);
+    };
+    stamped_of(alloc, host, what, rest)
 }
 
-/// What an event line says.
+/// What an event line says by its first word and those behind it.
+fn event_by(
+    alloc: Global,
+    shape: Shape,
+    verb: &[u8],
+    words: &[&[u8]],
+) -> Result<Option<WorldEvent>, NoMemory>
+    ensures { IfOk result (λ event. event
+        ≡ event_by (host_count shape) (client_count shape) verb.now (texts words.now)) }
+{
+    if is_word(verb, b"ask") {
+        return ask_of(alloc, shape, words);
+    }
+    if is_word(verb, b"give") {
+        return Ok(give_of(shape, words));
+    }
+    if is_word(verb, b"take") {
+        return Ok(take_of(shape, words));
+    }
+    if is_word(verb, b"raw") {
+        return raw_of(alloc, shape, words);
+    }
+    if is_word(verb, b"patience") {
+        return Ok(patience_of(shape, words));
+    }
+    if is_word(verb, b"nudge") {
+        return Ok(nudge_of(shape, words));
+    }
+    if is_word(verb, b"sign") {
+        return sign_of(alloc, shape, words);
+    }
+    if is_word(verb, b"tag") {
+        return tag_of(alloc, shape, words);
+    }
+    if is_word(verb, b"stamp") {
+        return stamp_of(alloc, shape, words);
+    }
+    Ok(None)
+}
+
+/// What an event line says. None exactly where it breaks the grammar.
 #[tactic(auto, unfolding(crate::specs::EventLines::event_line))]
 pub(crate) fn event_line(
     alloc: Global,
     shape: Shape,
     line: &[u8],
-) -> Result<Line<WorldEvent>, NoMemory>
-    ensures { IfOk result (λ read. read
+) -> Result<Option<WorldEvent>, NoMemory>
+    ensures { IfOk result (λ event. event
         ≡ event_line (host_count shape) (client_count shape) (words line.now)) }
 {
     let Some(words) = words_of(line) else {
-        return Ok(Line::Bad);
+        return Ok(None);
     };
-    let words = words.as_slice();
-    if let Some(event) = ask_of(alloc, shape, words)? {
-        return Ok(Line::Says(event));
+    match words.as_slice() {
+        [verb, words @ ..] => event_by(alloc, shape, verb, words),
+        [] => Ok(None),
     }
-    if let Some(event) = give_of(shape, words) {
-        return Ok(Line::Says(event));
-    }
-    if is_unbuilt(shape, words) {
-        return Ok(Line::Unbuilt);
-    }
-    Ok(Line::Bad)
 }

@@ -1,26 +1,37 @@
 //! The header of a schedule: its first six lines.
 
-ghost use Rattle.std.specs.Prelude.{◌≡◌, ◌≤◌, drop, IfSome, IfOk, OnOk, length};
+ghost use Rattle.std.specs.Prelude.{◌≡◌, ◌≤◌, ◌∷◌, drop, IfSome, IfOk, length, map};
 ghost use Rattle.std.specs.Option.{option_copied};
+ghost use Rattle.std.specs.List.{list_any, count_by, range_with_len};
 ghost use Rattle.mb_base.specs.Shapes.{max_faults, host_count, client_count};
-ghost use Rattle.mb_sched.specs.Words.{words};
+ghost use Rattle.mb_sched.specs.Words.{words, words_behind, all_of, name_in};
 ghost use Rattle.mb_sched.specs.Lines.{lines, is_ended, read_line, Answers};
-ghost use Rattle.mb_sched.specs.Headers.{title_line, number_by_name, number_line, secret_of, secret_line, party_in, is_host_party, is_before, is_after, are_faulty, faulty_line, header_by, header_of, header_contents};
+ghost use Rattle.mb_sched.specs.Headers.{is_host_name, is_before, rise, are_faulty, is_host_of, is_client_of, marks_of, faulty_line, header_by, header_of, header_contents};
 
-use crate::lines::{Line, Lines};
-use crate::schedule::BadText;
-use crate::words::{Party, client_in, cut, digest_of, host_in, is_word, number_in, words_of};
-use mb_base::{Key, Shape};
+use crate::lines::Lines;
+use crate::schedule::{BadText, Name};
+use crate::text_lines::{read_key, read_number, read_title};
+use crate::words::{cut, is_word, name_in};
+use mb_base::{Client, Host, Items, Key, NoMemory, Shape};
+use std::alloc::Global;
 
-/// What a header says.
-#[derive(Clone, Copy)]
+/// A mark for each host, and one for each client.
+#[derive(Debug, PartialEq, Drop)]
+pub(crate) struct Marks {
+    pub(crate) hosts: Items<bool>,
+    pub(crate) clients: Items<bool>,
+}
+
+/// What a header says, and who is faulty by it.
+#[derive(Drop)]
 pub(crate) struct Header {
     pub(crate) shape: Shape,
     pub(crate) secret: Key,
+    pub(crate) faulty: Marks,
 }
 
 /// Reads the header's lines, which come first in a text.
-pub(crate) fn read_header(unread: &mut Lines<'_>) -> Result<Header, BadText>
+pub(crate) fn read_header(alloc: Global, unread: &mut Lines<'_>) -> Result<Header, BadText>
     ensures read { Answers header_contents result (header_of (lines unread.old.rest.now)) }
     ensures left { lines unread.new.rest.now ≡ drop 6 (lines unread.old.rest.now) }
     ensures ended { is_ended unread.new.rest.now ≡ is_ended unread.old.rest.now }
@@ -32,12 +43,13 @@ pub(crate) fn read_header(unread: &mut Lines<'_>) -> Result<Header, BadText>
     let clients = unread.next_line();
     let secret = unread.next_line();
     let faulty = unread.next_line();
-    header_by(title, f, k, clients, secret, faulty)
+    header_by(alloc, title, f, k, clients, secret, faulty)
 }
 
 /// Reads the six lines, each of which may be missing. Each is read only once those before it are right.
 #[tactic(auto, unfolding(crate::specs::Headers::header_by))]
 fn header_by(
+    alloc: Global,
     title: Option<&[u8]>,
     f: Option<&[u8]>,
     k: Option<&[u8]>,
@@ -49,182 +61,187 @@ fn header_by(
         (option_copied title.entry) (option_copied f.entry) (option_copied k.entry)
         (option_copied clients.entry) (option_copied secret.entry) (option_copied faulty.entry)) }
 {
-    read_title(title)?;
-    let f = read_number(2, b"f", 1, Shape::MAX_F, f)?;
-    let k = read_number(3, b"k", Shape::MIN_K, Shape::MAX_K, k)?;
-    let clients = read_number(4, b"clients", 1, Shape::MAX_CLIENTS, clients)?;
-    let secret = read_secret(secret)?;
-    let Ok(shape) = Shape::new(f, k, clients) else {
+    read_title(b"minbft schedule 2", title)?;
+    let f = read_number(2, b"f", 1, u16::from(Shape::MAX_F), f)?;
+    let k = read_number(3, b"k", u16::from(Shape::MIN_K), u16::from(Shape::MAX_K), k)?;
+    let clients = read_number(4, b"clients", 1, u16::from(Shape::MAX_CLIENTS), clients)?;
+    let secret = read_key(5, b"secret", secret)?;
+    let Ok(shape) = Shape::new(f as u8, k as u8, clients as u8) else {
         unreachable!()
     };
-    read_faulty(shape, faulty)?;
-    Ok(Header { shape, secret })
-}
-
-/// Line 1: `minbft schedule 2`.
-fn read_title(line: Option<&[u8]>) -> Result<(), BadText>
-    ensures { Answers (λ x. x) result (read_line 1 title_line (option_copied line.entry)) }
-{
-    match line {
-        Some(line) if is_word(line, b"minbft schedule 2") => Ok(()),
-        _ => Err(BadText::BadLine { number: 1 }),
-    }
-}
-
-/// A line of a name and a number from `low` to `high`.
-fn read_number(
-    number: u32,
-    name: &[u8],
-    low: u8,
-    high: u8,
-    line: Option<&[u8]>,
-) -> Result<u8, BadText>
-    ensures read { Answers (λ n. n) result
-        (read_line number (number_line name.now low high) (option_copied line.entry)) }
-    ensures within { IfOk result (λ n. (low ≤ n) × (n ≤ high)) }
-{
-    let Some(line) = line else {
-        return Err(BadText::BadLine { number });
-    };
-    let Some(value) = number_by_name(name, u64::from(low), u64::from(high), line) else {
-        return Err(BadText::BadLine { number });
-    };
-    Ok(value as u8)
-}
-
-fn number_by_name(name: &[u8], low: u64, high: u64, line: &[u8]) -> Option<u64>
-    ensures value { result ≡ number_by_name name.now low high (words line.now) }
-    ensures within { IfSome result (λ n. (low ≤ n) × (n ≤ high)) }
-{
-    let Some(words) = words_of(line) else {
-        return None;
-    };
-    let [first, number] = words.as_slice() else {
-        return None;
-    };
-    if !is_word(first, name) {
-        return None;
-    }
-    number_in(low, high, number)
-}
-
-/// Line 5: `secret` and 64 hexadecimal digits.
-fn read_secret(line: Option<&[u8]>) -> Result<Key, BadText>
-    ensures { Answers (λ x. x) result (read_line 5 secret_line (option_copied line.entry)) }
-{
-    let Some(line) = line else {
-        return Err(BadText::BadLine { number: 5 });
-    };
-    let Some(secret) = secret_of(line) else {
-        return Err(BadText::BadLine { number: 5 });
-    };
-    Ok(secret)
-}
-
-fn secret_of(line: &[u8]) -> Option<Key>
-    ensures { result ≡ secret_of (words line.now) }
-{
-    let Some(words) = words_of(line) else {
-        return None;
-    };
-    let [first, digits] = words.as_slice() else {
-        return None;
-    };
-    if !is_word(first, b"secret") {
-        return None;
-    }
-    digest_of(digits)
+    let faulty = read_faulty(alloc, shape, faulty)?;
+    Ok(Header {
+        shape,
+        secret,
+        faulty,
+    })
 }
 
 /// Line 6: `faulty` and the names of whom is faulty.
-fn read_faulty(shape: Shape, line: Option<&[u8]>) -> Result<(), BadText>
-    ensures { Answers (λ x. x) result
+fn read_faulty(alloc: Global, shape: Shape, line: Option<&[u8]>) -> Result<Marks, BadText>
+    ensures { Answers (λ marks. marks) result
         (read_line 6 (faulty_line (max_faults shape) (client_count shape)) (option_copied line.entry)) }
 {
     let Some(line) = line else {
         return Err(BadText::BadLine { number: 6 });
     };
-    match faulty_line(shape, line) {
-        Line::Says(()) => Ok(()),
-        Line::Unbuilt => Err(BadText::Unbuilt { number: 6 }),
-        Line::Bad => Err(BadText::BadLine { number: 6 }),
+    match faulty_line(alloc, shape, line)? {
+        Some(marks) => Ok(marks),
+        None => Err(BadText::BadLine { number: 6 }),
     }
 }
 
-fn faulty_line(shape: Shape, line: &[u8]) -> Line<()>
-    ensures { result ≡ faulty_line (max_faults shape) (client_count shape) line.now }
+fn faulty_line(alloc: Global, shape: Shape, line: &[u8]) -> Result<Option<Marks>, NoMemory>
+    ensures { IfOk result (λ marks. marks
+        ≡ faulty_line (max_faults shape) (client_count shape) line.now) }
 {
-    let (first, names) = cut(line, b' ');
+    let (first, behind) = first_word(line);
     if !is_word(first, b"faulty") {
-        return Line::Bad;
+        return Ok(None);
     }
-    let Some(names) = names else {
-        return Line::Says(());
+    let Some(names) = names_behind(alloc, shape, behind)? else {
+        return Ok(None);
     };
-    if are_faulty(shape, names) {
-        return Line::Unbuilt;
+    if !are_faulty(shape, names.as_slice()) {
+        return Ok(None);
     }
-    Line::Bad
+    Ok(Some(marks_of(alloc, shape, names.as_slice())?))
 }
 
-/// Whether names are hosts and then clients, each rising, with at most f hosts.
-fn are_faulty(shape: Shape, names: &[u8]) -> bool
-    ensures { result
-        ≡ are_faulty (max_faults shape) (host_count shape) (client_count shape) (words names.now) }
+/// The first word of a line, and what stands behind it if there is more.
+fn first_word(line: &[u8]) -> (&[u8], Option<&[u8]>)
+    ensures { words line.now ≡ result.0.now ∷ words_behind (option_copied result.1) }
 {
-    let mut last = None;
-    let mut hosts = 0usize;
-    let mut rest = Some(names);
+    cut(line, b' ')
+}
+
+/// The names that the words behind a line's first one are. None where one of them is no name.
+fn names_behind(
+    alloc: Global,
+    shape: Shape,
+    behind: Option<&[u8]>,
+) -> Result<Option<Items<Name>>, NoMemory>
+    ensures { IfOk result (λ names. names ≡ all_of
+        (name_in (host_count shape) (client_count shape)) (words_behind (option_copied behind.entry))) }
+{
+    let mut names = Items::new(alloc);
+    let mut rest = behind;
     while let Some(text) = rest {
-        let (name, behind) = cut(text, b' ');
-        let Some(party) = party_in(shape, name) else {
-            return false;
+        let (word, more) = cut(text, b' ');
+        let Some(name) = name_in(shape, word) else {
+            return Ok(None);
         };
-        if !is_after(last, party) {
-            return false;
-        }
-        hosts += usize::from(is_host_party(party));
-        last = Some(party);
-        rest = behind;
+        names.push(name)?;
+        rest = more;
     }
-    hosts <= usize::from(shape.f())
+    Ok(Some(names))
 }
 
-fn party_in(shape: Shape, word: &[u8]) -> Option<Party>
-    ensures { result ≡ party_in (host_count shape) (client_count shape) word.now }
+/// Whether these are hosts and then clients, each rising, with at most f hosts.
+#[tactic(auto, unfolding(crate::specs::Headers::are_faulty))]
+fn are_faulty(shape: Shape, names: &[Name]) -> bool
+    ensures { result ≡ are_faulty (max_faults shape) names.now }
 {
-    if let Some(host) = host_in(shape, word) {
-        return Some(Party::Host(host));
-    }
-    let client = client_in(shape, word)?;
-    Some(Party::Client(client))
+    rise(names) && hosts_among(names) <= usize::from(shape.f())
 }
 
-fn is_host_party(party: Party) -> bool
-    ensures { result ≡ is_host_party party }
+fn hosts_among(names: &[Name]) -> usize
+    ensures { result ≡ count_by is_host_name names.now }
 {
-    match party {
-        Party::Host(_) => true,
-        Party::Client(_) => false,
-    }
+    names.iter().filter(|name| is_host_name(**name)).count()
 }
 
-fn is_after(last: Option<Party>, party: Party) -> bool
-    ensures { result ≡ is_after last party }
+fn is_host_name(name: Name) -> bool
+    ensures { result ≡ is_host_name name }
 {
-    match last {
-        Some(last) => is_before(last, party),
-        None => true,
+    match name {
+        Name::Host(_) => true,
+        Name::Client(_) => false,
     }
 }
 
-fn is_before(first: Party, second: Party) -> bool
+/// Whether each stands before the next.
+fn rise(names: &[Name]) -> bool
+    ensures { result ≡ rise names.now }
+{
+    match names {
+        [] => true,
+        [first, more @ ..] => match more {
+            [] => true,
+            [second, ..] => is_before(*first, *second) && rise(more),
+        },
+    }
+}
+
+/// Hosts stand before clients, and smaller numbers before greater ones.
+fn is_before(first: Name, second: Name) -> bool
     ensures { result ≡ is_before first second }
 {
     match (first, second) {
-        (Party::Host(first), Party::Host(second)) => first < second,
-        (Party::Host(_), Party::Client(_)) => true,
-        (Party::Client(_), Party::Host(_)) => false,
-        (Party::Client(first), Party::Client(second)) => first < second,
+        (Name::Host(first), Name::Host(second)) => first < second,
+        (Name::Host(_), Name::Client(_)) => true,
+        (Name::Client(_), Name::Host(_)) => false,
+        (Name::Client(first), Name::Client(second)) => first < second,
+    }
+}
+
+/// True for each host and each client that has its name among these.
+fn marks_of(alloc: Global, shape: Shape, names: &[Name]) -> Result<Marks, NoMemory>
+    ensures { IfOk result (λ marks. marks ≡ marks_of (host_count shape) (client_count shape) names.now) }
+{
+    let hosts = marked_hosts(alloc, shape.n(), names)?;
+    let clients = marked_clients(alloc, shape.clients(), names)?;
+    Ok(Marks { hosts, clients })
+}
+
+fn marked_hosts(alloc: Global, count: u8, names: &[Name]) -> Result<Items<bool>, NoMemory>
+    ensures { IfOk result (λ marks. marks
+        ≡ map (λ h. list_any (is_host_of h) names.now) (range_with_len 0 count)) }
+{
+    let mut marks = Items::new(alloc);
+    for host in 0..count {
+        marks.push(names_host(names, host))?;
+    }
+    Ok(marks)
+}
+
+fn marked_clients(alloc: Global, count: u8, names: &[Name]) -> Result<Items<bool>, NoMemory>
+    ensures { IfOk result (λ marks. marks
+        ≡ map (λ c. list_any (is_client_of c) names.now) (range_with_len 0 count)) }
+{
+    let mut marks = Items::new(alloc);
+    for client in 0..count {
+        marks.push(names_client(names, client))?;
+    }
+    Ok(marks)
+}
+
+fn names_host(names: &[Name], host: Host) -> bool
+    ensures { result ≡ list_any (is_host_of host) names.now }
+{
+    names.iter().any(|name| is_host_of(host, *name))
+}
+
+fn names_client(names: &[Name], client: Client) -> bool
+    ensures { result ≡ list_any (is_client_of client) names.now }
+{
+    names.iter().any(|name| is_client_of(client, *name))
+}
+
+fn is_host_of(number: Host, name: Name) -> bool
+    ensures { result ≡ is_host_of number name }
+{
+    match name {
+        Name::Host(host) => host == number,
+        Name::Client(_) => false,
+    }
+}
+
+fn is_client_of(number: Client, name: Name) -> bool
+    ensures { result ≡ is_client_of number name }
+{
+    match name {
+        Name::Host(_) => false,
+        Name::Client(client) => client == number,
     }
 }

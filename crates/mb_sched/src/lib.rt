@@ -1,17 +1,31 @@
-//! The text formats: schedules and reports.
+//! The text formats: schedules, reports, configs and records.
 #![tactic(auto)]
 
+mod configs;
 mod event_lines;
 mod header;
 mod lines;
 mod parsing;
 mod printing;
+mod records;
 mod report;
 mod schedule;
+mod schedule_text;
+mod settings;
+mod text_lines;
 mod words;
 
-pub use parsing::{MAX_TEXT, parse_schedule, printed_schedules_are_read};
+pub use configs::{
+    Config, MAX_CONFIG, configs_are_their_spellings, parse_config, print_config,
+    printed_configs_are_read,
+};
+pub use parsing::{MAX_TEXT, parse_schedule, printed_schedules_are_read, texts_are_schedules};
 pub use printing::print_report;
+pub use records::{
+    Entry, MAX_RECORD, Record, parse_record, print_entry, print_record_head,
+    printed_records_are_read, records_are_their_spellings,
+};
 pub use report::{ClientLine, HostLine, HostState, LastResult, RefusedLine, Report, Word};
-pub use schedule::{BadText, Schedule, WorldEvent};
+pub use schedule::{BadText, Name, Schedule, WorldEvent};
+pub use schedule_text::print_schedule;
 pub use words::{is_word, number_in};

@@ -6,16 +6,6 @@ ghost use Rattle.mb_sched.specs.Lines.{lines, is_ended};
 
 use crate::words::cut;
 
-/// What a line may be.
-#[derive(Debug, PartialEq, Drop)]
-pub(crate) enum Line<T> {
-    /// It breaks the grammar.
-    Bad,
-    /// It is in the grammar, and not built yet.
-    Unbuilt,
-    Says(T),
-}
-
 /// The lines that are left of a text.
 #[derive(Clone, Copy)]
 pub(crate) struct Lines<'a> {

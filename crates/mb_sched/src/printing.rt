@@ -90,7 +90,7 @@ fn fresh_name(fresh: bool) -> &'static str
 }
 
 /// Bytes in lower-case hexadecimal, and a dash where there are none.
-fn hex_word(alloc: Global, bytes: &[u8]) -> Result<String, NoMemory>
+pub(crate) fn hex_word(alloc: Global, bytes: &[u8]) -> Result<String, NoMemory>
     ensures { IfOk result (λ word. string_bytes word ≡ hex_word bytes.now) }
 {
     if bytes.is_empty() {
@@ -127,7 +127,7 @@ fn end_line(out: &mut String, name: &str, numbers: &[u64]) -> Result<(), NoMemor
 }
 
 /// Each number behind a space.
-fn print_numbers(out: &mut String, numbers: &[u64]) -> Result<(), NoMemory>
+pub(crate) fn print_numbers(out: &mut String, numbers: &[u64]) -> Result<(), NoMemory>
     ensures { OnOk result (string_bytes out.new ≡ string_bytes out.old ++ flat_map spaced_number numbers.now) }
 {
     for number in numbers {

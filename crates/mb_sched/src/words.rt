@@ -5,19 +5,13 @@ ghost use Rattle.std.specs.Char.{is_ascii_digit};
 ghost use Rattle.std.specs.List.{list_all, position};
 ghost use Rattle.std.specs.Str.{bytes_eq};
 ghost use Rattle.mb_base.specs.Shapes.{host_count, client_count};
-ghost use Rattle.mb_sched.specs.Words.{pieces, words, texts, decimal_value, is_decimal, number_in, named, host_in, client_in, is_lower_hex_digit, is_hex, is_operation, operation_of, digest_of};
+ghost use Rattle.mb_sched.specs.Words.{pieces, words, texts, decimal_value, is_decimal, number_in, named, host_in, client_in, name_in, is_lower_hex_digit, is_hex, is_operation, bytes_of, operation_of, digest_of};
 
+use crate::schedule::Name;
 use arrayvec::ArrayVec;
 use hex::{FromHex, FromHexError};
 use mb_base::{Client, Host, Items, Key, NoMemory, Shape};
 use std::alloc::Global;
-
-/// A host or a client. Hosts stand before clients, and smaller numbers before greater ones.
-#[derive(Clone, Copy, Debug, PartialEq, Eq)]
-pub(crate) enum Party {
-    Host(Host),
-    Client(Client),
-}
 
 /// Where the first separator stands.
 fn find(text: &[u8], separator: u8) -> Option<usize>
@@ -142,6 +136,17 @@ pub(crate) fn client_in(shape: Shape, word: &[u8]) -> Option<Client>
     named(b'c', shape.clients(), word)
 }
 
+/// A host or a client by its name.
+pub(crate) fn name_in(shape: Shape, word: &[u8]) -> Option<Name>
+    ensures { result ≡ name_in (host_count shape) (client_count shape) word.now }
+{
+    if let Some(host) = host_in(shape, word) {
+        return Some(Name::Host(host));
+    }
+    let client = client_in(shape, word)?;
+    Some(Name::Client(client))
+}
+
 fn is_lower_hex_digit(byte: u8) -> bool
     ensures { result ≡ is_lower_hex_digit byte }
 {
@@ -168,11 +173,11 @@ pub(crate) fn is_operation(word: &[u8]) -> bool
     is_hex(word) && word.len() <= 2 * 1024
 }
 
-/// The bytes of an operation.
-pub(crate) fn operation_of(alloc: Global, word: &[u8]) -> Result<Option<Items<u8>>, NoMemory>
-    ensures { IfOk result (λ bytes. bytes ≡ operation_of word.now) }
+/// The bytes of a word in hexadecimal.
+pub(crate) fn bytes_of(alloc: Global, word: &[u8]) -> Result<Option<Items<u8>>, NoMemory>
+    ensures { IfOk result (λ bytes. bytes ≡ bytes_of word.now) }
 {
-    if !is_operation(word) {
+    if !is_hex(word) {
         return Ok(None);
     }
     if is_word(word, b"-") {
@@ -183,6 +188,16 @@ pub(crate) fn operation_of(alloc: Global, word: &[u8]) -> Result<Option<Items<u8
         Err(FromHexError::OutOfMemory) => Err(NoMemory),
         Err(_) => Ok(None),
     }
+}
+
+/// The bytes of an operation or a result.
+pub(crate) fn operation_of(alloc: Global, word: &[u8]) -> Result<Option<Items<u8>>, NoMemory>
+    ensures { IfOk result (λ bytes. bytes ≡ operation_of word.now) }
+{
+    if !is_operation(word) {
+        return Ok(None);
+    }
+    bytes_of(alloc, word)
 }
 
 /// 32 bytes in hexadecimal of either case.

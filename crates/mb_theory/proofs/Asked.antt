@@ -11,13 +11,11 @@ use Rattle.mb_parts.specs.Fits.{FitsRequest}
 use Rattle.mb_msg.specs.declared.event.Event.TheVariants as event
 use Rattle.mb_model.specs.Clients.{Asker, asks}
 use Rattle.mb_model.proofs.Members.{In}
-use Rattle.mb_sched.specs.declared.schedule.WorldEvent.{WorldEvent as ReadEvent}
-use Rattle.mb_sched.specs.declared.schedule.WorldEvent.TheVariants as read_event
-use Rattle.mb_sched.specs.Limits.{EventFits, ScheduleFits}
-use Rattle.mb_theory.specs.WorldEvents.{is_faulty}
+use Rattle.mb_sched.specs.declared.schedule.WorldEvent.TheVariants.{Ask}
+use Rattle.mb_sched.specs.Limits.{is_faulty, EventFits}
 use Rattle.mb_theory.specs.World.{World, update, numbered, request_of, arrives, steps, give_host}
 use Rattle.mb_theory.specs.WorldSteps.{with_message, happens, world}
-use Rattle.mb_theory.specs.FirstPath.{event_of}
+use Rattle.mb_theory.specs.FirstPath.{FirstEvent, FirstAsk, FirstGive, FirstFits, event_of}
 use Rattle.mb_theory.proofs.Lists.{get_there}
 use Rattle.mb_theory.proofs.Invariant.{Run, system}
 
@@ -37,7 +35,7 @@ module _ {S : Type 0} (run : Run S) where
   unfolding give_host
   makes_step h bytes w = rw (nobody_faulty h) refl
 
-  pub event_there : (k : ℕ) (e : ReadEvent) → slice_get run.schedule.events k ≡ Some e → slice_get (system run).schedule.events k ≡ Some (event_of e)
+  pub event_there : (k : ℕ) (e : FirstEvent) → slice_get run.schedule.events k ≡ Some e → slice_get (system run).schedule.events k ≡ Some (event_of e)
   event_there k e at = slice_get-map event_of run.schedule.events k ∙ ap (option_map event_of) at
 
   -- ---- what was asked
@@ -54,7 +52,7 @@ module _ {S : Type 0} (run : Run S) where
   abbrev pub next_request : World → ℕ → Bytes → Request
   next_request w c op = request_of (system run).schedule c ((w.askers c).number + 1) op
 
-  request_fits : (k : ℕ) (w : World) (c : ℕ) (op : Bytes) → AskedFine k w → EventFits run.schedule.shape (read_event.Ask c op) → k < 2 ^ 63 → FitsRequest run.schedule.shape (next_request w c op)
+  request_fits : (k : ℕ) (w : World) (c : ℕ) (op : Bytes) → AskedFine k w → EventFits run.schedule.shape (Ask c op) → k < 2 ^ 63 → FitsRequest run.schedule.shape (next_request w c op)
   request_fits k w c op x fits short =
       let few = x.few c in
       record { client = fits.0; seq = (omega arith, omega arith); op = fits.1; tag = length-signed_request run.schedule.secret c (request_text c ((w.askers c).number + 1) op) }
@@ -65,7 +63,7 @@ module _ {S : Type 0} (run : Run S) where
     | inr other ↦ rw other (let before = few g in omega arith)
   ]
 
-  asks_fine : (k : ℕ) (w : World) (c : ℕ) (op : Bytes) → AskedFine k w → EventFits run.schedule.shape (read_event.Ask c op) → k < 2 ^ 63 → AskedFine (suc k) (happens (system run) w (event_of (read_event.Ask c op)))
+  asks_fine : (k : ℕ) (w : World) (c : ℕ) (op : Bytes) → AskedFine k w → EventFits run.schedule.shape (Ask c op) → k < 2 ^ 63 → AskedFine (suc k) (happens (system run) w (event_of (FirstAsk c op)))
   unfolding happens
   asks_fine k w c op x fits short =
       let r : Request = next_request w c op in
@@ -101,12 +99,12 @@ module _ {S : Type 0} (run : Run S) where
 
   -- ---- every world
 
-  happens_fine : (k : ℕ) (w : World) (e : ReadEvent) → EventFits run.schedule.shape e → k < 2 ^ 63 → AskedFine k w → AskedFine (suc k) (happens (system run) w (event_of e))
+  happens_fine : (k : ℕ) (w : World) (e : FirstEvent) → EventFits run.schedule.shape (event_of e) → k < 2 ^ 63 → AskedFine k w → AskedFine (suc k) (happens (system run) w (event_of e))
   unfolding happens
-  happens_fine k w (read_event.Ask c op) fits short x = asks_fine k w c op x fits short
-  happens_fine k w (read_event.Give m h) fits short x = asked_later k w _ (given_keeps w h (numbered w.pool m)) x
+  happens_fine k w (FirstAsk c op) fits short x = asks_fine k w c op x fits short
+  happens_fine k w (FirstGive m h) fits short x = asked_later k w _ (given_keeps w h (numbered w.pool m)) x
 
-  pub asked_fine : (k : ℕ) → ScheduleFits run.schedule → k ≤ length run.schedule.events → AskedFine k (world (system run) k)
+  pub asked_fine : (k : ℕ) → FirstFits run.schedule → k ≤ length run.schedule.events → AskedFine k (world (system run) k)
   unfolding world
   asked_fine zero fits le = record { few = λ c. omega arith; fitting = λ r i. absurd i; tagged = λ r i. absurd i }
   asked_fine (suc k) fits le =

@@ -17,9 +17,8 @@ use Rattle.mb_model.specs.Positions.{exec_of}
 use Rattle.mb_model.specs.Execution.{state_of}
 use Rattle.mb_model.specs.CarriedOut.{just_served}
 use Rattle.mb_model.proofs.Members.{In}
-use Rattle.mb_sched.specs.declared.schedule.Schedule.{Schedule as BuiltSchedule}
 use Rattle.mb_theory.specs.World.{update, System, self_of}
-use Rattle.mb_theory.specs.FirstPath.{system_of}
+use Rattle.mb_theory.specs.FirstPath.{FirstSchedule, system_of}
 use Rattle.mb_theory.proofs.Lists.{get_more, all_append, IsLonger}
 use Rattle.mb_theory.proofs.Counters.{IsOnce, same_once, once_more}
 use Rattle.mb_theory.proofs.Legal.{Stamps, Orders, Justified, Legal, SpellsMade}
@@ -54,7 +53,7 @@ pub record Run (S : Type 0) : Type 0 where
   pub machine : Machine S
   pub snapshots : Snapshots S
   pub initial : S
-  pub schedule : BuiltSchedule
+  pub schedule : FirstSchedule
 
 module _ {S : Type 0} (run : Run S) where
   -- its hosts

@@ -15,7 +15,10 @@ use Rattle.mb_model.specs.Histories.{History}
 use Rattle.mb_model.specs.HostStep.{transition}
 use Rattle.mb_model.proofs.StepArises.{Arises, ArisesWhole}
 use Rattle.mb_model.proofs.StepEventsArise.{transition_arises}
-use Rattle.mb_theory.specs.WorldEvents.{WorldEvent, HostName, ClientName, Ask, Give, Take, Raw, Patience, Nudge, Sign, TagReply, TagWish, StampPrepare, StampCommit, StampCheckpoint, StampChange, StampAs, StampRaw, is_faulty, is_faulty_client}
+use Rattle.mb_sched.specs.declared.schedule.Name.TheVariants as name
+use Rattle.mb_sched.specs.declared.schedule.WorldEvent.{WorldEvent}
+use Rattle.mb_sched.specs.declared.schedule.WorldEvent.TheVariants.{Ask, Give, Take, Raw, Patience, Nudge, Sign, TagReply, TagWish, StampPrepare, StampCommit, StampCheckpoint, StampChange, StampAs, StampRaw}
+use Rattle.mb_sched.specs.Limits.{is_faulty, is_faulty_client}
 use Rattle.mb_theory.specs.World.{update, numbered, World, System, self_of, steps, give_host, give_client, client_reads, heard, signal, arrives, made, request_of}
 use Rattle.mb_theory.specs.FaultyHosts.{stamp_some, stamp_content, stamp_bytes, content, prepare_of, commit_for, checkpoint_with, change_after, reply_of_host, wish_of_host}
 use Rattle.mb_theory.specs.WorldSteps.{where_faulty, with_message, stamps_some, happens, after, world}
@@ -82,8 +85,8 @@ module _ {S : Type 0} (system : System S) (Q : ℕ → History → Type 0) (begi
   happens_keeps w (Ask c op) q = q
   happens_keeps w (Give m h) q = message_keeps (give_host system h) (numbered w.pool m) w (λ b. host_keeps h b w q) q
   happens_keeps w (Take m c) q = message_keeps (give_client system.schedule c) (numbered w.pool m) w (λ b. client_keeps c b w q) q
-  happens_keeps w (Raw (HostName h) bytes) q = host_keeps h bytes w q
-  happens_keeps w (Raw (ClientName c) bytes) q = client_keeps c bytes w q
+  happens_keeps w (Raw (name.Host h) bytes) q = host_keeps h bytes w q
+  happens_keeps w (Raw (name.Client c) bytes) q = client_keeps c bytes w q
   happens_keeps w (Patience h) q = signal_keeps h event.Patience w q
   happens_keeps w (Nudge h) q = signal_keeps h event.Nudge w q
   happens_keeps w (Sign c seq op) q = faulty_keeps (is_faulty_client system.schedule c) (made system.schedule (spelling (message.Request (request_of system.schedule c seq op)))) w q q

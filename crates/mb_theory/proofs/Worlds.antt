@@ -14,12 +14,11 @@ use Rattle.mb_model.specs.Execution.{state_of}
 use Rattle.mb_model.specs.CarriedOut.{just_served}
 use Rattle.mb_model.specs.Sending.{begin}
 use Rattle.mb_model.proofs.Members.{In}
-use Rattle.mb_sched.specs.declared.schedule.WorldEvent.{WorldEvent as ReadEvent}
-use Rattle.mb_sched.specs.declared.schedule.WorldEvent.TheVariants as read_event
-use Rattle.mb_sched.specs.Limits.{EventFits, ScheduleFits}
+use Rattle.mb_sched.specs.declared.schedule.WorldEvent.TheVariants.{Ask}
+use Rattle.mb_sched.specs.Limits.{EventFits}
 use Rattle.mb_theory.specs.World.{World, nothing_happened, numbered, give_host}
 use Rattle.mb_theory.specs.WorldSteps.{with_message, happens, world}
-use Rattle.mb_theory.specs.FirstPath.{event_of}
+use Rattle.mb_theory.specs.FirstPath.{FirstEvent, FirstAsk, FirstGive, FirstFits, event_of}
 use Rattle.mb_theory.proofs.Lists.{all_append, all_at, get_there}
 use Rattle.mb_theory.proofs.Counters.{same_once}
 use Rattle.mb_theory.proofs.Legal.{Stamps, SpellsMade}
@@ -46,7 +45,7 @@ module _ {S : Type 0} (run : Run S) where
   }
 
   -- a client asks
-  holds_asks : (w : World) (c : ℕ) (op : Bytes) → Holds w → Holds (happens (system run) w (event_of (read_event.Ask c op)))
+  holds_asks : (w : World) (c : ℕ) (op : Bytes) → Holds w → Holds (happens (system run) w (event_of (FirstAsk c op)))
   unfolding happens
   holds_asks w c op x =
       let r : Request = next_request run w c op in
@@ -76,12 +75,12 @@ module _ {S : Type 0} (run : Run S) where
   numbered_at pool zero b e = absurd cc
   numbered_at pool (suc m) b e = (m, e)
 
-  holds_next : (k : ℕ) (w : World) (e : ReadEvent) → EventFits run.schedule.shape e → AskedFine run k w → Holds w → Holds (happens (system run) w (event_of e))
+  holds_next : (k : ℕ) (w : World) (e : FirstEvent) → EventFits run.schedule.shape (event_of e) → AskedFine run k w → Holds w → Holds (happens (system run) w (event_of e))
   unfolding happens
-  holds_next k w (read_event.Ask c op) fits a x = holds_asks w c op x
-  holds_next k w (read_event.Give m h) fits a x = holds_given w h (numbered w.pool m) fits a.fitting (numbered_at w.pool m) x
+  holds_next k w (FirstAsk c op) fits a x = holds_asks w c op x
+  holds_next k w (FirstGive m h) fits a x = holds_given w h (numbered w.pool m) fits a.fitting (numbered_at w.pool m) x
 
-  pub holds : (k : ℕ) → ScheduleFits run.schedule → k ≤ length run.schedule.events → Holds (world_at k)
+  pub holds : (k : ℕ) → FirstFits run.schedule → k ≤ length run.schedule.events → Holds (world_at k)
   unfolding world
   holds zero fits le = holds_first
   holds (suc k) fits le =

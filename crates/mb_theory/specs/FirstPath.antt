@@ -1,28 +1,39 @@
 -- What is proved of all that is built so far: nobody is faulty, clients ask, and messages are given to hosts. The world is the whole one, of
 -- hosts that do what is built.
-use Rattle.std.specs.Prelude.{ℕ, ◌≤◌, false, length, map, replicate}
-use Rattle.mb_base.specs.Shapes.{host_count, client_count}
+use Rattle.std.specs.Prelude.{◌≡◌, ℕ, ◌≤◌, false, List, length, map, replicate, Some, slice_get}
+use Rattle.mb_base.specs.Shapes.{Bytes, host_count, client_count}
+use Rattle.mb_base.specs.declared.shape.Shape.{Shape}
 use Rattle.mb_model.specs.Service.{Machine}
 use Rattle.mb_model.specs.States.{Snapshots}
 use Rattle.mb_model.specs.Built.{first_path}
-use Rattle.mb_sched.specs.declared.schedule.Schedule.{Schedule as ReadSchedule}
-use Rattle.mb_sched.specs.declared.schedule.WorldEvent.{WorldEvent as ReadEvent}
-use Rattle.mb_sched.specs.declared.schedule.WorldEvent.TheVariants as read_event
-use Rattle.mb_sched.specs.Limits.{ScheduleFits}
+use Rattle.mb_sched.specs.declared.schedule.Schedule.{Schedule}
+use Rattle.mb_sched.specs.declared.schedule.WorldEvent.{WorldEvent}
+use Rattle.mb_sched.specs.declared.schedule.WorldEvent.TheVariants.{Ask, Give}
+use Rattle.mb_sched.specs.Limits.{EventFits}
+use Rattle.mb_sched.specs.Schedules.{max_text}
 use Rattle.mb_theory.specs.Hashed.{HashesApart}
-use Rattle.mb_theory.specs.WorldEvents.{WorldEvent, Ask, Give, Schedule}
 use Rattle.mb_theory.specs.World.{System}
 use Rattle.mb_theory.specs.WorldSteps.{world}
 use Rattle.mb_theory.specs.Safety.{IsSafe}
 
--- ---- the schedules that can be read so far
+-- ---- the schedules of this path
 
-abbrev pub event_of : ReadEvent → WorldEvent
-event_of (read_event.Ask client op) = Ask client op
-event_of (read_event.Give message host) = Give message host
+-- a client asks for an operation, or a message is given to a host
+pub data FirstEvent : Type 0 where
+  FirstAsk : ℕ → Bytes → FirstEvent
+  FirstGive : ℕ → ℕ → FirstEvent
 
--- Nobody is named as faulty in them.
-abbrev pub schedule_of : ReadSchedule → Schedule
+abbrev pub event_of : FirstEvent → WorldEvent
+event_of (FirstAsk client op) = Ask client op
+event_of (FirstGive message host) = Give message host
+
+-- the system, in which nobody is faulty, and what happens in it
+pub record FirstSchedule : Type 0 where
+  pub shape : Shape
+  pub secret : Bytes
+  pub events : List FirstEvent
+
+abbrev pub schedule_of : FirstSchedule → Schedule
 schedule_of s = record {
   shape = s.shape;
   secret = s.secret;
@@ -31,14 +42,19 @@ schedule_of s = record {
   events = map event_of s.events;
 }
 
+-- each event fits, and there are no more events than a text has bytes
+pub record FirstFits (s : FirstSchedule) : Type 0 where
+  pub events : (k : ℕ) (e : FirstEvent) → slice_get s.events k ≡ Some e → EventFits s.shape (event_of e)
+  pub count : length s.events ≤ max_text
+
 -- the hosts of such a schedule, with a service
-abbrev pub system_of : {S : Type 0} → Machine S → Snapshots S → S → ReadSchedule → System S
+abbrev pub system_of : {S : Type 0} → Machine S → Snapshots S → S → FirstSchedule → System S
 system_of machine snapshots initial s = record { built = first_path; machine = machine; snapshots = snapshots; initial = initial; schedule = schedule_of s }
 
 -- ---- what is promised
 
 -- Whatever is lost, repeated and reordered, over any service: after each event, while no two of the strings hashed so far share a digest.
 abbrev pub HostsKeepOneHistory : Type 0 → Type 0
-HostsKeepOneHistory S = (machine : Machine S) (snapshots : Snapshots S) (initial : S) (s : ReadSchedule) → ScheduleFits s → (k : ℕ) → k ≤ length s.events
+HostsKeepOneHistory S = (machine : Machine S) (snapshots : Snapshots S) (initial : S) (s : FirstSchedule) → FirstFits s → (k : ℕ) → k ≤ length s.events
     → HashesApart (world (system_of machine snapshots initial s) k).hashed
     → IsSafe (system_of machine snapshots initial s) (world (system_of machine snapshots initial s) k)

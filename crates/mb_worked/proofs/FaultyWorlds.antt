@@ -20,7 +20,9 @@ use Rattle.mb_model.specs.Positions.{exec_of}
 use Rattle.mb_sched.specs.declared.report.RefusedLine.{RefusedLine}
 use Rattle.mb_sched.specs.declared.report.Word.{Word}
 use Rattle.mb_sched.specs.declared.report.Word.TheVariants as word
-use Rattle.mb_theory.specs.WorldEvents.{WorldEvent, HostName, ClientName, Ask, Give, Take, Raw, Nudge, Sign, TagReply, TagWish, StampPrepare, StampCommit, StampChange, StampAs, StampRaw}
+use Rattle.mb_sched.specs.declared.schedule.Name.TheVariants as name
+use Rattle.mb_sched.specs.declared.schedule.WorldEvent.{WorldEvent}
+use Rattle.mb_sched.specs.declared.schedule.WorldEvent.TheVariants.{Ask, Give, Take, Raw, Nudge, Sign, TagReply, TagWish, StampPrepare, StampCommit, StampChange, StampAs, StampRaw}
 use Rattle.mb_theory.specs.World.{Seen, OfHost, OfClient, Unread, Lost, World, System}
 use Rattle.mb_theory.specs.FaultyHosts.{log_after}
 use Rattle.mb_theory.specs.WorldSteps.{world}
@@ -44,7 +46,7 @@ two_prepares = system_of (record {
 })
 
 abbrev told : ℕ → Word → List ℕ → RefusedLine
-told event name numbers = record { event = event; name = name; numbers = numbers }
+told event word numbers = record { event = event; name = word; numbers = numbers }
 
 -- The gate takes one of them, and is closed at the other.
 two_prepares_refused : refusals (world two_prepares 10).seen
@@ -108,7 +110,7 @@ abbrev short_request : Bytes
 short_request = 1 ∷ 0 ∷ 0 ∷ 0 ∷ 0 ∷ 0 ∷ 0 ∷ 0 ∷ 0 ∷ 1 ∷ 0 ∷ 3 ∷ 2 ∷ 1 ∷ 97 ∷ replicate 31 0
 
 abbrev no_messages : System Bytes
-no_messages = all_correct (map (Raw (HostName 1)) ([] ∷ (255 ∷ []) ∷ (1 ∷ 0 ∷ []) ∷ short_request ∷ (short_request ++ 0 ∷ []) ∷ []))
+no_messages = all_correct (map (Raw (name.Host 1)) ([] ∷ (255 ∷ []) ∷ (1 ∷ 0 ∷ []) ∷ short_request ∷ (short_request ++ 0 ∷ []) ∷ []))
 
 no_messages_refused : refusals (world no_messages 5).seen
     ≡ told 1 word.Malformed (0 ∷ []) ∷ told 2 word.Malformed (0 ∷ []) ∷ told 3 word.Malformed (2 ∷ []) ∷ told 4 word.Malformed (15 ∷ []) ∷ told 5 word.BadTag [] ∷ []
@@ -126,7 +128,7 @@ bad_reply = spelling (message.Reply (record { host = 0; client = 0; seq = 1; pos
 
 -- 4 is the reply of h1, 5 that of h0, and 6 one of the faulty h2 with another result
 abbrev replies : System Bytes
-replies = of_faulty_last (Ask 0 operation ∷ Give 1 0 ∷ Give 2 1 ∷ Give 3 0 ∷ TagReply 2 0 1 1 (5 ∷ []) ∷ Take 5 0 ∷ Take 5 0 ∷ Take 6 0 ∷ Take 4 0 ∷ Take 5 0 ∷ Raw (ClientName 0) bad_reply ∷ Raw (ClientName 0) [] ∷ Take 1 0 ∷ Give 1 2 ∷ [])
+replies = of_faulty_last (Ask 0 operation ∷ Give 1 0 ∷ Give 2 1 ∷ Give 3 0 ∷ TagReply 2 0 1 1 (5 ∷ []) ∷ Take 5 0 ∷ Take 5 0 ∷ Take 6 0 ∷ Take 4 0 ∷ Take 5 0 ∷ Raw (name.Client 0) bad_reply ∷ Raw (name.Client 0) [] ∷ Take 1 0 ∷ Give 1 2 ∷ [])
 
 abbrev last_seen : ℕ → List Seen → List Seen
 last_seen n seen = take n seen
@@ -151,7 +153,7 @@ abbrev stop_of_first : System Bytes → Option WorldStop
 stop_of_first system = stop_at system 0
 
 correct_does_not : map (λ e. stop_of_first (all_correct (e ∷ []))) (StampRaw 0 [] ∷ TagWish 0 1 ∷ StampCommit 1 0 ∷ Sign 0 1 [] ∷ [])
-    ≡ Some (NotFaulty (HostName 0)) ∷ Some (NotFaulty (HostName 0)) ∷ Some (NotFaulty (HostName 1)) ∷ Some (NotFaulty (ClientName 0)) ∷ []
+    ≡ Some (NotFaulty (name.Host 0)) ∷ Some (NotFaulty (name.Host 0)) ∷ Some (NotFaulty (name.Host 1)) ∷ Some (NotFaulty (name.Client 0)) ∷ []
 unfolding worlds_on_literals
 correct_does_not = refl
 
@@ -191,17 +193,17 @@ forged_prepare = spelling (message.Prepare (record {
   ui = record { host = 0; counter = 1; cert = certificate (replicate 32 0) 0 1 (bare_bytes (bare.Prepare 0 1 (batch_digest batch))) };
 }))
 
-forged : stop_at (all_correct (Ask 0 operation ∷ Raw (HostName 1) forged_prepare ∷ [])) 1 ≡ Some (Forged 2 0 1)
+forged : stop_at (all_correct (Ask 0 operation ∷ Raw (name.Host 1) forged_prepare ∷ [])) 1 ≡ Some (Forged 2 0 1)
 unfolding worlds_on_literals
 forged = refl
 
 -- once h0 stamped it, it is none
-not_forged : stop_at (all_correct (Ask 0 operation ∷ Give 1 0 ∷ Raw (HostName 1) forged_prepare ∷ [])) 2 ≡ None
+not_forged : stop_at (all_correct (Ask 0 operation ∷ Give 1 0 ∷ Raw (name.Host 1) forged_prepare ∷ [])) 2 ≡ None
 unfolding worlds_on_literals
 not_forged = refl
 
 -- To a faulty host all may be given. A request that its correct client did not ask is forged by its tag, and one with another tag is not.
-unasked : map (λ e. stop_of_first (of_faulty_primary (e ∷ []))) (Raw (HostName 0) forged_prepare ∷ Raw (HostName 1) (spelling (message.Request request)) ∷ Raw (HostName 1) (short_request ++ 0 ∷ []) ∷ [])
+unasked : map (λ e. stop_of_first (of_faulty_primary (e ∷ []))) (Raw (name.Host 0) forged_prepare ∷ Raw (name.Host 1) (spelling (message.Request request)) ∷ Raw (name.Host 1) (short_request ++ 0 ∷ []) ∷ [])
     ≡ None ∷ Some (ForgedTag 1) ∷ None ∷ []
 unfolding worlds_on_literals
 unasked = refl

@@ -13,13 +13,12 @@ use Rattle.mb_model.specs.Positions.{exec_of}
 use Rattle.mb_model.specs.HostStep.{transition}
 use Rattle.mb_sched.specs.declared.schedule.Schedule.{Schedule}
 use Rattle.mb_core.specs.declared.replica.Replica.{Replica}
-use Rattle.mb_core.specs.Represents.{Represents, IsStep, host_with, no_snapshots, me}
-use Rattle.mb_core.specs.Store.{Pairs, store_machine}
+use Rattle.mb_core.specs.Represents.{Represents, IsStep, host_with, me}
+use Rattle.mb_core.specs.Store.{Pairs}
 use Rattle.mb_theory.specs.World.{World, update}
-use Rattle.mb_theory.proofs.Invariant.{Run}
-use Rattle.mb_theory.proofs.Asked.{nobody_faulty}
 use Rattle.minbft.specs.World.{system_of, self_of}
 use Rattle.minbft.specs.Hosts.{AllRun, RepresentsHosts, line_of_host}
+use Rattle.minbft.specs.WorldTables.{AllCorrect}
 use Rattle.minbft.specs.Reports.{state_line, host_line}
 use Rattle.mb_parts.specs.declared.floor.Phase.TheVariants as phase
 use Rattle.mb_sched.specs.declared.report.HostState.{HostState}
@@ -27,10 +26,6 @@ use Rattle.mb_model.proofs.EarlyHistories.{IsEarly, early_view, early_phase, ear
 
 some_is : {X : Type 0} (x y : X) → Some x ≡ Some y → x ≡ y
 some_is x y e = cc
-
--- the schedule with the service, as the theorem has it
-abbrev pub run_of : Schedule → Run Pairs
-run_of s = record { machine = store_machine; snapshots = no_snapshots; initial = []; schedule = s }
 
 -- what stands at a place after a write
 pub set_read : {X : Type 0} (xs : List X) (i h : ℕ) (y r : X) → slice_get (set xs i y) h ≡ Some r → ((h ≡ i) × (y ≡ r)) ⊎ ((h ≡ i → ⊥) × (slice_get xs h ≡ Some r))
@@ -107,23 +102,23 @@ same_line self d exec log early exec_is log_is =
     let g : log_longest self d ≡ log = early_longest self d early ∙ sym log_is in
     cc
 
-line_is : (s : Schedule) (h : ℕ) (r : Replica) (x : World) → Represents (self_of s h) r (x.histories h) → line_of_host r ≡ host_line (system_of s) x h
-line_is s h r x rep =
+line_is : (s : Schedule) (h : ℕ) (r : Replica) (x : World) → AllCorrect s → Represents (self_of s h) r (x.histories h) → line_of_host r ≡ host_line (system_of s) x h
+line_is s h r x correct rep =
     let self : Identity Pairs = self_of s h in
     let d : History = x.histories h in
     let early : IsEarly d = rep.tables.early in
     let host : r.host ≡ h = ap (λ (m : Identity Pairs). m.host) rep.who in
     let stands : record { view = 0; phase = phase.Open; exec = r.exec; low = 0; log = r.usig.counter; longest = r.usig.counter } ≡ state_line self d =
     same_line self d r.exec r.usig.counter early rep.exec rep.counter in
-    rw (host, nobody_faulty (run_of s) h) (ap (λ (l : HostState). record { host = h; state = Some l }) stands)
+    rw (host, correct h) (ap (λ (l : HostState). record { host = h; state = Some l }) stands)
 
-lines_from : (s : Schedule) (n : ℕ) (hosts : List Replica) (x : World) → ((k h : ℕ) (r : Replica) → k ≡ n + h → slice_get hosts h ≡ Some r → Represents (self_of s k) r (x.histories k))
+lines_from : (s : Schedule) (n : ℕ) (hosts : List Replica) (x : World) → AllCorrect s → ((k h : ℕ) (r : Replica) → k ≡ n + h → slice_get hosts h ≡ Some r → Represents (self_of s k) r (x.histories k))
     → map line_of_host hosts ≡ map (host_line (system_of s) x) (range_with_len n (length hosts))
-lines_from s n [] x all = refl
-lines_from s n (r ∷ rs) x all =
-    rw (line_is s n r x (all n 0 r (omega arith) refl), lines_from s (n + 1) rs x (λ k h q e at. all k (suc h) q (omega arith) at)) refl
+lines_from s n [] x correct all = refl
+lines_from s n (r ∷ rs) x correct all =
+    rw (line_is s n r x correct (all n 0 r (omega arith) refl), lines_from s (n + 1) rs x correct (λ k h q e at. all k (suc h) q (omega arith) at)) refl
 
 -- the lines of hosts that represent their histories
-pub lines_are : (s : Schedule) (hosts : List Replica) (x : World) → RepresentsHosts s hosts x.histories
+pub lines_are : (s : Schedule) (hosts : List Replica) (x : World) → AllCorrect s → RepresentsHosts s hosts x.histories
     → map line_of_host hosts ≡ map (host_line (system_of s) x) (range_with_len 0 (length hosts))
-lines_are s hosts x all = lines_from s 0 hosts x (λ k h r e at. let same : k ≡ h = omega arith in rw same (all h r at))
+lines_are s hosts x correct all = lines_from s 0 hosts x correct (λ k h r e at. let same : k ≡ h = omega arith in rw same (all h r at))

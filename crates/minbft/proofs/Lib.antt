@@ -1,4 +1,5 @@
 pub mod Answered
+pub mod FirstSchedules
 pub mod HostLaws
 pub mod OneSchedule
 pub mod RunLaws

@@ -5,7 +5,6 @@ use Rattle.mb_base.specs.Shapes.{Bytes}
 use Rattle.mb_base.specs.declared.shape.Shape.{Shape}
 use Rattle.mb_sched.specs.declared.schedule.Schedule.{Schedule}
 use Rattle.mb_sched.specs.declared.schedule.WorldEvent.{WorldEvent}
-use Rattle.mb_sched.specs.Lines.{Fault}
 use Rattle.mb_sched.specs.Schedules.{Contents, contents, schedule_of, IsScheduleText}
 
 -- a number with its limits
@@ -28,7 +27,7 @@ same_shape s t f k c =
     ∙ ap (λ (x : Within 4 32). shape_of (t.f, t.faults_in) x h) (same_within 4 32 g (t.k, t.interval_in) k)
     ∙ ap (λ (x : Within 1 64). shape_of (t.f, t.faults_in) (t.k, t.interval_in) x) (same_within 1 64 h (t.clients, t.clients_in) c)
 
-abbrev schedule : Shape → Bytes → List Bool → List Bool → List WorldEvent → Schedule
+abbrev pub schedule : Shape → Bytes → List Bool → List Bool → List WorldEvent → Schedule
 schedule shape secret hosts clients events = record { shape = shape; secret = secret; faulty_hosts = hosts; faulty_clients = clients; events = events }
 
 same_contents : (s t : Schedule) → contents s ≡ contents t → s ≡ t
@@ -39,7 +38,7 @@ same_contents s t e =
     ∙ ap (λ (x : List Bool). schedule t.shape t.secret t.faulty_hosts x s.events) (ap (λ (c : Contents). c.faulty_clients) e)
     ∙ ap (λ (x : List WorldEvent). schedule t.shape t.secret t.faulty_hosts t.faulty_clients x) (ap (λ (c : Contents). c.events) e)
 
-same_ok : (x y : Contents) (r : Result Contents Fault) → r ≡ Ok x → r ≡ Ok y → x ≡ y
+same_ok : (x y : Contents) (r : Result Contents ℕ) → r ≡ Ok x → r ≡ Ok y → x ≡ y
 same_ok x y r a b = cc
 
 pub same_schedule : (text : Bytes) (s t : Schedule) → IsScheduleText text s → IsScheduleText text t → s ≡ t

@@ -5,10 +5,8 @@ use Rattle.std.proofs.lemmas.Bool.{cases_eq}
 use Rattle.mb_sched.specs.declared.schedule.Schedule.{Schedule}
 use Rattle.mb_sched.specs.declared.schedule.WorldEvent.{WorldEvent}
 use Rattle.mb_theory.specs.WorldSteps.{world as any_world}
-use Rattle.mb_theory.proofs.Asked.{event_there}
 use Rattle.minbft.specs.World.{world, happens, is_possible}
 use Rattle.minbft.specs.WorldTables.{ArePossible, IsFirstImpossible}
-use Rattle.minbft.proofs.HostLaws.{run_of}
 
 some_is : {X : Type 0} (x y : X) → Some x ≡ Some y → x ≡ y
 some_is x y e = cc
@@ -17,7 +15,7 @@ module _ (s : Schedule) (k : ℕ) (e : WorldEvent) (at : slice_get s.events k �
   -- the world after one more event
   pub world_more : world s (k + 1) ≡ happens s (world s k) e
   unfolding any_world
-  world_more = ap (world s) (add-one k) ∙ rw (event_there (run_of s) k e at) refl
+  world_more = ap (world s) (add-one k) ∙ rw at refl
 
   -- one more event is possible
   pub possible_more : ArePossible s k → is_possible s (world s k) e ≡ true → ArePossible s (k + 1)

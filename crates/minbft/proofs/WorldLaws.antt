@@ -21,7 +21,8 @@ use Rattle.mb_model.specs.Given.{Answer}
 use Rattle.mb_model.specs.HostStep.{transition}
 use Rattle.mb_sched.specs.declared.schedule.Schedule.{Schedule}
 use Rattle.mb_sched.specs.declared.schedule.WorldEvent.{WorldEvent}
-use Rattle.mb_sched.specs.declared.schedule.WorldEvent.TheVariants.{Ask, Give}
+use Rattle.mb_sched.specs.declared.schedule.WorldEvent.TheVariants.{Ask, Give, Take, Raw, Patience, Nudge, Sign, TagReply, TagWish, StampPrepare, StampCommit, StampCheckpoint, StampChange, StampAs, StampRaw}
+use Rattle.mb_sched.specs.Limits.{is_faulty}
 use Rattle.mb_sched.specs.declared.report.RefusedLine.{RefusedLine}
 use Rattle.mb_sched.specs.declared.report.HostLine.{HostLine}
 use Rattle.mb_sched.specs.declared.report.ClientLine.{ClientLine}
@@ -34,11 +35,10 @@ use Rattle.mb_model.specs.Clients.{Asker, asks}
 use Rattle.mb_theory.specs.World.{World as WorldState, update, extended, numbered, request_of, client_asks, arrives, steps, give_host}
 use Rattle.mb_theory.specs.WorldSteps.{with_message}
 use Rattle.mb_theory.specs.Stops.{NoSuchMessage}
-use Rattle.mb_theory.specs.FirstPath.{schedule_of}
-use Rattle.mb_theory.proofs.Asked.{makes_step}
+use Rattle.minbft.specs.Unbuilt.{is_built}
 use Rattle.minbft.specs.World.{system_of, self_of, is_possible}
 use Rattle.minbft.specs.WorldTables.{RepresentsWorld, missing_in, given_message}
-use Rattle.minbft.proofs.HostLaws.{run_of, lines_are}
+use Rattle.minbft.proofs.HostLaws.{lines_are}
 
 -- a result that is followed by a step of reasoning
 pub ok_then : {T E : Type 0} (r : Result T E) (P Q : Type 0) → OnOk r P → (P → Q) → OnOk r Q
@@ -49,6 +49,7 @@ ok_then (Err e) P Q h f = tt
 pub same_tables : (s : Schedule) (v w : World) (x : WorldState) → w.shape ≡ v.shape → w.pens ≡ v.pens → w.asked ≡ v.asked → w.pool ≡ v.pool → w.hosts ≡ v.hosts → w.line ≡ v.line → w.refused ≡ v.refused → w.events ≡ v.events
     → RepresentsWorld s v x → RepresentsWorld s w x
 same_tables s v w x shape pens asked pool hosts line refused events old = record {
+  correct = old.correct;
   shape = shape ∙ old.shape;
   pens = rw pens old.pens;
   asked = rw asked old.asked;
@@ -90,10 +91,11 @@ next_number x c = (x.askers c).number + 1
 
 -- the tables after a client's request
 pub request_made : (s : Schedule) (v w : World) (x : WorldState) (c : ℕ) (op : Bytes) → RepresentsWorld s v x → length v.asked.items ≡ client_count v.shape → c < client_count v.shape
-    → w.shape ≡ v.shape → w.pens ≡ v.pens → w.asked.items ≡ set v.asked.items c (next_number x c) → w.pool.items ≡ v.pool.items ++ spelling (message.Request (request_of (schedule_of s) c (next_number x c) op)) ∷ []
-    → w.hosts ≡ v.hosts → w.line ≡ v.line → w.refused ≡ v.refused → w.events ≡ v.events + 1 → RepresentsWorld s w (client_asks (schedule_of s) c op x)
+    → w.shape ≡ v.shape → w.pens ≡ v.pens → w.asked.items ≡ set v.asked.items c (next_number x c) → w.pool.items ≡ v.pool.items ++ spelling (message.Request (request_of s c (next_number x c) op)) ∷ []
+    → w.hosts ≡ v.hosts → w.line ≡ v.line → w.refused ≡ v.refused → w.events ≡ v.events + 1 → RepresentsWorld s w (client_asks s c op x)
 unfolding refusals
 request_made s v w x c op old len lt shape pens asked pool hosts line refused events = record {
+  correct = old.correct;
   shape = shape ∙ old.shape;
   pens = rw pens old.pens;
   asked = λ d within.
@@ -110,7 +112,7 @@ request_made s v w x c op old len lt shape pens asked pool hosts line refused ev
 -- what a client's pen and its count make is its next request
 pub request_is : (s : Schedule) (v : World) (x : WorldState) → RepresentsWorld s v x → (c : ℕ) → c < client_count v.shape → length v.asked.items ≡ client_count v.shape
     → (pen : Signer) (n : ℕ) (op tag : Bytes) → pen ≡ get_or v.pens.items c pen → n ≡ get_or v.asked.items c n → tag ≡ signed_request pen.secret pen.client (request_text c (n + 1) op)
-    → record { client = c; seq = n + 1; op = op; tag = tag } ≡ request_of (schedule_of s) c (next_number x c) op
+    → record { client = c; seq = n + 1; op = op; tag = tag } ≡ request_of s c (next_number x c) op
 request_is s v x old c lt len pen n op tag at asked tagged =
     let below : c < client_count s.shape = omega (arith, ap client_count old.shape) in
     let first = get_or_from_slice_get v.pens.items c (record { client = c; secret = s.secret }) pen (old.pens c below) in
@@ -133,9 +135,10 @@ module _ (s : Schedule) (v w : World) (x : WorldState) (h : ℕ) (bytes : Bytes)
   step_made : RepresentsWorld s v x → IsStep step its_answer → RepresentsHosts s w.hosts.items (update x.histories h its_answer.left.history)
       → w.shape ≡ v.shape → w.pens ≡ v.pens → w.asked ≡ v.asked → w.pool.items ≡ v.pool.items ++ map (λ (m : Sent). m.bytes) step.sent → w.line.items ≡ fold extended v.line.items step.executed
       → w.refused.items ≡ v.refused.items ++ option_to_list (refusal_of (v.events + 1) step.outcome) → w.events ≡ v.events + 1
-      → RepresentsWorld s w (steps (system_of s) h (Given bytes) (arrives (schedule_of s) h bytes x))
+      → RepresentsWorld s w (steps (system_of s) h (Given bytes) (arrives s h bytes x))
   unfolding refusals
   step_made old is hosts shape pens asked pool line refused events = record {
+    correct = old.correct;
     shape = shape ∙ old.shape;
     pens = rw pens old.pens;
     asked = rw asked old.asked;
@@ -147,6 +150,12 @@ module _ (s : Schedule) (v w : World) (x : WorldState) (h : ℕ) (bytes : Bytes)
     events = omega (arith, events, old.events);
   }
 
+-- A correct host that is given bytes makes its step.
+makes_step : (s : Schedule) (h : ℕ) (bytes : Bytes) (x : WorldState) → is_faulty s h ≡ false
+    → give_host (system_of s) h bytes x ≡ steps (system_of s) h (Given bytes) (arrives s h bytes x)
+unfolding give_host
+makes_step s h bytes x correct = rw correct refl
+
 pub message_given : (s : Schedule) (v w : World) (x : WorldState) (h number : ℕ) (bytes : Bytes) (step : Step) → RepresentsWorld s v x → numbered v.pool.items number ≡ Some bytes
     → ((d : ℕ → History) → RepresentsHosts s v.hosts.items d → IsStep step (transition (self_of s h) (d h) (Given bytes)) × RepresentsHosts s w.hosts.items (update d h (transition (self_of s h) (d h) (Given bytes)).left.history))
     → w.shape ≡ v.shape → w.pens ≡ v.pens → w.asked ≡ v.asked → w.pool.items ≡ v.pool.items ++ map (λ (m : Sent). m.bytes) step.sent → w.line.items ≡ fold extended v.line.items step.executed
@@ -155,7 +164,7 @@ pub message_given : (s : Schedule) (v w : World) (x : WorldState) (h number : �
 message_given s v w x h number bytes step old there said shape pens asked pool line refused events =
     let named : numbered x.pool number ≡ Some bytes = rw (← old.pool) there in
     let both = said x.histories old.hosts in
-    rw named (subst (λ (y : WorldState). RepresentsWorld s w y) (sym (makes_step (run_of s) h bytes x)) (step_made s v w x h bytes step old both.0 both.1 shape pens asked pool line refused events))
+    rw named (subst (λ (y : WorldState). RepresentsWorld s w y) (sym (makes_step s h bytes x (old.correct h))) (step_made s v w x h bytes step old both.0 both.1 shape pens asked pool line refused events))
 
 -- ---- which events are possible
 
@@ -172,12 +181,38 @@ none_missing : (messages : ℕ → Option Bytes) (m : ℕ) (o : Option Bytes) �
 none_missing messages m None at = rw at refl
 none_missing messages m (Some bytes) at = rw at refl
 
-pub is_there : (s : Schedule) (x : WorldState) (e : WorldEvent) (pool : List Bytes) → pool ≡ x.pool → missing_in pool e ≡ None → is_possible s x e ≡ true
-is_there s x (Ask c op) pool same none = refl
-is_there s x (Give m h) pool same none = none_missing (numbered x.pool) m (numbered x.pool m) refl ∙ rw (← same) (no_message m (is_some (numbered pool m)) none)
+pub is_there : (s : Schedule) (x : WorldState) (e : WorldEvent) (pool : List Bytes) → is_built e ≡ true → pool ≡ x.pool → missing_in pool e ≡ None → is_possible s x e ≡ true
+is_there s x (Ask c op) pool built same none = refl
+is_there s x (Give m h) pool built same none = none_missing (numbered x.pool) m (numbered x.pool m) refl ∙ rw (← same) (no_message m (is_some (numbered pool m)) none)
+is_there s x (Take m c) pool built same none = absurd cc
+is_there s x (Raw who bytes) pool built same none = absurd cc
+is_there s x (Patience h) pool built same none = absurd cc
+is_there s x (Nudge h) pool built same none = absurd cc
+is_there s x (Sign c seq op) pool built same none = absurd cc
+is_there s x (TagReply h c seq pos result) pool built same none = absurd cc
+is_there s x (TagWish h view) pool built same none = absurd cc
+is_there s x (StampPrepare h view pos messages) pool built same none = absurd cc
+is_there s x (StampCommit h m) pool built same none = absurd cc
+is_there s x (StampCheckpoint h pos digest) pool built same none = absurd cc
+is_there s x (StampChange h view counter) pool built same none = absurd cc
+is_there s x (StampAs h m) pool built same none = absurd cc
+is_there s x (StampRaw h bytes) pool built same none = absurd cc
 
 pub is_missing : (s : Schedule) (x : WorldState) (e : WorldEvent) (pool : List Bytes) (n : ℕ) → pool ≡ x.pool → missing_in pool e ≡ Some n → (is_possible s x e ≡ false) × (given_message e ≡ Some n)
 is_missing s x (Ask c op) pool n same some = absurd cc
+is_missing s x (Take m c) pool n same some = absurd cc
+is_missing s x (Raw who bytes) pool n same some = absurd cc
+is_missing s x (Patience h) pool n same some = absurd cc
+is_missing s x (Nudge h) pool n same some = absurd cc
+is_missing s x (Sign c seq op) pool n same some = absurd cc
+is_missing s x (TagReply h c seq pos result) pool n same some = absurd cc
+is_missing s x (TagWish h view) pool n same some = absurd cc
+is_missing s x (StampPrepare h view pos messages) pool n same some = absurd cc
+is_missing s x (StampCommit h m) pool n same some = absurd cc
+is_missing s x (StampCheckpoint h pos digest) pool n same some = absurd cc
+is_missing s x (StampChange h view counter) pool n same some = absurd cc
+is_missing s x (StampAs h m) pool n same some = absurd cc
+is_missing s x (StampRaw h bytes) pool n same some = absurd cc
 is_missing s x (Give m h) pool n same some =
     let q = a_message m n (is_some (numbered pool m)) some in
     (none_missing (numbered x.pool) m (numbered x.pool m) refl ∙ rw (← same) q.0, ap Some q.1)
@@ -200,6 +235,6 @@ unfolding report_of
 report_is s v x old asked_len hosts_len messages line refused hosts clients is_messages is_line is_refused is_hosts is_clients =
     let n : length v.hosts.items ≡ host_count s.shape = hosts_len ∙ ap host_count old.shape in
     let m : length v.asked.items ≡ client_count s.shape = asked_len ∙ ap client_count old.shape in
-    let first = is_hosts ∙ lines_are s v.hosts.items x old.hosts in
+    let first = is_hosts ∙ lines_are s v.hosts.items x old.correct old.hosts in
     let agree = same_lines (line_of_client v.asked.items) (client_line (system_of s) x) 0 (client_count s.shape) (λ c lt. counted s v x old c (omega arith)) in
     rw (is_messages, is_line, is_refused, first, is_clients, n, m, agree, old.events, old.pool, old.line, old.refused) refl

@@ -1,4 +1,5 @@
 pub mod World
+pub mod Unbuilt
 pub mod Hosts
 pub mod Reports
 pub mod WorldTables

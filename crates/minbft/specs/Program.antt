@@ -1,5 +1,5 @@
 -- What the program answers: the exit status, and what it writes.
-use Rattle.std.specs.Prelude.{◌≡◌, ℕ, ◌-◌, ◌^◌, ◌≤◌, ◌<◌, ◌⊎◌, List, [], ◌∷◌, ◌++◌, length, codes, Bool, ◌&&◌, ◌||◌, Option, None, Err}
+use Rattle.std.specs.Prelude.{◌≡◌, ℕ, ◌-◌, ◌^◌, ◌≤◌, ◌<◌, ◌⊎◌, List, [], ◌∷◌, ◌++◌, length, codes, Bool, ◌&&◌, ◌||◌, Option, Some, is_some, None, Err}
 use Rattle.std.specs.Bool.{then_some}
 use Rattle.std.specs.Option.{option_or}
 use Rattle.std.specs.Fmt.{decimal}
@@ -8,18 +8,21 @@ use Rattle.mb_base.specs.Shapes.{Bytes}
 use Rattle.mb_edge.specs.Faults.{Rose}
 use Rattle.mb_edge.specs.Pieces.{AppendsPart}
 use Rattle.mb_sched.specs.declared.schedule.Schedule.{Schedule}
-use Rattle.mb_sched.specs.Words.{is}
-use Rattle.mb_sched.specs.EventLines.{is_number}
-use Rattle.mb_sched.specs.Lines.{Bad, Unbuilt}
+use Rattle.mb_sched.specs.Words.{is, number_in}
 use Rattle.mb_sched.specs.Schedules.{max_text, line_number, schedule_of, IsScheduleText}
 use Rattle.mb_sched.specs.Report.{report_text}
 use Rattle.minbft.specs.declared.top.Command.{Command}
 use Rattle.minbft.specs.declared.top.Command.TheVariants.{Replay, NotBuilt}
+use Rattle.minbft.specs.Unbuilt.{unbuilt_line, IsBuilt}
 use Rattle.minbft.specs.World.{system_of, world}
 use Rattle.minbft.specs.WorldTables.{ArePossible, IsFirstImpossible}
 use Rattle.minbft.specs.Reports.{report_of}
 
 -- ---- the words
+
+-- whether a word is a number from low to high
+abbrev pub is_number : ℕ → ℕ → Bytes → Bool
+is_number low high word = is_some (number_in low high word)
 
 -- `soak SEED N` and `node ID EVENTS`
 abbrev pub is_soak : Bytes → Bytes → Bytes → Bool
@@ -58,17 +61,21 @@ unbuilt_line_text n = codes "unbuilt line " ++ (decimal n ++ codes "\n")
 abbrev pub final_report : Schedule → Bytes
 final_report s = report_text (report_of (system_of s) (world s (length s.events)))
 
--- what is answered to a schedule whose text is right: the status, and what is to be written
+-- what is answered to a schedule that says only what is built: the status, and what is to be written
 pub data AnswersRun (s : Schedule) (status : ℕ) (out : Bytes) : Type 0 where
   missing_message : (e : ℕ) → IsFirstImpossible s e → status ≡ 2 → out ≡ bad_line_text (line_number e) → AnswersRun s status out
   replayed : ArePossible s (length s.events) → status ≡ 0 → out ≡ final_report s → AnswersRun s status out
 
+-- what is answered to a schedule
+pub data AnswersSchedule (s : Schedule) (status : ℕ) (out : Bytes) : Type 0 where
+  not_built : (n : ℕ) → unbuilt_line s ≡ Some n → status ≡ 11 → out ≡ unbuilt_line_text n → AnswersSchedule s status out
+  ran : IsBuilt s → AnswersRun s status out → AnswersSchedule s status out
+
 -- what is answered to a text
 pub data Answers (text : Bytes) (status : ℕ) (out : Bytes) : Type 0 where
   too_long : max_text < length text → status ≡ 2 → out ≡ too_long_text → Answers text status out
-  bad_line : (n : ℕ) → length text ≤ max_text → schedule_of text ≡ Err (Bad n) → status ≡ 2 → out ≡ bad_line_text n → Answers text status out
-  unbuilt_line : (n : ℕ) → length text ≤ max_text → schedule_of text ≡ Err (Unbuilt n) → status ≡ 11 → out ≡ unbuilt_line_text n → Answers text status out
-  ran : (s : Schedule) → IsScheduleText text s → AnswersRun s status out → Answers text status out
+  bad_line : (n : ℕ) → length text ≤ max_text → schedule_of text ≡ Err n → status ≡ 2 → out ≡ bad_line_text n → Answers text status out
+  right : (s : Schedule) → IsScheduleText text s → AnswersSchedule s status out → Answers text status out
 
 -- the statuses of these answers
 abbrev pub IsAnswered : ℕ → Type 0
@@ -96,10 +103,10 @@ pub data Replays (text : Bytes) (status : ℕ) (source source' sink sink' : Devi
   unread : status ≡ 5 → Rose source.faults source'.faults → sink ≡ sink' → Replays text status source source' sink sink'
   starved : status ≡ 4 → sink ≡ sink' → Replays text status source source' sink sink'
 
--- the text is that of a schedule, and the report after all its events was written
+-- the text is that of a schedule of which all is built, and the report after all its events was written
 abbrev pub ReportsOn : Bytes → Option Bytes → Option Bytes → Type 0
-ReportsOn text old new = (s : Schedule) × IsScheduleText text s × ArePossible s (length s.events) × Appends old new (final_report s)
+ReportsOn text old new = (s : Schedule) × IsScheduleText text s × IsBuilt s × ArePossible s (length s.events) × Appends old new (final_report s)
 
--- a schedule's text whose events are all possible is answered by its report, unless memory runs out or a device fails
+-- the text of a schedule of which all is built and possible is answered by its report, unless memory runs out or a device fails
 abbrev pub IsComplete : Bytes → ℕ → Type 0 → Type 0
-IsComplete text status fault = (s : Schedule) → IsScheduleText text s → ArePossible s (length s.events) → ¬ fault → (status ≡ 0) ⊎ (status ≡ 4)
+IsComplete text status fault = (s : Schedule) → IsScheduleText text s → IsBuilt s → ArePossible s (length s.events) → ¬ fault → (status ≡ 0) ⊎ (status ≡ 4)

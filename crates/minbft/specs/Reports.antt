@@ -12,7 +12,7 @@ use Rattle.mb_sched.specs.declared.report.HostLine.{HostLine}
 use Rattle.mb_sched.specs.declared.report.HostState.{HostState}
 use Rattle.mb_sched.specs.declared.report.ClientLine.{ClientLine}
 use Rattle.mb_sched.specs.declared.report.LastResult.{LastResult}
-use Rattle.mb_theory.specs.WorldEvents.{is_faulty}
+use Rattle.mb_sched.specs.Limits.{is_faulty}
 use Rattle.mb_theory.specs.World.{World, System, self_of}
 use Rattle.mb_theory.specs.Refusals.{refusals}
 

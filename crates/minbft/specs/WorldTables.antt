@@ -3,7 +3,7 @@ use Rattle.std.specs.Prelude.{◌≡◌, ℕ, ◌-◌, ◌<◌, ◌≤◌, Bool,
 use Rattle.mb_base.specs.Shapes.{Bytes, client_count}
 use Rattle.mb_sched.specs.declared.schedule.Schedule.{Schedule}
 use Rattle.mb_sched.specs.declared.schedule.WorldEvent.{WorldEvent}
-use Rattle.mb_sched.specs.declared.schedule.WorldEvent.TheVariants.{Ask, Give}
+use Rattle.mb_sched.specs.declared.schedule.WorldEvent.TheVariants.{Give}
 use Rattle.minbft.specs.declared.world.World.{World}
 use Rattle.minbft.specs.declared.world.WorldStop.{WorldStop}
 use Rattle.minbft.specs.declared.world.WorldStop.TheVariants as stop
@@ -11,11 +11,16 @@ use Rattle.minbft.specs.declared.replay.RunStop.{RunStop}
 use Rattle.minbft.specs.declared.replay.RunStop.TheVariants as run
 use Rattle.minbft.specs.Hosts.{RepresentsHosts, ArePens}
 use Rattle.mb_theory.specs.Refusals.{refusals}
-use Rattle.mb_sched.specs.Limits.{EventFits}
+use Rattle.mb_sched.specs.Limits.{EventFits, is_faulty}
 use Rattle.mb_theory.specs.World.{World as WorldState, numbered}
 use Rattle.minbft.specs.World.{is_possible, world}
 
+-- no host is faulty
+abbrev pub AllCorrect : Schedule → Type 0
+AllCorrect s = (h : ℕ) → is_faulty s h ≡ false
+
 pub record RepresentsWorld (s : Schedule) (w : World) (x : WorldState) : Type 0 where
+  pub correct : AllCorrect s  -- until the code's world plays faulty hosts
   pub shape : w.shape ≡ s.shape
   pub pens : ArePens s w.pens.items
   pub asked : (c : ℕ) → c < client_count s.shape → slice_index w.asked.items c ≡ (x.askers c).number
@@ -30,13 +35,13 @@ pub record RepresentsWorld (s : Schedule) (w : World) (x : WorldState) : Type 0 
 
 -- the number of the message that an event gives, where there is no such message
 abbrev pub missing_in : List Bytes → WorldEvent → Option ℕ
-missing_in pool (Ask c op) = None
 missing_in pool (Give m h) = if is_some (numbered pool m) then None else Some m
+missing_in pool _ = None
 
 -- the message that an event gives
 abbrev pub given_message : WorldEvent → Option ℕ
-given_message (Ask c op) = None
 given_message (Give m h) = Some m
+given_message _ = None
 
 -- Halted comes exactly where an earlier event ran out of memory. Then nothing changes, and where the message is not there.
 abbrev pub WorldHalts : World → Result (Unit {0}) WorldStop → World → Type 0

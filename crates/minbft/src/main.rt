@@ -6,6 +6,7 @@ mod effects;
 mod lines;
 mod replay;
 mod top;
+mod unbuilt;
 mod world;
 
 use adapters::{StdSink, StdSource};

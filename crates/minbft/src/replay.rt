@@ -1,6 +1,7 @@
 //! A whole schedule.
 
 ghost use Rattle.std.specs.Prelude.{◌≡◌};
+ghost use Rattle.minbft.specs.Unbuilt.{IsBuilt};
 ghost use Rattle.minbft.specs.WorldTables.{EventsFit, Runs};
 ghost use Rattle.minbft.specs.declared.replay.RunStop.TheVariants as run_stop;
 
@@ -28,7 +29,8 @@ impl From<NoMemory> for RunStop {
 
 /// The world after all events of a schedule.
 pub fn run(alloc: Global, schedule: &Schedule) -> Result<World, RunStop>
-    requires { EventsFit schedule.now }
+    requires fits { EventsFit schedule.now }
+    requires built { IsBuilt schedule.now }
     ensures { Runs schedule.now result }
 {
     let mut world = World::make(alloc, schedule.shape, &schedule.secret)?;

@@ -75,7 +75,7 @@ const HEADER: [&str; 6] = [
 ];
 
 /// Lines behind the header, the status, and what is written.
-const LINES: [(&str, u8, &str); 21] = [
+const LINES: [(&str, u8, &str); 23] = [
     ("give 1 h0\n", 2, "bad line 7\n"),
     ("ask c0 00\ngive 2 h0\n", 2, "bad line 8\n"),
     ("ask c0 00\ngive 2 h0\nask\n", 2, "bad line 9\n"),
@@ -83,7 +83,9 @@ const LINES: [(&str, u8, &str); 21] = [
     ("ask c0 00\ngive 2 h0\ntake 1 c0\n", 11, "unbuilt line 9\n"),
     ("ask c0 00", 2, "bad line 7\n"),
     ("ask c1 00\n", 2, "bad line 7\n"),
-    ("take 1 c0\nask\n", 11, "unbuilt line 7\n"),
+    ("take 1 c0\nask\n", 2, "bad line 8\n"),
+    ("take 1 c0\nnudge h0\n", 11, "unbuilt line 7\n"),
+    ("take 0 c1\n", 2, "bad line 7\n"),
     ("raw h0 00\n", 11, "unbuilt line 7\n"),
     ("patience h0\n", 11, "unbuilt line 7\n"),
     ("nudge h0\n", 11, "unbuilt line 7\n"),

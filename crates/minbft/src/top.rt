@@ -5,27 +5,25 @@ ghost use Rattle.std.specs.Io.KnownBytes.{IsAtEnd};
 ghost use Rattle.mb_base.specs.Shapes.{Bytes};
 ghost use Rattle.mb_edge.specs.Faults.{Rose, HasNoFault};
 ghost use Rattle.mb_edge.specs.Pieces.{ConsumesBetween};
-ghost use Rattle.mb_sched.specs.EventLines.{is_number};
-ghost use Rattle.mb_sched.specs.Limits.{ScheduleFits};
+ghost use Rattle.mb_sched.specs.Limits.{IsSchedule};
 ghost use Rattle.mb_sched.specs.Report.{report_text};
 ghost use Rattle.mb_sched.specs.Schedules.{max_text, IsScheduleText};
 ghost use Rattle.mb_theory.specs.Hashed.{HashesApart};
 ghost use Rattle.mb_theory.specs.Safety.{IsSafe};
 ghost use Rattle.mb_theory.specs.World.{World as WorldState};
+ghost use Rattle.minbft.specs.Unbuilt.{IsBuilt};
 ghost use Rattle.minbft.specs.World.{system_of, world};
 ghost use Rattle.minbft.specs.WorldTables.{RepresentsWorld};
 ghost use Rattle.minbft.specs.Reports.{report_of};
-ghost use Rattle.minbft.specs.Program.{command_of, is_soak, is_node, usage_text, unbuilt_text, too_long_text, bad_line_text, unbuilt_line_text, AnswersRun, Answers, IsAnswered, device, Says, Replays, ReportsOn, IsComplete};
+ghost use Rattle.minbft.specs.Program.{command_of, is_number, is_soak, is_node, usage_text, unbuilt_text, too_long_text, bad_line_text, unbuilt_line_text, AnswersRun, AnswersSchedule, Answers, IsAnswered, device, Says, Replays, ReportsOn, IsComplete};
 
 use crate::replay::{RunStop, run};
+use crate::unbuilt::{HEADER_LINES, unbuilt_line};
 use crate::world::World;
 use mb_base::NoMemory;
 use mb_edge::{ReadStop, Sink, Source, WriteStop, read_all, write_all};
 use mb_sched::{BadText, MAX_TEXT, Schedule, is_word, number_in, parse_schedule, print_report};
 use std::alloc::Global;
-
-/// How many lines stand before the events of a schedule.
-const HEADER_LINES: u64 = 6;
 
 /// All is done, and the answer is written.
 const DONE: u8 = 0;
@@ -141,7 +139,7 @@ fn bad_line(alloc: Global, number: u64) -> Result<Answer, NoMemory>
     })
 }
 
-fn unbuilt_line(alloc: Global, number: u32) -> Result<Answer, NoMemory>
+fn not_built(alloc: Global, number: u64) -> Result<Answer, NoMemory>
     ensures { IfOk result (λ a. (a.status ≡ 11) × (a.text.items ≡ unbuilt_line_text number)) }
 {
     let text = format!(in alloc; "unbuilt line {number}\n")?;
@@ -162,9 +160,11 @@ fn report_on(alloc: Global, world: World) -> Result<Answer, NoMemory>
     })
 }
 
-/// The answer to a schedule: the report after its events, or the line of the first event that gives a message that was not made.
+/// The answer to a schedule of which all is built: the report after its events, or the line of the first event that gives a message that
+/// was not made.
 fn answer_run(alloc: Global, schedule: &Schedule) -> Result<Answer, NoMemory>
-    requires { ScheduleFits schedule.now }
+    requires fits { IsSchedule schedule.now }
+    requires built { IsBuilt schedule.now }
     ensures { IfOk result (λ a. AnswersRun schedule.now a.status a.text.items) }
 {
     match run(alloc, schedule) {
@@ -174,15 +174,25 @@ fn answer_run(alloc: Global, schedule: &Schedule) -> Result<Answer, NoMemory>
     }
 }
 
+/// The answer to a schedule: the line of the first that isn't built, or what comes of running it.
+fn answer_schedule(alloc: Global, schedule: &Schedule) -> Result<Answer, NoMemory>
+    requires { IsSchedule schedule.now }
+    ensures { IfOk result (λ a. AnswersSchedule schedule.now a.status a.text.items) }
+{
+    match unbuilt_line(schedule) {
+        Some(number) => not_built(alloc, number),
+        None => answer_run(alloc, schedule),
+    }
+}
+
 /// The answer to the text of a schedule.
 fn answer_to(alloc: Global, text: &[u8]) -> Result<Answer, NoMemory>
     ensures { IfOk result (λ a. Answers text.now a.status a.text.items) }
 {
     match parse_schedule(alloc, text) {
-        Ok(schedule) => answer_run(alloc, &schedule),
+        Ok(schedule) => answer_schedule(alloc, &schedule),
         Err(BadText::TooLong) => too_long(alloc),
         Err(BadText::BadLine { number }) => bad_line(alloc, u64::from(number)),
-        Err(BadText::Unbuilt { number }) => unbuilt_line(alloc, number),
         Err(BadText::NoMemory) => Err(NoMemory),
     }
 }

@@ -63,17 +63,17 @@ impl World {
     ghost use Rattle.mb_base.specs.Shapes.{client_count, host_count};
     ghost use Rattle.mb_parts.specs.Fits.{FitsText, FitsRequest};
     ghost use Rattle.minbft.specs.Reports.{report_of};
-    ghost use Rattle.mb_theory.specs.FirstPath.{schedule_of};
     ghost use Rattle.mb_theory.specs.World.{World as WorldState, nothing_happened, numbered, request_of, client_asks, give_host};
     ghost use Rattle.mb_theory.specs.WorldSteps.{with_message};
+    ghost use Rattle.minbft.specs.Unbuilt.{is_built};
     ghost use Rattle.minbft.specs.World.{system_of, is_possible, happens};
     ghost use Rattle.minbft.specs.Hosts.{AllRun};
     ghost use Rattle.mb_sched.specs.Limits.{EventFits};
-    ghost use Rattle.minbft.specs.WorldTables.{RepresentsWorld, WorldHalts, NamesMessage, missing_in};
+    ghost use Rattle.minbft.specs.WorldTables.{AllCorrect, RepresentsWorld, WorldHalts, NamesMessage, missing_in};
 
     /// The world before the first event.
     pub fn make(alloc: Global, shape: Shape, secret: &Key) -> Result<World, NoMemory>
-        ensures stands { (s : Schedule) → s.shape ≡ shape → s.secret ≡ secret.now → IfOk result (λ w. RepresentsWorld s w nothing_happened) }
+        ensures stands { (s : Schedule) → s.shape ≡ shape → s.secret ≡ secret.now → AllCorrect s → IfOk result (λ w. RepresentsWorld s w nothing_happened) }
         ensures runs { IfOk result (λ w. w.halted ≡ false) }
         ensures none { IfOk result (λ w. w.events ≡ 0) }
         ensures shape { IfOk result (λ w. w.shape ≡ shape) }
@@ -91,9 +91,11 @@ impl World {
         })
     }
 
-    /// One event. `NoSuchMessage` comes exactly where the event gives a message that is not there, and `Halted` exactly after `NoMemory`.
+    /// One event, of those that are built. `NoSuchMessage` comes exactly where the event gives a message that is not there, and `Halted`
+    /// exactly after `NoMemory`.
     pub fn world_step(&mut self, alloc: Global, event: &WorldEvent) -> Result<(), WorldStop>
         requires fits { EventFits self.old.shape event.now }
+        requires built { is_built event.now ≡ true }
         requires few { self.old.events < 2 ^ 64 - 1 }
         ensures stands { (s : Schedule) (x : WorldState) → RepresentsWorld s self.old x → OnOk result (RepresentsWorld s self.new (happens s x event.now)) }
         ensures names { (s : Schedule) (x : WorldState) → RepresentsWorld s self.old x → NamesMessage (is_possible s x event.now) event.now result }
@@ -131,6 +133,7 @@ impl World {
 
     fn happen(&mut self, alloc: Global, event: &WorldEvent) -> Result<(), NoMemory>
         requires fits { EventFits self.old.shape event.now }
+        requires built { is_built event.now ≡ true }
         requires few { self.old.events < 2 ^ 64 - 1 }
         requires there { missing_in self.old.pool.items event.now ≡ None }
         requires runs { AllRun self.old.hosts.items }
@@ -144,6 +147,7 @@ impl World {
         match event {
             WorldEvent::Ask { client, op } => self.ask(alloc, *client, op),
             WorldEvent::Give { message, host } => self.give(alloc, *message, *host),
+            _ => unreachable!(),
         }
     }
 
@@ -152,7 +156,7 @@ impl World {
         requires client { client < client_count self.old.shape }
         requires op { FitsText op.now }
         requires few { self.old.events < 2 ^ 64 - 1 }
-        ensures stands { (s : Schedule) (x : WorldState) → RepresentsWorld s self.old x → OnOk result (RepresentsWorld s self.new (client_asks (schedule_of s) client op.now x)) }
+        ensures stands { (s : Schedule) (x : WorldState) → RepresentsWorld s self.old x → OnOk result (RepresentsWorld s self.new (client_asks s client op.now x)) }
         ensures hosts { self.new.hosts ≡ self.old.hosts }
         ensures halted { self.new.halted ≡ self.old.halted }
         ensures shape { self.new.shape ≡ self.old.shape }
@@ -176,7 +180,7 @@ impl World {
         requires client { client < client_count self.now.shape }
         requires op { FitsText op.now }
         requires few { self.now.events < 2 ^ 64 - 1 }
-        ensures next { (s : Schedule) (x : WorldState) → RepresentsWorld s self.now x → IfOk result (λ r. r ≡ request_of (schedule_of s) client ((x.askers client).number + 1) op.now) }
+        ensures next { (s : Schedule) (x : WorldState) → RepresentsWorld s self.now x → IfOk result (λ r. r ≡ request_of s client ((x.askers client).number + 1) op.now) }
         ensures fits { IfOk result (FitsRequest self.now.shape) }
         ensures within { IfOk result (λ r. r.seq ≤ self.now.events + 1) }
     {

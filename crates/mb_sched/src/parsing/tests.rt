@@ -1,4 +1,6 @@
 use super::*;
+use crate::schedule_text::print_schedule;
+use std::alloc::AllocError;
 use std::test::Fail;
 
 /// A right header, line by line.
@@ -45,12 +47,28 @@ const BAD_HEADER_LINES: [(usize, &str); 20] = [
     (6, ""),
 ];
 
-/// Event lines that are built.
-const GOOD_LINES: [&str; 4] = [
+/// Event lines, as they are printed.
+const GOOD_LINES: [&str; 20] = [
     "ask c0 -",
     "ask c0 0a",
     "give 0 h0",
     "give 18446744073709551615 h2",
+    "take 1 c0",
+    "raw h0 00",
+    "raw c0 -",
+    "patience h1",
+    "nudge h2",
+    "sign c0 1 00",
+    "tag h0 reply c0 1 0 -",
+    "tag h0 wish 9223372036854775807",
+    "stamp h0 prepare 0 1 0",
+    "stamp h0 prepare 0 1 3 2",
+    "stamp h0 prepare 0 1 1 2 3 4 5 6 7 8 9 10 11 12 13 14 15 16",
+    "stamp h0 commit 18446744073709551615",
+    "stamp h0 checkpoint 1 00000000000000000000000000000000000000000000000000000000000000ff",
+    "stamp h0 change 1 0",
+    "stamp h0 as 1",
+    "stamp h0 raw 0a",
 ];
 
 /// Lines that are bad behind the header.
@@ -85,24 +103,12 @@ const BAD_LINES: [&str; 28] = [
     "stamp h0 raw 0A",
 ];
 
-/// Event lines that are in the grammar and not built yet.
-const UNBUILT_LINES: [&str; 16] = [
-    "take 1 c0",
-    "raw h0 00",
-    "raw c0 -",
-    "patience h1",
-    "nudge h2",
-    "sign c0 1 00",
-    "tag h0 reply c0 1 0 -",
-    "tag h0 wish 9223372036854775807",
-    "stamp h0 prepare 0 1 0",
-    "stamp h0 prepare 0 1 3 2",
-    "stamp h0 prepare 0 1 1 2 3 4 5 6 7 8 9 10 11 12 13 14 15 16",
-    "stamp h0 commit 18446744073709551615",
-    "stamp h0 checkpoint 1 00000000000000000000000000000000000000000000000000000000000000fF",
-    "stamp h0 change 1 0",
-    "stamp h0 as 1",
-    "stamp h0 raw 0a",
+/// Lines of whom is faulty, with the marks of three hosts and of one client.
+const FAULTY: [(&str, [bool; 3], bool); 4] = [
+    ("faulty", [false, false, false], false),
+    ("faulty h0", [true, false, false], false),
+    ("faulty c0", [false, false, false], true),
+    ("faulty h2 c0", [false, false, true], true),
 ];
 
 /// The right header with this line under its number, and an event line behind it if there is one.
@@ -210,14 +216,28 @@ fn finds_bad_header_lines(rt: HostRuntime) -> Result<(), Fail> {
             "{line}"
         );
     }
-    assert_eq!(rt;
-        header_fault(rt.alloc(), 6, "faulty h0")?,
-        Some(BadText::Unbuilt { number: 6 })
-    );
-    assert_eq!(rt;
-        header_fault(rt.alloc(), 6, "faulty h2 c0")?,
-        Some(BadText::Unbuilt { number: 6 })
-    );
+    Ok(())
+}
+
+#[test]
+fn reads_and_prints_whom_is_faulty(rt: HostRuntime) -> Result<(), Fail> {
+    let alloc = rt.alloc();
+    for (line, hosts, client) in FAULTY {
+        let text = text_of(alloc, 6, line, None)?;
+        let schedule = parse_schedule(alloc, text.as_slice())?;
+        assert_eq!(rt;
+            schedule.faulty_hosts.as_slice(),
+            hosts.as_slice(),
+            "{line}"
+        );
+        assert_eq!(rt;
+            schedule.faulty_clients.as_slice(),
+            [client].as_slice(),
+            "{line}"
+        );
+        let printed = print_schedule(alloc, &schedule)?;
+        assert!(rt; printed.as_slice() == text.as_slice(), "{line}");
+    }
     Ok(())
 }
 
@@ -233,9 +253,13 @@ fn reads_the_secret_in_either_case(rt: HostRuntime) -> Result<(), Fail> {
 }
 
 #[test]
-fn reads_good_lines(rt: HostRuntime) -> Result<(), Fail> {
+fn reads_and_prints_good_lines(rt: HostRuntime) -> Result<(), Fail> {
+    let alloc = rt.alloc();
     for line in GOOD_LINES {
-        assert_eq!(rt; event_fault(rt.alloc(), line)?, None, "{line}");
+        let text = text_of(alloc, 0, "", Some(line))?;
+        let schedule = parse_schedule(alloc, text.as_slice())?;
+        let printed = print_schedule(alloc, &schedule)?;
+        assert!(rt; printed.as_slice() == text.as_slice(), "{line}");
     }
     Ok(())
 }
@@ -246,18 +270,6 @@ fn finds_bad_lines(rt: HostRuntime) -> Result<(), Fail> {
         assert_eq!(rt;
             event_fault(rt.alloc(), line)?,
             Some(BadText::BadLine { number: 7 }),
-            "{line}"
-        );
-    }
-    Ok(())
-}
-
-#[test]
-fn finds_unbuilt_lines(rt: HostRuntime) -> Result<(), Fail> {
-    for line in UNBUILT_LINES {
-        assert_eq!(rt;
-            event_fault(rt.alloc(), line)?,
-            Some(BadText::Unbuilt { number: 7 }),
             "{line}"
         );
     }

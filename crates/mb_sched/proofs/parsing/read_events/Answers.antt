@@ -1,27 +1,26 @@
-use Rattle.std.proofs.Common.{◌≡◌, ◌++◌, ◌∷◌, [], ◌<◌, length, Some, Err, sym, ◌∙◌, arith, rules}
+use Rattle.std.proofs.Common.{◌≡◌, ◌++◌, ◌∷◌, [], ◌<◌, length, Some, sym, ◌∙◌, arith, rules}
 use Rattle.std.specs.Prelude.{slice_get}
 use Rattle.mb_base.specs.Shapes.{host_count, client_count}
 use Rattle.mb_sched.specs.Words.{words}
 use Rattle.mb_sched.specs.Lines.{lines, is_ended}
 use Rattle.mb_sched.specs.EventLines.{event_line}
-use Rattle.mb_sched.proofs.Events.{goes_on, fails, is_done, is_unended}
+use Rattle.mb_sched.proofs.AllLines.{goes_on, stops, is_done, is_unended}
 use Rattle.mb_sched.proofs.parsing.read_events.Goals as goal
 
-pub returns-in_err-event : goal.returns-in_err-event
-returns-in_err-event c =
-    let failed : c.from_residual-in_err-event.result ≡ Err c.in_err-event.field-0.0 = search rules in
-    let line : c.in_ok-event_line.field-0 ≡ event_line (host_count c.args.shape) (client_count c.args.shape) (words c.in-Some.line.now) = search rules in
+pub returns-in_default-2 : goal.returns-in_default-2
+returns-in_default-2 c =
+    let line : c.in_ok-event.field-0 ≡ event_line (host_count c.args.shape) (client_count c.args.shape) (words c.in-Some.line.now) = search rules in
     let first : Some c.in-Some.line.now ≡ slice_get (lines c.loop-line.unread.rest.now) 0 = search rules in
-    rw failed (fails (host_count c.args.shape) (client_count c.args.shape) (is_ended c.loop-line.unread.rest.now) c.loop-line.events c.loop-line.number (lines c.loop-line.unread.rest.now) c.in-Some.line.now c.in_err-event.field-0.0 _ first (rw (← line) c.in_err-event.ensures) c.loop-line.invariant.so_far)
+    stops (λ line. event_line (host_count c.args.shape) (client_count c.args.shape) (words line)) (is_ended c.loop-line.unread.rest.now) c.loop-line.events c.loop-line.number (lines c.loop-line.unread.rest.now) c.in-Some.line.now _ first (sym line ∙ c.in_default-2.is) c.loop-line.invariant.so_far
 
 pub loop-line-preserved : goal.loop-line-preserved
 loop-line-preserved c =
-    let line : c.in_ok-event_line.field-0 ≡ event_line (host_count c.args.shape) (client_count c.args.shape) (words c.in-Some.line.now) = search rules in
+    let line : c.in_ok-event.field-0 ≡ event_line (host_count c.args.shape) (client_count c.args.shape) (words c.in-Some.line.now) = search rules in
     let first : Some c.in-Some.line.now ≡ slice_get (lines c.loop-line.unread.rest.now) 0 = search rules in
     let shorter : length c.next_line.new.self.rest.now < length c.loop-line.unread.rest.now = search rules in
-    let items : c.push.new.self ≡ c.loop-line.events ++ c.in_ok-event.event ∷ [] = search rules in
+    let items : c.push.new.self ≡ c.loop-line.events ++ c.in-Some-2.event ∷ [] = search rules in
     record {
-      so_far = rw (items, c.next_line.ensures.left, c.next_line.ensures.ended) (goes_on (host_count c.args.shape) (client_count c.args.shape) (is_ended c.loop-line.unread.rest.now) c.loop-line.events c.loop-line.number (lines c.loop-line.unread.rest.now) c.in-Some.line.now c.in_ok-event.event _ first (rw (← line) c.in_ok-event.ensures) c.loop-line.invariant.so_far);
+      so_far = rw (items, c.next_line.ensures.left, c.next_line.ensures.ended) (goes_on (λ line. event_line (host_count c.args.shape) (client_count c.args.shape) (words line)) (is_ended c.loop-line.unread.rest.now) c.loop-line.events c.loop-line.number (lines c.loop-line.unread.rest.now) c.in-Some.line.now c.in-Some-2.event _ first (sym line ∙ c.in-Some-2.is) c.loop-line.invariant.so_far);
       few = omega (arith, shorter);
     }
 
@@ -29,10 +28,10 @@ pub returns-then-not-is_empty : goal.returns-then-not-is_empty
 returns-then-not-is_empty c =
     let last = c.in_default.ensures.last in
     let so_far = rw last.0 at c.loop-line.invariant.so_far in
-    is_unended (host_count c.args.shape) (client_count c.args.shape) (is_ended c.loop-line.unread.rest.now) c.loop-line.events c.loop-line.number _ (last.1 ∙ sym c.is_empty.ensures ∙ c.if-not-is_empty.true) so_far
+    is_unended (λ line. event_line (host_count c.args.shape) (client_count c.args.shape) (words line)) (is_ended c.loop-line.unread.rest.now) c.loop-line.events c.loop-line.number _ (last.1 ∙ sym c.is_empty.ensures ∙ c.if-not-is_empty.true) so_far
 
 pub returns : goal.returns
 returns c =
     let last = c.in_default.ensures.last in
     let so_far = rw last.0 at c.loop-line.invariant.so_far in
-    is_done (host_count c.args.shape) (client_count c.args.shape) (is_ended c.loop-line.unread.rest.now) c.loop-line.events c.loop-line.number _ (last.1 ∙ sym c.is_empty.ensures ∙ c.if-not-is_empty.false) so_far
+    is_done (λ line. event_line (host_count c.args.shape) (client_count c.args.shape) (words line)) (is_ended c.loop-line.unread.rest.now) c.loop-line.events c.loop-line.number _ (last.1 ∙ sym c.is_empty.ensures ∙ c.if-not-is_empty.false) so_far

@@ -3,6 +3,7 @@ use Rattle.std.specs.List.{slice_get}
 use Rattle.std.proofs.lemmas.Option.{slice_get_read}
 use Rattle.mb_theory.specs.WorldSteps.{world as any_world}
 use Rattle.minbft.specs.World.{world}
+use Rattle.minbft.proofs.FirstSchedules.{all_correct, built_at}
 use Rattle.minbft.proofs.RunLaws.{world_more, possible_more, first_impossible}
 use Rattle.minbft.proofs.replay.run.Goals as goal
 
@@ -10,7 +11,7 @@ pub loop-event-init : goal.loop-event-init
 unfolding any_world
 loop-event-init c = record {
   items = c.as_slice-event-items.ensures;
-  stands = c.in_ok-world.ensures.stands c.args.schedule.now refl refl;
+  stands = c.in_ok-world.ensures.stands c.args.schedule.now refl refl (all_correct c.args.schedule.now c.requires.built);
   possible = λ i e lt at. absurd (omega arith);
   runs = c.in_ok-world.ensures.runs;
   shape = c.in_ok-world.ensures.shape;
@@ -21,7 +22,13 @@ pub world_step-requires-clause-fits : goal.world_step-requires-clause-fits
 world_step-requires-clause-fits c =
     let now = c.loop-event.invariant in
     let at : slice_get c.args.schedule.now.events c.loop-event.event-index ≡ Some c.event-item.result = rw (← now.items) (slice_get_read _ _ c.loop-event.event-index c.event-item.result refl c.loop-event-test.true c.event-item.is) in
-    rw now.shape (c.requires c.loop-event.event-index c.event-item.result at)
+    rw now.shape (c.requires.fits c.loop-event.event-index c.event-item.result at)
+
+pub world_step-requires-clause-built : goal.world_step-requires-clause-built
+world_step-requires-clause-built c =
+    let now = c.loop-event.invariant in
+    let at : slice_get c.args.schedule.now.events c.loop-event.event-index ≡ Some c.event-item.result = rw (← now.items) (slice_get_read _ _ c.loop-event.event-index c.event-item.result refl c.loop-event-test.true c.event-item.is) in
+    built_at c.args.schedule.now c.requires.built c.loop-event.event-index c.event-item.result at
 
 pub returns-in-Err-NoSuchMessage : goal.returns-in-Err-NoSuchMessage
 returns-in-Err-NoSuchMessage c =

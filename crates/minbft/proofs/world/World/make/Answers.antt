@@ -5,7 +5,8 @@ use Rattle.minbft.proofs.world.World.make.Goals as goal
 
 pub returns-clause-stands : goal.returns-clause-stands
 unfolding refusals
-returns-clause-stands c = λ s e f. record {
+returns-clause-stands c = λ s e f correct. record {
+  correct = correct;
   shape = sym e;
   pens = c.in_ok-pens.ensures.pens s e f;
   asked = λ k lt. rw c.in_ok-none_asked.ensures (nothing_asked _ k);

@@ -1,5 +1,0 @@
-use Rattle.std.proofs.Common.{length}
-use Rattle.mb_sched.proofs.event_lines.+are_numbers.Given as goal
-
-abbrev pub decreases-are_numbers : goal.decreases-are_numbers
-decreases-are_numbers l = length l.words.now

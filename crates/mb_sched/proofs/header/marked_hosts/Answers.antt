@@ -1,0 +1,12 @@
+use Rattle.std.proofs.Common.{◌≡◌, ℕ, ◌++◌, ◌∷◌, [], Bool, List, ap, sym, ◌∙◌, arith, rules}
+use Rattle.std.specs.List.{list_any}
+use Rattle.std.proofs.lemmas.List.FromFn.{map-range_with_len_more}
+use Rattle.mb_sched.specs.Headers.{is_host_of}
+use Rattle.mb_sched.proofs.header.marked_hosts.Goals as goal
+
+pub loop-host-preserved : goal.loop-host-preserved
+loop-host-preserved c =
+    let n = c.loop-host.host in
+    let named : ℕ → Bool = λ n. list_any (is_host_of n) c.args.names.now in
+    let items : c.push.new.self ≡ c.loop-host.marks ++ named n ∷ [] = search rules in
+    items ∙ ap (λ (l : List Bool). l ++ named n ∷ []) c.loop-host.invariant ∙ sym (map-range_with_len_more named 0 n n (omega arith))
