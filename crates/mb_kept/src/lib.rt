@@ -10,3 +10,6 @@ mod floors;
 mod stable;
 
 pub use checkpoints::Checkpoints;
+
+#[cfg(test)]
+mod tests;

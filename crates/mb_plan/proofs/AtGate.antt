@@ -1,5 +1,5 @@
 -- What a gate says of an entry whose counter is next and whose tag verifies.
-use Rattle.std.proofs.Common.{◌≡◌, ℕ, Bool, true, false, ◌&&◌, not, Option, Some, None, refl, sym, ◌∙◌}
+use Rattle.std.proofs.Common.{◌≡◌, Bool, true, ◌&&◌, not, Some, None, refl, ◌∙◌}
 use Rattle.std.specs.Prelude.{◌==◌, if◌then◌else◌}
 use Rattle.mb_parts.specs.Claims.{Claim}
 use Rattle.mb_parts.specs.Certificates.{inner_valid}

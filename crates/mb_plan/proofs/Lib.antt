@@ -4,3 +4,12 @@ pub mod TestLists
 pub mod Openings
 pub mod TakenEntries
 pub mod AtGate
+pub mod Folds
+pub mod Joins
+pub mod HostLogs
+pub mod Places
+pub mod Consecutive
+pub mod PlanFits
+pub mod TakenLists
+pub mod MemberFaults
+pub mod Verdicts

@@ -1,5 +1,5 @@
 -- The mark of a shown message is the mark of what it says.
-use Rattle.std.proofs.Common.{◌≡◌, true, refl, IsTrue}
+use Rattle.std.proofs.Common.{◌≡◌, true, refl}
 use Rattle.mb_msg.specs.declared.stamped.Shown.{Shown}
 use Rattle.mb_msg.specs.declared.stamped.Shown.TheVariants as shown
 use Rattle.mb_msg.specs.Stamps.{bare_of_shown, mark_of_shown}

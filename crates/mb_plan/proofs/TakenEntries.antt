@@ -1,12 +1,12 @@
 -- A gate that takes the entries of a log one by one finds the log's first fault.
-use Rattle.std.proofs.Common.{◌≡◌, ℕ, zero, suc, ◌+◌, ◌<◌, ◌≤◌, Bool, true, false, ◌&&◌, not, List, [], ◌∷◌, ◌++◌, length, take, drop, slice_get, Option, Some, None, refl, sym, ap, ◌∙◌, inl, inr, add-one, arith}
+use Rattle.std.proofs.Common.{◌≡◌, ℕ, zero, suc, ◌+◌, ◌≤◌, Bool, true, false, ◌&&◌, not, List, [], ◌∷◌, length, take, drop, slice_get, Option, Some, None, refl, sym, ap, ◌∙◌, inl, inr, add-one, arith}
 use Rattle.std.specs.Prelude.{if◌then◌else◌, option_map, nat_lt, nat_le, ◌==◌}
 use Rattle.std.specs.Bool.{then_some}
 use Rattle.std.specs.Option.{option_or}
 use Rattle.std.proofs.lemmas.Bool.{cases_order, eq-eqb, ne_eqb, lt-ltb, le-ltb, le-leb, lt-leb}
 use Rattle.std.proofs.lemmas.List.{drop_all}
 use Rattle.std.specs.List.{list_any}
-use Rattle.std.proofs.lemmas.Option.{none-some, same_Some}
+use Rattle.std.proofs.lemmas.Option.{none-some}
 use Rattle.mb_base.specs.Shapes.{Bytes}
 use Rattle.mb_base.specs.declared.shape.Shape.{Shape}
 use Rattle.mb_parts.specs.declared.floor.Floor.{Floor}
@@ -19,6 +19,7 @@ use Rattle.mb_gate.specs.declared.gate.Gate.{Gate}
 use Rattle.mb_gate.specs.Represents.{Represents}
 use Rattle.mb_gate.specs.SenderLogs.{standing}
 use Rattle.mb_model.specs.UsableLogs.{Fault, entry_claim, bares, newest_first, is_opening_entry, entry_fault, entries_fault}
+use Rattle.mb_plan.proofs.TakenLists.{newest_more, take_one, drop_one}
 use Rattle.mb_plan.specs.Behind.{log_of, taking, is_next, gate_reason, body_reason}
 
 length_bares : (l : List Shown) → length (bares l) ≡ length l
@@ -28,20 +29,6 @@ length_bares (e ∷ l) = ap suc (length_bares l)
 length_newest : (l es : List Shown) → length (newest_first l es) ≡ length l + length es
 length_newest l [] = omega arith
 length_newest l (e ∷ es) = omega (arith, length_newest (e ∷ l) es)
-
-newest_more : (l es : List Shown) (e : Shown) → newest_first l (es ++ e ∷ []) ≡ e ∷ newest_first l es
-newest_more l [] e = refl
-newest_more l (x ∷ es) e = newest_more (x ∷ l) es e
-
-take_one : {A : Type 0} (l : List A) (i : ℕ) (x : A) → slice_get l i ≡ Some x → take (suc i) l ≡ take i l ++ x ∷ []
-take_one [] i x at = absurd (none-some x at)
-take_one (y ∷ l) zero x at = ap (λ z. z ∷ []) (same_Some y x at)
-take_one (y ∷ l) (suc i) x at = ap (λ t. y ∷ t) (take_one l i x at)
-
-drop_one : {A : Type 0} (l : List A) (i : ℕ) (x : A) → slice_get l i ≡ Some x → drop i l ≡ x ∷ drop (suc i) l
-drop_one [] i x at = absurd (none-some x at)
-drop_one (y ∷ l) zero x at = ap (λ z. z ∷ l) (same_Some y x at)
-drop_one (y ∷ l) (suc i) x at = drop_one l i x at
 
 length_taken : {A : Type 0} (l : List A) (i : ℕ) (x : A) → slice_get l i ≡ Some x → length (take i l) ≡ i
 length_taken [] i x at = absurd (none-some x at)

@@ -1,5 +1,5 @@
 -- What is answered where something has a first fault, or none.
-use Rattle.std.specs.Prelude.{◌≡◌, ℕ, Option, Some, None, Result, Ok, Err}
+use Rattle.std.specs.Prelude.{◌≡◌, Option, Some, None, Result, Ok, Err}
 use Rattle.mb_model.specs.UsableLogs.{Fault}
 use Rattle.mb_plan.specs.declared.shown.BadProof.{BadProof}
 use Rattle.mb_plan.specs.declared.shown.BadProof.TheVariants.{At, NoMemory}

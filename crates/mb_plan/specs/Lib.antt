@@ -1,2 +1,5 @@
 pub mod Faults
 pub mod Behind
+pub mod Lent
+pub mod Planned
+pub mod NewViews

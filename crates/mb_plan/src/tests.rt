@@ -1,8 +1,9 @@
-use crate::{BadProof, usable};
+use crate::{BadProof, NewViewFault, PlanFault, check_new_view, plan_of, usable};
 use mb_base::{Counter, Digest, Host, Items, Key, NoMemory, Pos, Shape, Ui, View};
 use mb_msg::{
-    BareViewChange, Batch, Body, ChangeBody, Commit, Enter, Evidence, EvidenceMember, Message,
-    Open, OpenBody, Prepare, Request, Shown, StableCert, ViewChange, fields_fit,
+    BareViewChange, Batch, Body, ChangeBody, Commit, Enter, Evidence, EvidenceMember, Join,
+    Message, NewView, NewViewBody, Open, OpenBody, Prepare, Request, Shown, StableCert,
+    StableMember, ViewChange, fields_fit,
 };
 use mb_usig::Usig;
 use std::alloc::{AllocError, Global};
@@ -254,5 +255,94 @@ fn logs_are_usable_or_have_a_first_fault(rt: HostRuntime) -> Result<(), Fail> {
     }
     let five = Shape::new(2, 4, 2)?;
     assert!(rt; found(alloc, five, 3, 5, 3, invented(alloc)?) == at(1, 5));
+    Ok(())
+}
+
+/// h1 shows its COMMIT, h2 nothing, and both leave for view 1.
+fn both_leave(alloc: Global, last: &Digest) -> Result<Items<ViewChange>, Fail> {
+    let mut changes = Items::new(alloc);
+    let first = only(alloc, commit_of_1(alloc, 1, PREPARE, COMMIT)?)?;
+    for (host, counter, cert, entries) in [
+        (1, 2, CHANGE_1, first),
+        (2, 1, last, Items::new(alloc)),
+    ] {
+        changes.push(ViewChange {
+            view: 1,
+            body: Body::Whole(ChangeBody {
+                floor: None,
+                stable: at_zero(alloc),
+                entries,
+            }),
+            ui: ui(host, counter, cert),
+        })?;
+    }
+    Ok(changes)
+}
+
+/// What h1's NEW_VIEW of two VIEW_CHANGEs is found to be, told by its plan's end; None where a field has no allowed value.
+fn followed(
+    alloc: Global,
+    shape: Shape,
+    view: View,
+    end: Pos,
+    changes: Items<ViewChange>,
+) -> Option<Result<(Pos, usize), NewViewFault>> {
+    let message = Message::NewView(NewView {
+        view,
+        base: 0,
+        end,
+        plan: *PLAN,
+        body: Body::Whole(NewViewBody { changes }),
+        ui: ui(1, 3, NEW_VIEW),
+    });
+    if !fields_fit(&shape, &message) {
+        return None;
+    }
+    let Message::NewView(new_view) = &message else {
+        return None;
+    };
+    let usig = Usig::new(shape, 0, &SECRET);
+    match check_new_view(alloc, &shape, &usig, new_view) {
+        Ok(plan) => Some(Ok((plan.base.pos, plan.batches.len()))),
+        Err(fault) => Some(Err(fault)),
+    }
+}
+
+#[test]
+fn new_views_follow_or_have_a_first_fault(rt: HostRuntime) -> Result<(), Fail> {
+    let alloc = rt.alloc();
+    let three = Shape::new(1, 4, 2)?;
+    let none: [ViewChange; 0] = [];
+    assert!(rt; plan_of(alloc, &three, &none) == Err(PlanFault::Few));
+    let rows: [(
+        View,
+        Pos,
+        &Digest,
+        Option<Result<(Pos, usize), NewViewFault>>,
+    ); 4] = [
+        (1, 1, CHANGE_2, Some(Ok((0, 1)))),
+        (1, 2, CHANGE_2, Some(Err(NewViewFault::OtherPlan))),
+        (
+            2,
+            1,
+            CHANGE_2,
+            Some(Err(NewViewFault::Unusable {
+                index: 0,
+                reason: 10,
+            })),
+        ),
+        (
+            1,
+            1,
+            CHANGE_1,
+            Some(Err(NewViewFault::Unusable {
+                index: 1,
+                reason: 10,
+            })),
+        ),
+    ];
+    for (view, end, last, answer) in rows {
+        assert!(rt; followed(alloc, three, view, end, both_leave(alloc, last)?) == answer);
+    }
     Ok(())
 }

@@ -1,11 +1,11 @@
-use Rattle.std.proofs.Common.{◌≡◌, ◌∙◌, ◌+◌, ℕ, suc, Bool, not, Some, None, slice_get, length, take, drop, refl, sym, ap, subst, add-one, arith}
+use Rattle.std.proofs.Common.{◌≡◌, ◌∙◌, suc, Bool, Some, None, slice_get, drop, refl, sym, ap, subst, add-one, arith}
 use Rattle.std.specs.Prelude.{nat_lt, nat_le}
 use Rattle.std.specs.List.{list_any}
 use Rattle.std.proofs.lemmas.Option.{slice_get-get_or}
 use Rattle.mb_parts.specs.Claims.{Claim}
 use Rattle.mb_model.specs.Verified.{verifies}
 use Rattle.mb_model.specs.UsableLogs.{is_opening_entry}
-use Rattle.mb_plan.specs.Behind.{log_of, gate_reason, body_reason}
+use Rattle.mb_plan.specs.Behind.{log_of, gate_reason}
 use Rattle.mb_plan.proofs.TakenEntries.{before, is_last, fails_at_gate, fails_by_body, stands_next, not_before, ends_with}
 use Rattle.mb_plan.proofs.shown.take_entries.Goals as goal
 

@@ -1,4 +1,3 @@
-use Rattle.std.proofs.Common.{[]}
 use Rattle.mb_parts.specs.declared.floor.Floor.{Floor}
 use Rattle.mb_gate.specs.Represents.{Represents}
 use Rattle.mb_gate.specs.SenderLogs.{log_from}

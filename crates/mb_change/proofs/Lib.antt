@@ -1,0 +1,5 @@
+pub mod Standing
+pub mod Same
+pub mod Answering
+pub mod Agreeing
+pub mod Following

@@ -1,0 +1,102 @@
+//! A plan with what was hashed of it.
+
+use mb_base::{Digest, Pos, View};
+use mb_msg::{Batch, Plan};
+use std::marker::Model;
+
+/// The most batches of a plan: two of the longest intervals.
+const MAX_BATCHES: usize = 64;
+
+/// A plan that is held, with its view. Its digest and those of its batches are hashed once, as it comes.
+#[derive(Drop)]
+pub struct HeldPlan {
+    view: View,
+    plan: Plan,
+    digest: Digest,
+    batches: [Digest; MAX_BATCHES],
+}
+
+impl Model for HeldPlan {
+    ghost use Rattle.std.specs.Prelude.{ℕ};
+    ghost use Rattle.mb_msg.specs.declared.change.Plan.{Plan};
+
+    ghost Value = { ℕ × Plan };
+
+    ghost use Rattle.mb_change.specs.Inside.{plan_seen, IsPlan};
+
+    ghost view = { plan_seen };
+
+    ghost invariant = { IsPlan };
+}
+
+impl HeldPlan {
+    ghost use Rattle.std.specs.Prelude.{◌≡◌, map};
+    ghost use Rattle.mb_parts.specs.Bares.{batch_digest};
+    ghost use Rattle.mb_msg.specs.Plans.{CanHash, plan_digest};
+    ghost use Rattle.mb_model.specs.Plans.{are_of_plan};
+
+    /// Each batch of the plan has 1 to 16 requests, each with an operation of at most 1,024 bytes, and there are at most 64 batches.
+    pub(crate) fn of(view: View, plan: Plan) -> HeldPlan
+        requires { CanHash plan }
+        ensures { result ≡ (view, plan) }
+    {
+        HeldPlan {
+            view,
+            digest: plan.digest(),
+            batches: digests_of(plan.batches.as_slice()),
+            plan,
+        }
+    }
+
+    /// The view that carries the plan on.
+    pub fn view(&self) -> View
+        ensures { result ≡ self.now.0 }
+    {
+        self.view
+    }
+
+    pub fn plan(&self) -> &Plan
+        ensures plan { result.now ≡ self.now.1 }
+        ensures hashed { CanHash result.now }
+    {
+        &self.plan
+    }
+
+    /// The digest of the plan.
+    pub fn digest(&self) -> Digest
+        ensures { result ≡ plan_digest self.now.1 }
+    {
+        self.digest
+    }
+
+    /// The digests of the batches, in order.
+    pub fn batches(&self) -> &[Digest]
+        ensures { result.now ≡ map batch_digest self.now.1.batches }
+    {
+        &self.batches[..self.plan.batches.len()]
+    }
+
+    /// Whether base, end and digest are those of the plan.
+    pub fn is_described(&self, base: Pos, end: Pos, digest: &Digest) -> bool
+        ensures { result ≡ are_of_plan base end digest.now self.now.1 }
+    {
+        base == self.plan.base.pos && end == self.plan.end() && *digest == self.digest
+    }
+}
+
+ghost use Rattle.std.specs.Prelude.{◌≡◌, ◌≤◌, length, map, take};
+ghost use Rattle.std.specs.List.{AllByRecursion};
+ghost use Rattle.mb_parts.specs.Bares.{batch_digest};
+ghost use Rattle.mb_parts.specs.Fits.{CanDigest};
+
+fn digests_of(batches: &[Batch]) -> [Digest; MAX_BATCHES]
+    requires few { length batches.now ≤ 64 }
+    requires hashed { AllByRecursion CanDigest batches.now }
+    ensures { take (length batches.now) result ≡ map batch_digest batches.now }
+{
+    let mut digests = [[0; 32]; MAX_BATCHES];
+    for index in 0..batches.len() {
+        digests[index] = batches[index].digest();
+    }
+    digests
+}

@@ -1,0 +1,13 @@
+pub mod Places
+pub mod Certified
+pub mod Taking
+pub mod Whole
+pub mod WrongParts
+pub mod Hashing
+pub mod ByKey
+pub mod Holding
+pub mod Counting
+pub mod Snapshots
+pub mod Shelving
+pub mod Reading
+pub mod Histories

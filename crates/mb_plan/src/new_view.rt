@@ -1,0 +1,164 @@
+//! Whether a NEW_VIEW follows from its members.
+
+ghost use Rattle.std.specs.Prelude.{◌≡◌, ◌<◌, length, IfOk};
+ghost use Rattle.std.specs.List.{AllByRecursion};
+ghost use Rattle.mb_msg.specs.Fits.{FitsViewChange, FitsMember, FitsNewViewBody, FitsNewView};
+ghost use Rattle.mb_msg.specs.Plans.{CanHash};
+ghost use Rattle.mb_model.specs.KindChecks.{is_member, member_fault, members_fault, announces};
+ghost use Rattle.mb_plan.specs.NewViews.{checker, AnswersMembers, Announced, OfMembers, FollowsFrom, Follows};
+
+use crate::planning::{PlanFault, plan_of};
+use crate::shown::{BadProof, usable};
+use mb_base::{NoMemory, Shape, View};
+use mb_msg::{Body, NewView, NewViewBody, Plan, ViewChange};
+use mb_usig::Usig;
+use std::alloc::Global;
+
+/// Why a NEW_VIEW is not one.
+#[derive(Clone, Copy, Debug, PartialEq, Eq)]
+pub enum NewViewFault {
+    /// It shows no f+1 VIEW_CHANGEs of different hosts.
+    Few,
+    /// The index of the first member that fails, and the first reason that fails for it.
+    Unusable { index: u8, reason: u8 },
+    /// Base, end or digest differ from those of the members' plan.
+    OtherPlan,
+    NoMemory,
+}
+
+impl From<NoMemory> for NewViewFault {
+    ghost use Rattle.std.specs.Prelude.{◌≡◌};
+    ghost use Rattle.mb_plan.specs.declared.new_view.NewViewFault.TheVariants as variants;
+
+    ghost from_gives = { λ _ proof. proof ≡ variants.NoMemory };
+
+    fn from(_e: NoMemory) -> NewViewFault {
+        NewViewFault::NoMemory
+    }
+}
+
+/// The reason of a member that is none: it is of another view, or its tag does not verify.
+const NO_MEMBER: u8 = 10;
+
+/// Whether a member is of the NEW_VIEW's view, and its tag verifies.
+fn is_member(
+    alloc: Global,
+    shape: &Shape,
+    usig: &Usig,
+    view: View,
+    member: &ViewChange,
+) -> Result<bool, NoMemory>
+    requires { FitsViewChange shape.now member.now }
+    ensures { IfOk result (λ is. is ≡ is_member (checker shape.now usig.now.secret) view member.now) }
+{
+    let bare = member.bare(alloc, shape)?;
+    Ok(member.view == view && usig.verify_ui(bare.as_slice(), &member.ui))
+}
+
+/// The reason that fails for a member: 10 where it is none.
+fn member_fault(
+    alloc: Global,
+    shape: &Shape,
+    usig: &Usig,
+    view: View,
+    member: &ViewChange,
+) -> Result<Option<u8>, NoMemory>
+    requires { (usig.now.shape ≡ shape.now) × FitsViewChange shape.now member.now }
+    ensures { IfOk result (λ reason. reason ≡ member_fault (checker shape.now usig.now.secret) view member.now) }
+{
+    if !is_member(alloc, shape, usig, view, member)? {
+        return Ok(Some(NO_MEMBER));
+    }
+    match usable(alloc, shape, usig, member) {
+        Ok(()) => Ok(None),
+        Err(BadProof::At { reason, .. }) => Ok(Some(reason)),
+        Err(BadProof::NoMemory) => Err(NoMemory),
+    }
+}
+
+/// Looks at all members, up to the first that fails.
+fn check_members(
+    alloc: Global,
+    shape: &Shape,
+    usig: &Usig,
+    view: View,
+    members: &[ViewChange],
+) -> Result<(), NewViewFault>
+    requires { (usig.now.shape ≡ shape.now) × AllByRecursion (FitsMember shape.now) members.now × (length members.now < 255) }
+    ensures { AnswersMembers (members_fault (checker shape.now usig.now.secret) view 0 members.now) result }
+{
+    for index in 0..members.len() {
+        if let Some(reason) = member_fault(alloc, shape, usig, view, &members[index])? {
+            let index = index as u8;
+            return Err(NewViewFault::Unusable { index, reason });
+        }
+    }
+    Ok(())
+}
+
+/// The plan, where it is the one that the NEW_VIEW announces.
+fn announced(new_view: &NewView, plan: Plan) -> Result<Plan, NewViewFault>
+    requires { CanHash plan }
+    ensures { Announced new_view.now plan result }
+{
+    let is_announced = new_view.base == plan.base.pos
+        && new_view.end == plan.end()
+        && new_view.plan == plan.digest();
+    if is_announced {
+        Ok(plan)
+    } else {
+        Err(NewViewFault::OtherPlan)
+    }
+}
+
+/// The plan of members of which none fails.
+fn plan_of_members(
+    alloc: Global,
+    shape: &Shape,
+    members: &[ViewChange],
+) -> Result<Plan, NewViewFault>
+    requires { AllByRecursion (FitsMember shape.now) members.now }
+    ensures { OfMembers shape.now members.now result }
+{
+    match plan_of(alloc, shape, members) {
+        Ok(plan) => Ok(plan),
+        Err(PlanFault::Few) => Err(NewViewFault::Few),
+        Err(PlanFault::NoMemory) => Err(NewViewFault::NoMemory),
+    }
+}
+
+/// The same where the body is whole.
+fn check_body(
+    alloc: Global,
+    shape: &Shape,
+    usig: &Usig,
+    new_view: &NewView,
+    body: &NewViewBody,
+) -> Result<Plan, NewViewFault>
+    requires { (usig.now.shape ≡ shape.now) × FitsNewViewBody shape.now body.now }
+    ensures { FollowsFrom shape.now usig.now.secret new_view.now body.now result }
+{
+    let members = body.changes.as_slice();
+    check_members(alloc, shape, usig, new_view.view, members)?;
+    let plan = plan_of_members(alloc, shape, members)?;
+    announced(new_view, plan)
+}
+
+/// The plan of a NEW_VIEW's members, where each is usable and it is the one that the NEW_VIEW announces; else the first member that fails and the
+/// first reason that fails for it, which is 10 for one of another view or with a wrong tag; else that the NEW_VIEW announces another plan. `Few`
+/// tells that its body came as its digest. The shape is that of the trusted part, and each field has an allowed value, so a body that came
+/// whole has f+1 members of different hosts. `NoMemory` tells that memory ran out, and nothing of the NEW_VIEW.
+pub fn check_new_view(
+    alloc: Global,
+    shape: &Shape,
+    usig: &Usig,
+    new_view: &NewView,
+) -> Result<Plan, NewViewFault>
+    requires { (usig.now.shape ≡ shape.now) × FitsNewView shape.now new_view.now }
+    ensures { Follows shape.now usig.now.secret new_view.now new_view.now.body result }
+{
+    match &new_view.body {
+        Body::Whole(body) => check_body(alloc, shape, usig, new_view, body),
+        Body::Bare(_) => Err(NewViewFault::Few),
+    }
+}
