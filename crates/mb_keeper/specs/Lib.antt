@@ -1,0 +1,4 @@
+pub mod Keeping
+pub mod Sent
+pub mod Taking
+pub mod Represents

@@ -1,0 +1,85 @@
+use super::*;
+use mb_base::{Digest, Items, Pos, Shape};
+use mb_kv::Kv;
+use mb_msg::StateMsg;
+use sha2::{Digest as _, Sha256};
+use std::alloc::Global;
+use std::process::Abort;
+use std::test::Fail;
+
+fn bytes(alloc: Global, all: &[u8]) -> Result<Items<u8>, Fail> {
+    Ok(Items::from_vec(Vec::from_slice(alloc, all)?))
+}
+
+/// 65 parts: the first has these bytes, each other of the service no pair, and the last is a table of one client that ends with this byte.
+fn parts(alloc: Global, first: &[u8], last: u8) -> Result<Items<Items<u8>>, Fail> {
+    let mut all = Items::new(alloc);
+    all.push(bytes(alloc, first)?)?;
+    for _ in 1..64 {
+        all.push(bytes(alloc, &[0, 0])?)?;
+    }
+    let mut table = [0; 18];
+    table[17] = last;
+    all.push(bytes(alloc, table.as_slice())?)?;
+    Ok(all)
+}
+
+/// A STATE of position 4 with all of these parts, and the state digest.
+fn state(alloc: Global, parts: Items<Items<u8>>) -> Result<(Digest, StateMsg), Fail> {
+    let mut digests = Items::new(alloc);
+    let mut hasher = Sha256::new();
+    for part in parts.as_slice() {
+        let digest = Sha256::digest(part.as_slice());
+        hasher.update(digest);
+        digests.push(digest)?;
+    }
+    let pos: Pos = 4;
+    hasher.update(pos.to_be_bytes());
+    let message = StateMsg {
+        host: 1,
+        pos,
+        digests,
+        first: 0,
+        parts,
+    };
+    Ok((hasher.finalize(), message))
+}
+
+/// What a keeper that holds no part makes of such a STATE.
+fn taken(rt: &impl Abort, alloc: Global, first: &[u8], last: u8) -> Result<Fetched, Fail> {
+    let shape = Shape::new(1, 4, 1)?;
+    let mut keeper = Keeper::make(alloc, shape, Kv::new(alloc))?;
+    let (certified, m) = state(alloc, parts(alloc, first, last)?)?;
+    assert!(rt; m.digests.len() == 65 && m.parts.len() > 0 && m.parts.len() <= 65);
+    assert!(rt; usize::from(m.first) + m.parts.len() <= 65);
+    Ok(keeper.take_state(alloc, &certified, &m)?)
+}
+
+#[test]
+fn parts_are_a_state_or_have_a_fault(rt: HostRuntime) -> Result<(), Fail> {
+    let rows: [(&[u8], u8, Fetched); 3] = [
+        (&[], 0, Fetched::BadState { part: 0, at: 0 }),
+        (&[], 1, Fetched::BadState { part: 64, at: 16 }),
+        (&[0, 0], 0, Fetched::State),
+    ];
+    for (first, last, fetched) in rows {
+        assert!(rt; taken(&rt, rt.alloc(), first, last)? == fetched);
+    }
+    Ok(())
+}
+
+#[test]
+fn the_state_of_another_is_installed(rt: HostRuntime) -> Result<(), Fail> {
+    let alloc = rt.alloc();
+    let shape = Shape::new(1, 4, 1)?;
+    let mut other = Keeper::make(alloc, shape, Kv::new(alloc))?;
+    other.keep_snapshot(alloc, 4)?;
+    let m = other.state_message(alloc, 1, 4, 0)?;
+    let certified = other.digest(alloc, 4)?;
+    let mut keeper = Keeper::make(alloc, shape, Kv::new(alloc))?;
+    assert!(rt; m.digests.len() == 65 && m.parts.len() > 0 && m.parts.len() <= 65);
+    assert!(rt; usize::from(m.first) + m.parts.len() <= 65);
+    assert!(rt; keeper.take_state(alloc, &certified, &m)? == Fetched::State);
+    assert!(rt; keeper.missing() == Some(0));
+    Ok(())
+}
