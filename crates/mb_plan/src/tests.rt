@@ -1,9 +1,11 @@
-use crate::{BadProof, NewViewFault, PlanFault, check_new_view, plan_of, usable};
+ghost use Rattle.mb_msg.specs.Fits.{FitsNewView, FitsNewViewBody};
+
+use crate::{BadProof, NewViewFault, Plan, PlanFault, check_new_view, plan_of, usable};
 use mb_base::{Counter, Digest, Host, Items, Key, NoMemory, Pos, Shape, Ui, View};
 use mb_msg::{
-    BareViewChange, Batch, Body, ChangeBody, Commit, Enter, Evidence, EvidenceMember, Join,
-    Message, NewView, NewViewBody, Open, OpenBody, Prepare, Request, Shown, StableCert,
-    StableMember, ViewChange, fields_fit,
+    BareCheckpoint, BareViewChange, Batch, Body, ChangeBody, Commit, Enter, Evidence,
+    EvidenceMember, Join, Message, NewView, NewViewBody, Open, OpenBody, Prepare, Request, Shown,
+    StableCert, StableMember, ViewChange, fields_fit,
 };
 use mb_usig::Usig;
 use std::alloc::{AllocError, Global};
@@ -14,8 +16,9 @@ const SECRET: Key = [0; 32];
 
 // What follows was made with Python's hmac and hashlib, under a secret of 32 zero bytes: the tags of PUT a = 1 of client 0 and of GET a of client
 // 1, the certificates of the PREPARE and the COMMIT of a batch of both at position 1, and those of a view change: h1 and h2 leave for view 1, h1
-// sends NEW_VIEW, h2 answers and opens the view. The last four are those of h3's VIEW_CHANGE to view 3, of its PREPARE there, of h1's COMMIT at
-// counter 12, and of its COMMIT of a PREPARE whose certificate is 32 zero bytes.
+// sends NEW_VIEW, h2 answers and opens the view. The next four are those of h3's VIEW_CHANGE to view 3, of its PREPARE there, of h1's COMMIT at
+// counter 12, and of its COMMIT of a PREPARE whose certificate is 32 zero bytes. The last three are the digest of the batch, and the certificates of
+// PREPARE and COMMIT where the tag of GET a is 32 zero bytes.
 
 const PUT_TAG: &Digest =
     b"\xd2\x24\xd1\x88\x48\xa0\xe1\x21\xed\xcd\xd7\xd7\x32\x4c\xb2\xe3\xd8\x65\x0e\x93\x68\xef\xe6\x9d\x21\x4a\xda\xd8\xc1\xcd\xa3\xab";
@@ -65,6 +68,15 @@ const LATE_COMMIT: &Digest =
 const BASELESS_COMMIT: &Digest =
     b"\x6f\xa0\xde\x9d\xfd\xc2\x9b\xa4\x75\xcf\x17\x7b\xbd\x4a\x5c\x82\x2a\x8d\x19\xea\x40\x16\x09\x79\x91\xb3\x69\x77\xa4\xb3\x6c\xf9";
 
+const ASKED: &Digest =
+    b"\x1b\x8f\xfe\xb3\xd0\x7e\xfc\xfc\xf1\x21\xbe\x5f\x9d\x36\xff\x35\xee\xa9\x9f\xae\xcd\xe2\xdc\x79\x23\x70\x99\xaf\xce\xb0\x26\xe0";
+
+const UNTAGGED_PREPARE: &Digest =
+    b"\x2d\xe9\xc5\xaf\xef\x98\xa1\x38\xb1\x1d\x43\xbb\x43\x3e\x48\x7f\x4e\x31\xc2\xaa\x32\x90\xb4\xd4\x5b\x9e\x4e\x86\xfd\xd3\x34\xab";
+
+const UNTAGGED_COMMIT: &Digest =
+    b"\x5a\x8f\xc0\x07\x77\x26\x27\x8e\xbc\x0a\xd4\x30\xad\x61\x15\x7f\x19\x4b\x2e\xdb\x9a\x23\x32\x4b\xcd\xd8\x9f\xa9\x8c\x38\xd1\x34";
+
 fn ui(host: Host, counter: Counter, cert: &Digest) -> Ui {
     Ui {
         host,
@@ -73,8 +85,8 @@ fn ui(host: Host, counter: Counter, cert: &Digest) -> Ui {
     }
 }
 
-/// PUT a = 1 of client 0, and GET a of client 1.
-fn asked(alloc: Global) -> Result<Batch, Fail> {
+/// PUT a = 1 of client 0, and GET a of client 1 with this tag.
+fn asked_with(alloc: Global, get_tag: &Digest) -> Result<Batch, Fail> {
     let put = Request {
         client: 0,
         seq: 1,
@@ -85,12 +97,16 @@ fn asked(alloc: Global) -> Result<Batch, Fail> {
         client: 1,
         seq: 1,
         op: Items::from_vec(vec![in alloc; 2, 1, 97]?),
-        tag: *GET_TAG,
+        tag: *get_tag,
     };
     let mut requests = Items::new(alloc);
     requests.push(put)?;
     requests.push(get)?;
     Ok(Batch { requests })
+}
+
+fn asked(alloc: Global) -> Result<Batch, Fail> {
+    asked_with(alloc, GET_TAG)
 }
 
 /// Nothing is stable yet.
@@ -188,6 +204,32 @@ fn only(alloc: Global, entry: Shown) -> Result<Items<Shown>, Fail> {
     Ok(entries)
 }
 
+/// h1's COMMIT of a batch at position 1, as its digest or whole, at counter 1.
+fn commit_with(body: Body<Batch>, prepare: &Digest, cert: &Digest) -> Shown {
+    Shown::Commit(Commit {
+        view: 0,
+        pos: 1,
+        counter: 1,
+        cert: *prepare,
+        body,
+        ui: ui(1, 1, cert),
+    })
+}
+
+/// So many CHECKPOINTs, at no right counter.
+fn checkpoints(alloc: Global, count: u8) -> Result<Items<Shown>, Fail> {
+    let mut entries = Items::new(alloc);
+    for _ in 0..count {
+        entries.push(Shown::Checkpoint(BareCheckpoint {
+            pos: 1,
+            state: [0; 32],
+            body: [0; 32],
+            ui: ui(0, 5, &[0; 32]),
+        }))?;
+    }
+    Ok(entries)
+}
+
 /// What a VIEW_CHANGE from its host's start is found to be; None where a field has no allowed value.
 fn found(
     alloc: Global,
@@ -255,6 +297,21 @@ fn logs_are_usable_or_have_a_first_fault(rt: HostRuntime) -> Result<(), Fail> {
     }
     let five = Shape::new(2, 4, 2)?;
     assert!(rt; found(alloc, five, 3, 5, 3, invented(alloc)?) == at(1, 5));
+    Ok(())
+}
+
+#[test]
+fn logs_have_whole_votes_right_tags_and_an_end(rt: HostRuntime) -> Result<(), Fail> {
+    let alloc = rt.alloc();
+    let three = Shape::new(1, 4, 2)?;
+    let short = only(alloc, commit_with(Body::Bare(*ASKED), PREPARE, COMMIT))?;
+    assert!(rt; found(alloc, three, 1, 1, 2, short) == at(0, 6));
+    let batch = Body::Whole(asked_with(alloc, &[0; 32])?);
+    let untagged = only(alloc, commit_with(batch, UNTAGGED_PREPARE, UNTAGGED_COMMIT))?;
+    assert!(rt; found(alloc, three, 1, 1, 2, untagged) == at(0, 8));
+    for (count, reason) in [(25, 9), (24, 3)] {
+        assert!(rt; found(alloc, three, 0, 1, 2, checkpoints(alloc, count)?) == at(0, reason));
+    }
     Ok(())
 }
 
@@ -343,6 +400,258 @@ fn new_views_follow_or_have_a_first_fault(rt: HostRuntime) -> Result<(), Fail> {
     ];
     for (view, end, last, answer) in rows {
         assert!(rt; followed(alloc, three, view, end, both_leave(alloc, last)?) == answer);
+    }
+    Ok(())
+}
+
+// Small logs and plans, as texts of digits. A certificate is its position and the first byte of its state digest. A log is its host, its stable
+// certificate and up to four entries: P and C vote with the primary's counter for a position, for the request of a number; O opens view 1 with a
+// base, whose first byte is half its position, up to an end, with requests from a number on; J joins a view with a certificate. A plan is its base,
+// and the numbers of the requests behind it.
+
+/// The two logs, from bytes 0 and 25, and the plan that they leave, from byte 50. The plans were worked out by hand from the rules.
+const PLANS: [&str; 17] = [
+    // the lowest counter
+    "0 00 C819 C929           1 00 C517 C628           0078",
+    "0 00 C517 C929           1 00 C819 C628           0078",
+    // a PREPARE votes with its own counter
+    "0 00 P517 P628           1 00 C517                0078",
+    "0 00 P819                1 00 C517                007",
+    "0 00 P517                1 00 C819                007",
+    // an OPEN votes with its NEW_VIEW's
+    "0 00 O024                2 00 O001 C416 C526 C636 00456",
+    // up to a gap
+    "0 00 C517                1 00 C739                007",
+    // the base of an opening
+    "0 00 O465                2 00                     4256",
+    // that of a JOIN, which votes for nothing
+    "0 00 J142 C658           2 00 O014                428",
+    // an opening of a lower view
+    "0 00 J082 C698           2 00 O014                004",
+    // a stable certificate, also of a log of a lower view
+    "0 43 C517                2 00 O051                435",
+    // of equal certificates a stable one, and of those the first
+    "1 48                     2 49                     48",
+    "0 00 J147                1 48                     48",
+    // of two openings that of the lowest host
+    "0 00 O455                2 00 J143                425",
+    "0 00 J143                2 00 O455                435",
+    // votes before the last opening
+    "0 00 C517 O001           1 00 C517                00",
+    // the highest opened view, and not the longest log
+    "0 00 C517 C628 C739      2 00 O014                004",
+];
+
+fn digit(text: &[u8], index: usize) -> u8 {
+    match text.get(index) {
+        Some(byte) => byte.saturating_sub(b'0'),
+        None => 0,
+    }
+}
+
+fn asks(alloc: Global, seq: u8) -> Result<Batch, Fail> {
+    let request = Request {
+        client: 0,
+        seq: u64::from(seq),
+        op: Items::new(alloc),
+        tag: [0; 32],
+    };
+    let mut requests = Items::new(alloc);
+    requests.push(request)?;
+    Ok(Batch { requests })
+}
+
+fn stable(alloc: Global, pos: u8, first: u8) -> Result<StableCert, Fail> {
+    let mut state = [0; 32];
+    state[0] = first;
+    let mut members = Items::new(alloc);
+    if pos > 0 {
+        for host in 0..2 {
+            members.push(StableMember {
+                host,
+                counter: 1,
+                floors: [0; 32],
+                cert: [0; 32],
+            })?;
+        }
+    }
+    Ok(StableCert {
+        pos: u64::from(pos),
+        state,
+        members,
+    })
+}
+
+fn vote(alloc: Global, told: &[u8]) -> Result<Shown, Fail> {
+    let (counter, pos) = (u64::from(digit(told, 1)), u64::from(digit(told, 2)));
+    let body = Body::Whole(asks(alloc, digit(told, 3))?);
+    if told.starts_with(b"P") {
+        let ui = ui(0, counter, PREPARE);
+        return Ok(Shown::Prepare(Prepare {
+            view: 0,
+            pos,
+            body,
+            ui,
+        }));
+    }
+    Ok(Shown::Commit(Commit {
+        view: 0,
+        pos,
+        counter,
+        cert: *PREPARE,
+        body,
+        ui: ui(1, 1, COMMIT),
+    }))
+}
+
+fn opening(alloc: Global, base: u8, end: u8, first: u8) -> Result<Shown, Fail> {
+    let mut batches = Items::new(alloc);
+    for pos in base..end {
+        batches.push(asks(alloc, first.saturating_add(pos - base))?)?;
+    }
+    let mut shown = evidence(alloc)?;
+    shown.base = u64::from(base);
+    shown.end = u64::from(end);
+    Ok(Shown::Open(Open {
+        evidence: shown,
+        body: Body::Whole(OpenBody {
+            stable: stable(alloc, base, base / 2)?,
+            batches,
+        }),
+        ui: ui(2, 3, OPEN),
+    }))
+}
+
+fn joining(alloc: Global, view: u8, pos: u8, first: u8) -> Result<Shown, Fail> {
+    let mut shown = None;
+    if view > 0 {
+        shown = Some(evidence(alloc)?);
+    }
+    Ok(Shown::Join(Join {
+        view: u64::from(view),
+        evidence: shown,
+        stable: stable(alloc, pos, first)?,
+        ui: ui(2, 3, OPEN),
+    }))
+}
+
+fn shown_entry(alloc: Global, told: &[u8]) -> Result<Shown, Fail> {
+    if told.starts_with(b"O") {
+        return opening(alloc, digit(told, 1), digit(told, 2), digit(told, 3));
+    }
+    if told.starts_with(b"J") {
+        return joining(alloc, digit(told, 1), digit(told, 2), digit(told, 3));
+    }
+    vote(alloc, told)
+}
+
+fn change(alloc: Global, told: &[u8]) -> Result<ViewChange, Fail> {
+    let mut entries = Items::new(alloc);
+    for index in 1..5 {
+        let entry = part(told, 5 * index);
+        if !entry.is_empty() && !entry.starts_with(b" ") {
+            entries.push(shown_entry(alloc, entry)?)?;
+        }
+    }
+    Ok(ViewChange {
+        view: 2,
+        body: Body::Whole(ChangeBody {
+            floor: None,
+            stable: stable(alloc, digit(told, 2), digit(told, 3))?,
+            entries,
+        }),
+        ui: ui(digit(told, 0), 9, CHANGE_1),
+    })
+}
+
+/// Whether batches are of one request each, of these numbers.
+fn are_numbered(batches: &[Batch], numbers: &[u8]) -> bool {
+    if batches.len() != numbers.len() {
+        return false;
+    }
+    for index in 0..batches.len() {
+        match batches[index].requests.as_slice() {
+            [request] if request.seq == u64::from(digit(numbers, index)) => {}
+            _ => return false,
+        }
+    }
+    true
+}
+
+/// At most 25 bytes of a row.
+fn part(row: &[u8], from: usize) -> &[u8] {
+    let behind: &[u8] = match row.get(from..) {
+        Some(behind) => behind,
+        None => &[],
+    };
+    match behind.get(..25) {
+        Some(first) => first,
+        None => behind,
+    }
+}
+
+fn is_told(plan: &Plan, told: &[u8]) -> bool {
+    let is_base = plan.base.pos == u64::from(digit(told, 0))
+        && plan.base.state[0] == digit(told, 1);
+    is_base && are_numbered(plan.batches.as_slice(), part(told, 2))
+}
+
+/// A NEW_VIEW of the two logs of a row.
+fn announcing(alloc: Global, row: &[u8]) -> Result<Message, Fail> {
+    let mut changes = Items::new(alloc);
+    changes.push(change(alloc, part(row, 0))?)?;
+    changes.push(change(alloc, part(row, 25))?)?;
+    Ok(Message::NewView(NewView {
+        view: 2,
+        base: 0,
+        end: 0,
+        plan: *PLAN,
+        body: Body::Whole(NewViewBody { changes }),
+        ui: ui(2, 3, NEW_VIEW),
+    }))
+}
+
+fn plan_of_body(alloc: Global, shape: &Shape, body: &NewViewBody) -> Result<Plan, PlanFault>
+    requires { FitsNewViewBody shape.now body.now }
+{
+    plan_of(alloc, shape, body.changes.as_slice())
+}
+
+fn plan_of_new_view(alloc: Global, shape: &Shape, new_view: &NewView) -> Result<Plan, PlanFault>
+    requires { FitsNewView shape.now new_view.now }
+{
+    match &new_view.body {
+        Body::Whole(body) => plan_of_body(alloc, shape, body),
+        Body::Bare(_) => Err(PlanFault::Few),
+    }
+}
+
+/// The plan that a NEW_VIEW's members leave; `Few` too where it isn't one or a field has no allowed value.
+fn plan_left(alloc: Global, shape: &Shape, message: &Message) -> Result<Plan, PlanFault> {
+    if !fields_fit(shape, message) {
+        return Err(PlanFault::Few);
+    }
+    match message {
+        Message::NewView(new_view) => plan_of_new_view(alloc, shape, new_view),
+        _ => Err(PlanFault::Few),
+    }
+}
+
+/// Whether the logs of a row leave its plan.
+fn leave_plan(alloc: Global, shape: &Shape, row: &[u8]) -> Result<bool, Fail> {
+    let message = announcing(alloc, row)?;
+    match plan_left(alloc, shape, &message) {
+        Ok(plan) => Ok(is_told(&plan, part(row, 50))),
+        Err(_) => Ok(false),
+    }
+}
+
+#[test]
+fn logs_leave_a_plan(rt: HostRuntime) -> Result<(), Fail> {
+    let alloc = rt.alloc();
+    let three = Shape::new(1, 4, 2)?;
+    for row in PLANS {
+        assert!(rt; leave_plan(alloc, &three, row.as_bytes())?, "{row}");
     }
     Ok(())
 }
