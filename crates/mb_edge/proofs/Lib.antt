@@ -1,2 +1,4 @@
 pub mod CallLemmas
 pub mod PieceLemmas
+pub mod StartLemmas
+pub mod ToldLemmas

@@ -3,7 +3,11 @@
 ghost use Rattle.std.specs.Prelude.{◌≡◌, ℕ, List, [], Option, Ok, IsErrOf};
 ghost use Rattle.std.specs.Io.{ReadsAtMost, WritesAtMost};
 ghost use Rattle.std.specs.Io.KnownBytes.{ReadConsumes, WriteAppends};
+ghost use Rattle.mb_edge.specs.declared.outside.Failed.TheVariants as causes;
 ghost use Rattle.mb_edge.specs.Faults.{HasCause, HasNoFault};
+
+use mb_base::NoMemory;
+use std::alloc::{AllocError, AllocFailed};
 
 /// Why a call of the outside failed.
 #[derive(Clone, Copy, Debug, PartialEq, Eq)]
@@ -12,6 +16,30 @@ pub enum Failed {
     Device,
     /// Memory ran out. Nothing has changed.
     NoMemory,
+}
+
+impl From<AllocError> for Failed {
+    ghost from_gives = { λ _ failed. failed ≡ causes.NoMemory };
+
+    fn from(_e: AllocError) -> Failed {
+        Failed::NoMemory
+    }
+}
+
+impl From<NoMemory> for Failed {
+    ghost from_gives = { λ _ failed. failed ≡ causes.NoMemory };
+
+    fn from(_e: NoMemory) -> Failed {
+        Failed::NoMemory
+    }
+}
+
+impl<T: Drop> From<AllocFailed<T>> for Failed {
+    ghost from_gives = { λ _ failed. failed ≡ causes.NoMemory };
+
+    fn from(_e: AllocFailed<T>) -> Failed {
+        Failed::NoMemory
+    }
 }
 
 /// A place that bytes are read from.
