@@ -1,18 +1,21 @@
 -- A client's place in the table, and what an execution writes there.
-use Rattle.std.proofs.Common.{◌≡◌, ℕ, zero, suc, ◌<◌, ◌≤◌, ◌^◌, Bool, true, false, cond, eqb, ltb, leb, ◌&&◌, List, [], ◌∷◌, ◌++◌, length, length-set, get_or, set, replicate, Some, None, refl, sym, ap, subst, ◌∙◌, arith}
-use Rattle.std.specs.List.{AllByRecursion, slice_get}
+use Rattle.std.proofs.Common.{◌≡◌, ℕ, zero, suc, ◌<◌, ◌≤◌, ◌^◌, ◌+◌, ◌*◌, Bool, true, false, cond, eqb, ltb, leb, ◌&&◌, List, [], ◌∷◌, ◌++◌, length, length-set, get_or, set, replicate, Some, None, refl, sym, ap, subst, ◌∙◌, arith}
+use Rattle.std.specs.Int.{w16, w64}
+use Rattle.std.specs.List.{AllByRecursion, flat_map, slice_get}
 use Rattle.std.proofs.lemmas.Bool.{lt-ltb, le-ltb, ltb-true, leb-true, le-leb, eqb-true, ne_eqb, and_parts}
-use Rattle.std.proofs.lemmas.List.{get_or-set_same}
+use Rattle.std.proofs.lemmas.List.{get_or-set_same, length-append}
+use Rattle.std.proofs.lemmas.List.Concat.{flat_map-cons}
 use Rattle.std.proofs.lemmas.Option.{slice_get-get_or, unwrap_or-slice_get}
 use Rattle.mb_base.specs.Shapes.{Bytes}
+use Rattle.mb_base.proofs.Laws.{number_length, wide16, wide64}
 use Rattle.mb_parts.specs.declared.limits.TheConstants.{MAX_PLACE}
 use Rattle.mb_parts.specs.declared.request.Request.{Request}
 use Rattle.mb_parts.specs.Fits.{IsPosition}
 use Rattle.mb_model.specs.declared.known.LastReply.{LastReply}
 use Rattle.mb_model.specs.Service.{Machine, Served, no_reply, served}
-use Rattle.mb_model.specs.States.{is_place_of, is_size_of}
+use Rattle.mb_model.specs.States.{is_place_of, is_size_of, table_bytes}
 use Rattle.mb_model.specs.Execution.{state_of}
-use Rattle.mb_cache.specs.Tables.{last_of, IsLast, IsTable}
+use Rattle.mb_cache.specs.Tables.{last_of, last_text, IsLast, IsTable}
 use Rattle.mb_cache.specs.Answers.{result_of}
 use Rattle.mb_cache.specs.Represents.{StandsServed}
 
@@ -118,3 +121,24 @@ module _ {S : Type 0} (answer : S → Bytes → Bytes) (x : Served S) (r : Reque
 
   pub result_old : r.seq ≤ (last_of x.table r.client).seq → None ≡ result_of answer x r
   result_old le = rw (le-ltb _ _ le) refl
+
+-- ---- the bytes of a table
+
+pub text_short : (a : LastReply) → IsLast a → length (last_text a) ≤ 1042
+text_short a f =
+    let size = size_small a.seq (length a.result) f.size in
+    let seq = number_length w64 (2 ^ 64) a.seq wide64 in
+    let pos = number_length w64 (2 ^ 64) a.pos wide64 in
+    let count = number_length w16 (2 ^ 16) (length a.result) wide16 in
+    simp (length-append, seq, pos, count) (omega (arith, size))
+
+texts_short : (t : List LastReply) → AllByRecursion IsLast t → length (flat_map last_text t) ≤ 1042 * length t
+texts_short [] all = omega arith
+texts_short (a ∷ t) all =
+    let joined : length (flat_map last_text (a ∷ t)) ≡ length (last_text a) + length (flat_map last_text t) = ap length (flat_map-cons last_text a t) ∙ length-append (last_text a) (flat_map last_text t) in
+    omega (arith, joined, text_short a all.0, texts_short t all.1)
+
+-- They have room in a part.
+pub table_short : (t : List LastReply) → IsTable t → length (table_bytes t) ≤ 4000000
+unfolding table_bytes
+table_short t f = omega (arith, texts_short t f.each, f.few)

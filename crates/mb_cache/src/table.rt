@@ -42,6 +42,7 @@ impl Table {
     ghost use Rattle.mb_model.specs.Service.{no_reply, served};
     ghost use Rattle.mb_model.specs.States.{table_bytes, table_of};
     ghost use Rattle.mb_model.specs.Histories.{Identity, History, Served};
+    ghost use Rattle.mb_service.specs.declared.service.TheConstants.{MAX_PART};
     ghost use Rattle.mb_cache.specs.Tables.{IsLast, last_of};
     ghost use Rattle.mb_cache.specs.Answers.{Accepts, told, result_of, Restores};
     ghost use Rattle.mb_cache.specs.Represents.{machine_of, joined, ServedOrNot, StandsServed};
@@ -173,6 +174,7 @@ impl Table {
     pub fn part(&self, alloc: Global) -> Result<Items<u8>, NoMemory>
         ensures part { IfOk result (λ p. p ≡ table_bytes self.now) }
         ensures back { IfOk result (λ p. table_of (length self.now) p ≡ Ok self.now) }
+        ensures short { IfOk result (λ p. length p ≤ MAX_PART) }
     {
         write_table(alloc, self.replies.as_slice())
     }

@@ -10,6 +10,7 @@ use Rattle.mb_model.specs.Service.{Served}
 use Rattle.mb_model.specs.States.{Snapshots, table_bytes, parts_of, part_count}
 use Rattle.mb_model.specs.Making.{fitting, first_fitting}
 use Rattle.mb_fetch.specs.Snapshots.{Snapshot, part_in}
+use Rattle.mb_keeper.specs.Keeping.{AreShort}
 use Rattle.mb_keeper.specs.Sent.{kept_at}
 
 -- A state has all parts.
@@ -22,6 +23,13 @@ kept_within [] pos all = omega arith
 kept_within (s ∷ shelf) pos all = elim (cases_Bool (s.pos == pos)) [
   | inl so ↦ rw so (omega (arith, all.0))
   | inr not_so ↦ rw not_so (kept_within shelf pos all.1)
+]
+
+pub kept_short : (shelf : List Snapshot) (pos : ℕ) → AllByRecursion (λ s. AreShort s.parts) shelf → AreShort (kept_at shelf pos)
+kept_short [] pos all = tt
+kept_short (s ∷ shelf) pos all = elim (cases_Bool (s.pos == pos)) [
+  | inl so ↦ rw so all.0
+  | inr not_so ↦ rw not_so (kept_short shelf pos all.1)
 ]
 
 pub in_kept : (o : Option (List Bytes)) (n : ℕ) → part_in o n ≡ slice_get (unwrap_or o []) n

@@ -1,8 +1,9 @@
 -- What a host executes with, as a value: its state with the client table, the snapshots that it keeps for others, and the parts of a state that
 -- it fetched.
-use Rattle.std.specs.Prelude.{ℕ, ◌≡◌, ◌⊎◌, List, [], ◌∷◌, ◌++◌, length, Option, Some, None, nat_lt, nat_le, if◌then◌else◌}
+use Rattle.std.specs.Prelude.{ℕ, ◌≡◌, ◌≤◌, ◌⊎◌, List, [], ◌∷◌, ◌++◌, length, Option, Some, None, nat_lt, nat_le, if◌then◌else◌}
 use Rattle.std.specs.List.{filter, AllByRecursion}
 use Rattle.mb_base.specs.Shapes.{Bytes}
+use Rattle.mb_service.specs.declared.service.TheConstants.{MAX_PART}
 use Rattle.mb_parts.specs.declared.request.Request.{Request}
 use Rattle.mb_model.specs.declared.known.LastReply.{LastReply}
 use Rattle.mb_model.specs.Service.{Machine, Served, served}
@@ -15,10 +16,15 @@ pub record Keeping (S : Type 0) : Type 0 where
   pub snapshots : List Snapshot
   pub fetched : Option Fetched
 
+-- parts that can be sent
+abbrev pub AreShort : List Bytes → Type 0
+AreShort parts = AllByRecursion (λ p. length p ≤ MAX_PART) parts
+
 -- a table of so many clients, and snapshots of all parts
 pub record IsKept (clients : ℕ) (table : List LastReply) (snapshots : List Snapshot) : Type 0 where
   pub clients_are : length table ≡ clients
   pub whole : AllByRecursion (λ s. length s.parts ≡ part_count) snapshots
+  pub short : AllByRecursion (λ s. AreShort s.parts) snapshots
 
 -- ---- the parts that were fetched
 

@@ -4,6 +4,7 @@ ghost use Rattle.std.specs.Prelude.{◌≡◌, ◌≤◌, ◌<◌, ◌^◌, ◌+
 ghost use Rattle.mb_model.specs.States.{parts_of, part_count, part_digests};
 ghost use Rattle.mb_model.specs.Making.{fitting, first_fitting};
 ghost use Rattle.mb_cache.specs.Represents.{joined, snapshots_of};
+ghost use Rattle.mb_keeper.specs.Keeping.{AreShort};
 ghost use Rattle.mb_keeper.specs.Sent.{kept_at};
 
 use crate::keeper::Keeper;
@@ -27,6 +28,7 @@ impl<V: Service + Drop> Keeper<V> {
     ghost use Rattle.mb_model.specs.Histories.{Identity};
     ghost use Rattle.mb_model.specs.Making.{state_message};
     ghost use Rattle.mb_fetch.specs.Snapshots.{parts_at};
+    ghost use Rattle.mb_keeper.specs.Keeping.{AreShort};
     ghost use Rattle.mb_keeper.specs.Sent.{kept_at, state_of_parts};
 
     /// The STATE in the name of a host: the digests of all parts of the snapshot of a position, and the parts from a number on, as many as fit
@@ -39,6 +41,7 @@ impl<V: Service + Drop> Keeper<V> {
         first: u8,
     ) -> Result<StateMsg, NoMemory>
         ensures parts { IfOk result (λ m. m ≡ state_of_parts host pos first (kept_at self.now.snapshots pos)) }
+        ensures short { IfOk result (λ m. AreShort (kept_at self.now.snapshots pos)) }
         ensures stands { (id : Identity V) (parts : List Bytes) → id.host ≡ host → parts_at self.now.snapshots pos ≡ Some parts → IfOk result (λ m. message.State m ≡ state_message id pos first parts) }
     {
         Ok(StateMsg {
@@ -57,7 +60,8 @@ pub(crate) fn present_parts<V: Service>(
     service: &V,
     table: &Table,
 ) -> Result<Vec<Items<u8>>, NoMemory>
-    ensures { IfOk result (λ v. v.items ≡ parts_of (snapshots_of V.part_of V.restored) (joined service.now table.now)) }
+    ensures parts { IfOk result (λ v. v.items ≡ parts_of (snapshots_of V.part_of V.restored) (joined service.now table.now)) }
+    ensures short { IfOk result (λ v. AreShort v.items) }
 {
     let mut parts = Vec::with_capacity(alloc, usize::from(PART_COUNT))?;
     for part in 0..PARTS {

@@ -4,12 +4,14 @@ use Rattle.std.specs.Prelude.{nat_le}
 use Rattle.mb_model.specs.States.{part_count}
 use Rattle.mb_model.proofs.StepPlanBases.{all_filter}
 use Rattle.mb_fetch.specs.Snapshots.{Snapshot}
+use Rattle.mb_keeper.specs.Keeping.{AreShort}
 use Rattle.mb_keeper.proofs.keeper.Keeper.raise.Goals as goal
 
 pub invariant_of-self : goal.invariant_of-self
 invariant_of-self g c = record {
   clients_are = c.self.invariant.clients_are;
   whole = subst (AllByRecursion (λ (s : Snapshot). length s.parts ≡ part_count)) (sym c.drop_below.ensures.kept) (all_filter (λ s. length s.parts ≡ part_count) (λ s. nat_le c.args.low s.pos) c.self.inside.shelf c.self.invariant.whole);
+  short = subst (AllByRecursion (λ (s : Snapshot). AreShort s.parts)) (sym c.drop_below.ensures.kept) (all_filter (λ s. AreShort s.parts) (λ s. nat_le c.args.low s.pos) c.self.inside.shelf c.self.invariant.short);
 }
 
 pub returns-clause-stands : goal.returns-clause-stands
