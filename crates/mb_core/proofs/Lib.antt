@@ -1,13 +1,47 @@
-pub mod AcceptLaws
-pub mod EntryLaws
-pub mod Beginning
-pub mod CheckLaws
-pub mod ExecutedEntry
-pub mod RuleLaws
-pub mod FillLaws
-pub mod RuleLoop
-pub mod ServedTables
-pub mod StampedEntry
-pub mod StoreLaws
-pub mod TableLaws
-pub mod StepLaws
+mod Places
+mod SenderGates
+mod ChangeRules
+mod Numbers
+mod Pending
+mod NewViewRefusals
+mod Learnt
+mod Accepted
+mod Behind
+mod Wished
+mod Opened
+mod OpenVotes
+mod Held
+mod Shown
+mod Publishing
+mod Entries
+mod Letters
+mod Asking
+mod Serving
+mod Closing
+mod Fetching
+mod Installed
+mod Replies
+mod NextBatch
+mod Accepting
+mod Keeping
+mod CountedVotes
+mod OwnVotes
+mod OwnChanges
+mod OwnViews
+mod OwnCheckpoints
+mod Carrying
+mod Signing
+mod Bounds
+mod Gathered
+mod NextRules
+mod RuleLoop
+mod NewHosts
+mod Stepping
+mod Answering
+mod NewGates
+mod Making
+mod PlansOfChanges
+mod Nudged
+mod Finishing
+mod Services
+mod ShownEntries

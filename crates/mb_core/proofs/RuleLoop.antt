@@ -1,92 +1,107 @@
--- The rules in their order, again and again.
-use Rattle.std.proofs.Common.{◌≡◌, ℕ, zero, suc, Option, Some, None, Result, refl, sym, ap, subst, ◌∙◌}
-use Rattle.std.specs.Option.{option_or}
-use Rattle.std.specs.Result.{IfOk}
-use Rattle.std.proofs.lemmas.Result.{IfOk-weaker}
+-- The rules one after the other, and that each is the one that the code names.
+use Rattle.std.proofs.Common.{◌≡◌, ℕ, zero, suc, List, Option, Some, None, Result, refl, sym, ap, subst, ◌∙◌}
+use Rattle.std.specs.Prelude.{OnOk}
+use Rattle.mb_base.specs.Shapes.{Bytes}
+use Rattle.mb_msg.specs.declared.change.ViewChange.{ViewChange}
+use Rattle.mb_msg.specs.declared.change.NewView.{NewView}
+use Rattle.mb_msg.specs.declared.change.Plan.{Plan}
+use Rattle.mb_parts.specs.declared.batch.Batch.{Batch}
+use Rattle.mb_parts.specs.declared.certificates.Evidence.{Evidence}
+use Rattle.mb_model.specs.declared.known.KnownSlot.{KnownSlot}
 use Rattle.mb_model.specs.Histories.{History, Identity}
 use Rattle.mb_model.specs.Sending.{Progress}
-use Rattle.mb_model.specs.EnabledRules.{Rule, next_rule, commit_enabled, execute_enabled, prepare_enabled}
+use Rattle.mb_model.specs.EnabledRules.{Rule, ChangeView, Announce, Enter, Open, Join, Commit, Execute, Prepare, next_rule}
 use Rattle.mb_model.specs.CarriedOut.{carry_out, if_enabled, run_rules, enough}
-use Rattle.mb_model.proofs.EarlyHistories.{IsEarly, early_rule}
 use Rattle.mb_core.specs.declared.replica.Replica.{Replica}
 use Rattle.mb_core.specs.declared.sending.Done.{Done}
 use Rattle.mb_core.specs.declared.rules.Due.{Due}
-use Rattle.mb_core.specs.Store.{Pairs}
-use Rattle.mb_core.specs.Represents.{me, Represents, StandsAt}
-use Rattle.mb_core.specs.Due.{Names, HasDigest, rule_of}
+use Rattle.mb_core.specs.declared.rules.Due.TheVariants as due
+use Rattle.mb_core.specs.Due.{Names, IsNamed}
+use Rattle.mb_core.specs.Represents.{Represents, Serves, StandsAt}
 
--- ---- the first rule that applies
+-- ---- the rule of a name
 
-module _ (self : Identity Pairs) (d : History) where
-  pub commit-first : IsEarly d → (o : Option Due) (due : Due) → Names o (commit_enabled self d) → o ≡ Some due → Names (Some due) (next_rule self d)
-  commit-first early o due h is =
-      let named : Names (Some due) (commit_enabled self d) = subst (λ (x : Option Due). Names x (commit_enabled self d)) is h in
-      (early_rule self d early ∙ ap (λ a. option_or a (option_or (execute_enabled self d) (prepare_enabled self d))) named.0, named.1)
+pub change_view_named : (view : ℕ) (r : Rule) → IsNamed (due.ChangeView view) r → r ≡ ChangeView view
+change_view_named view (ChangeView target) is = ap ChangeView (sym is)
+change_view_named view r is = absurd is
 
-  -- no rule of the first kind applies
-  module _ (o : Option Due) (h : Names o (commit_enabled self d)) (is : o ≡ None) where
-    no_commit : commit_enabled self d ≡ None
-    no_commit = subst (λ (x : Option Due). Names x (commit_enabled self d)) is h
+pub announce_named : (r : Rule) → IsNamed due.Announce r → (changes : List ViewChange) × (r ≡ Announce changes)
+announce_named (Announce changes) is = (changes, refl)
+announce_named r is = absurd is
 
-    pub execute-first : IsEarly d → (p : Option Due) (due : Due) → Names p (execute_enabled self d) → p ≡ Some due → Names (Some due) (next_rule self d)
-    execute-first early p due execute some =
-        let named : Names (Some due) (execute_enabled self d) = subst (λ (x : Option Due). Names x (execute_enabled self d)) some execute in
-        (early_rule self d early ∙ ap (λ a. option_or a (option_or (execute_enabled self d) (prepare_enabled self d))) no_commit ∙ ap (λ a. option_or a (prepare_enabled self d)) named.0, named.1)
+pub enter_named : (r : Rule) → IsNamed due.Enter r → (n : NewView) × (r ≡ Enter n)
+enter_named (Enter n) is = (n, refl)
+enter_named r is = absurd is
 
-    -- nor one of the second
-    pub prepare-last : IsEarly d → {E : Type 0} (p : Option Due) (result : Result (Option Due) E) → Names p (execute_enabled self d) → p ≡ None → IfOk result (λ q. Names q (prepare_enabled self d))
-        → IfOk result (λ q. Names q (next_rule self d))
-    prepare-last early p result execute none prepare =
-        let no_execute : execute_enabled self d ≡ None = subst (λ (x : Option Due). Names x (execute_enabled self d)) none execute in
-        let same : prepare_enabled self d ≡ next_rule self d = sym (early_rule self d early ∙ ap (λ a. option_or a (option_or (execute_enabled self d) (prepare_enabled self d))) no_commit ∙ ap (λ a. option_or a (prepare_enabled self d)) no_execute) in
-        IfOk-weaker result _ _ (λ q named. subst (λ (r : Option Rule). Names q r) same named) prepare
+pub open_named : (r : Rule) → IsNamed due.Open r → (e : Evidence) × ((plan : Plan) × (r ≡ Open e plan))
+open_named (Open e plan) is = (e, (plan, refl))
+open_named r is = absurd is
+
+pub join_named : (r : Rule) → IsNamed due.Join r → r ≡ Join
+join_named Join is = refl
+join_named r is = absurd is
+
+pub commit_named : (pos : ℕ) (r : Rule) → IsNamed (due.Commit pos) r → (k : KnownSlot) × ((b : Batch) × (r ≡ Commit pos k b))
+commit_named pos (Commit p k b) is = (k, (b, ap (λ n. Commit n k b) (sym is)))
+commit_named pos r is = absurd is
+
+pub execute_named : (pos : ℕ) (r : Rule) → IsNamed (due.Execute pos) r → (b : Batch) × (r ≡ Execute pos b)
+execute_named pos (Execute p b) is = (b, ap (λ n. Execute n b) (sym is))
+execute_named pos r is = absurd is
+
+pub prepare_named : (r : Rule) → IsNamed due.Prepare r → (pos : ℕ) × ((b : Batch) × (r ≡ Prepare pos b))
+prepare_named (Prepare p b) is = (p, (b, refl))
+prepare_named r is = absurd is
 
 -- ---- one more rule, or none
 
-module _ (self : Identity Pairs) where
-  run_rules-more : (n : ℕ) (x : Progress) (rule : Rule) → next_rule self x.history ≡ Some rule → run_rules self (suc n) x ≡ run_rules self n (carry_out self rule x)
+module _ {V : Type 0} (me : Identity V) where
+  one_more : (n : ℕ) (x : Progress) (rule : Rule) → next_rule me x.history ≡ Some rule → run_rules me (suc n) x ≡ run_rules me n (carry_out me rule x)
   unfolding run_rules
-  run_rules-more n x rule e = ap (λ r. if_enabled self r x (λ y. run_rules self n y)) e
+  one_more n x rule e = ap (λ r. if_enabled me r x (λ y. run_rules me n y)) e
 
-  run_rules-none : (n : ℕ) (x : Progress) → next_rule self x.history ≡ None → run_rules self n x ≡ x
+  no_more : (n : ℕ) (x : Progress) → next_rule me x.history ≡ None → run_rules me n x ≡ x
   unfolding run_rules
-  run_rules-none zero x e = refl
-  run_rules-none (suc n) x e = ap (λ r. if_enabled self r x (λ y. run_rules self n y)) e
+  no_more zero x e = refl
+  no_more (suc n) x e = ap (λ r. if_enabled me r x (λ y. run_rules me n y)) e
 
-  -- the replica stands where so many rules are left to be carried out
-  pub record Running (r : Replica) (done : Done) (left : ℕ) (all : Progress) : Type 0 where
+  -- The replica stands where so many rules are left to be carried out.
+  pub record Running (r : Replica V) (done : Done) (left : ℕ) (all : Progress) : Type 0 where
     pub at : Progress
-    pub stands : StandsAt self r done at
-    pub rest : run_rules self left at ≡ all
+    pub stands : StandsAt me r done at
+    pub rest : run_rules me left at ≡ all
 
-  pub begins : (r : Replica) (done : Done) (x : Progress) (left : ℕ) → left ≡ 1000000 → StandsAt self r done x → Running r done left (run_rules self enough x)
+  pub begins : (r : Replica V) (done : Done) (x : Progress) (left : ℕ) → left ≡ 1000000 → StandsAt me r done x → Running r done left (run_rules me enough x)
   unfolding enough
-  begins r done x left is st = record { at = x; stands = st; rest = ap (λ n. run_rules self n x) is }
+  begins r done x left is st = record { at = x; stands = st; rest = ap (λ n. run_rules me n x) is }
 
-  pub ends : (r : Replica) (done : Done) (left : ℕ) (all : Progress) → left ≡ 0 → Running r done left all → StandsAt self r done all
+  pub ends : (r : Replica V) (done : Done) (left : ℕ) (all : Progress) → left ≡ 0 → Running r done left all → StandsAt me r done all
   unfolding run_rules
-  ends r done left all is run = subst (λ (x : Progress). StandsAt self r done x) (ap (λ n. run_rules self n run.at) (sym is) ∙ run.rest) run.stands
+  ends r done left all is run = subst (λ (x : Progress). StandsAt me r done x) (ap (λ n. run_rules me n run.at) (sym is) ∙ run.rest) run.stands
 
--- a rule was carried out
-pub goes_on : (self : Identity Pairs) (r new : Replica) (before after : Done) (o : Option Due) (due : Due) (left more : ℕ) (all : Progress) → me r ≡ self → left ≡ suc more
-    → ((d : History) → Represents (me r) r d → Names o (next_rule (me r) d)) → o ≡ Some due
-    → ((x : Progress) → StandsAt (me r) r before x → HasDigest due → StandsAt (me r) new after (carry_out (me r) (rule_of due) x))
-    → Running self r before left all → Running self new after more all
-goes_on self r new before after o due left more all who is named some carried =
-    subst (λ (s : Identity Pairs). Running s r before left all → Running s new after more all) who
-    (λ (run : Running (me r) r before left all).
-    let first : Names (Some due) (next_rule (me r) run.at.history) = subst (λ (x : Option Due). Names x (next_rule (me r) run.at.history)) some (named run.at.history run.stands.history) in
-    record {
-      at = carry_out (me r) (rule_of due) run.at;
-      stands = carried run.at run.stands first.1;
-      rest = sym (run_rules-more (me r) more run.at (rule_of due) first.0) ∙ (ap (λ n. run_rules (me r) n run.at) (sym is) ∙ run.rest);
-    })
+  -- no rule is enabled
+  pub stops : (r : Replica V) (done : Done) (left : ℕ) (all : Progress) → ((d : History) → Represents me r d → Names None (next_rule me d)) → Running r done left all → StandsAt me r done all
+  stops r done left all named run = subst (λ (x : Progress). StandsAt me r done x) (sym (no_more left run.at (named run.at.history run.stands.represents)) ∙ run.rest) run.stands
 
--- no rule applies
-pub stops : (self : Identity Pairs) (r : Replica) (done : Done) (o : Option Due) (left : ℕ) (all : Progress) → me r ≡ self
-    → ((d : History) → Represents (me r) r d → Names o (next_rule (me r) d)) → o ≡ None → Running self r done left all → StandsAt self r done all
-stops self r done o left all who named none =
-    subst (λ (s : Identity Pairs). Running s r done left all → StandsAt s r done all) who
-    (λ (run : Running (me r) r done left all).
-    let nothing : next_rule (me r) run.at.history ≡ None = subst (λ (x : Option Due). Names x (next_rule (me r) run.at.history)) none (named run.at.history run.stands.history) in
-    subst (λ (x : Progress). StandsAt (me r) r done x) (sym (run_rules-none (me r) left run.at nothing) ∙ run.rest) run.stands)
+  -- One is enabled, and is carried out.
+  pub goes_on : (r new : Replica V) (before after : Done) (due : Due) (left more : ℕ) (all : Progress) → left ≡ suc more
+      → ((d : History) → Represents me r d → Names (Some due) (next_rule me d))
+      → ((x : Progress) (rule : Rule) → StandsAt me r before x → IsNamed due rule → next_rule me x.history ≡ Some rule → StandsAt me new after (carry_out me rule x))
+      → Running r before left all → Running new after more all
+  goes_on r new before after due left more all is named carried run = by_rule (next_rule me run.at.history) refl (named run.at.history run.stands.represents) where
+    by_rule : (o : Option Rule) → next_rule me run.at.history ≡ o → Names (Some due) o → Running new after more all
+    by_rule None e n = absurd n
+    by_rule (Some rule) e n = record {
+      at = carry_out me rule run.at;
+      stands = carried run.at rule run.stands n e;
+      rest = sym (one_more more run.at rule e) ∙ (ap (λ k. run_rules me k run.at) (sym is) ∙ run.rest);
+    }
+
+-- Behind so many rounds the replica stands where the rules that are left go on, whatever it stood for at first.
+abbrev pub Runs : {V : Type 0} → (V → Type 0) → (V → Bytes → V) → (V → Bytes → Bytes) → (V → ℕ → Bytes) → (List Bytes → Result V (ℕ × ℕ)) → Replica V → Done → Replica V → Done → ℕ → Type 0
+Runs {V} is_state after result part restored r done now more left = (me : Identity V) (x : Progress) → Serves is_state after result part restored me → StandsAt me r done x → Running me now more left (run_rules me enough x)
+
+-- The rule is this one, so what carries out this one carries out the rule.
+pub carried_as : {V : Type 0} {T E : Type 0} (me : Identity V) (new : Replica V) (more : Done) (x : Progress) (result : Result T E) (rule this : Rule) → rule ≡ this → next_rule me x.history ≡ Some rule
+    → (next_rule me x.history ≡ Some this → OnOk result (StandsAt me new more (carry_out me this x))) → OnOk result (StandsAt me new more (carry_out me rule x))
+carried_as me new more x result rule this is next f = subst (λ (r : Rule). OnOk result (StandsAt me new more (carry_out me r x))) (sym is) (f (next ∙ ap (λ (r : Rule). Some r) is))

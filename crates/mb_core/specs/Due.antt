@@ -1,91 +1,49 @@
--- What a host has to do next, and what it keeps of the service.
-use Rattle.std.specs.Prelude.{◌≡◌, ℕ, ◌*◌, ◌<◌, ◌≤◌, Option, Some, None}
-use Rattle.mb_base.specs.Shapes.{span, interval}
-use Rattle.mb_base.specs.declared.shape.Shape.{Shape}
-use Rattle.mb_parts.specs.declared.batch.Batch.{Batch}
-use Rattle.mb_parts.specs.Bares.{batch_digest}
-use Rattle.mb_parts.specs.Fits.{IsCounter, FitsBatch}
-use Rattle.mb_model.specs.declared.known.KnownSlot.{KnownSlot}
-use Rattle.mb_model.specs.Service.{Served}
-use Rattle.mb_model.specs.Histories.{Identity}
+-- What a host has to do next: a rule of its history, of which the code names the kind and the position. What it is done with is lent again.
+use Rattle.std.specs.Prelude.{◌≡◌, ℕ, List, Result, Option, Some, None}
+use Rattle.std.specs.Option.{option_or}
+use Rattle.mb_base.specs.Shapes.{Bytes}
+use Rattle.mb_model.specs.Histories.{History, Identity}
 use Rattle.mb_model.specs.Sending.{Progress}
-use Rattle.mb_model.specs.EnabledRules.{Rule, Commit, Execute, Prepare}
+use Rattle.mb_model.specs.EnabledRules.{Rule, ChangeView, Announce, Enter, Open, Join, Commit, Execute, Prepare, change_enabled, announce_enabled, enter_enabled, open_enabled, join_enabled, commit_enabled, execute_enabled, prepare_enabled, next_rule}
 use Rattle.mb_core.specs.declared.replica.Replica.{Replica}
-use Rattle.mb_core.specs.declared.executing.Ordered.{Ordered}
+use Rattle.mb_core.specs.declared.sending.Done.{Done}
 use Rattle.mb_core.specs.declared.rules.Due.{Due}
 use Rattle.mb_core.specs.declared.rules.Due.TheVariants as due
-use Rattle.mb_core.specs.Store.{Pairs}
-use Rattle.mb_core.specs.Represents.{StopsWithin}
+use Rattle.mb_core.specs.Represents.{Serves, StandsAt}
 
--- ---- the service
+-- The code names this rule.
+abbrev pub IsNamed : Due → Rule → Type 0
+IsNamed (due.ChangeView view) (ChangeView target) = view ≡ target
+IsNamed due.Announce (Announce changes) = Unit {0}
+IsNamed due.Enter (Enter n) = Unit {0}
+IsNamed due.Open (Open e plan) = Unit {0}
+IsNamed due.Join Join = Unit {0}
+IsNamed (due.Commit pos) (Commit p k b) = pos ≡ p
+IsNamed (due.Execute pos) (Execute p b) = pos ≡ p
+IsNamed due.Prepare (Prepare p b) = Unit {0}
+IsNamed x rule = ⊥
 
--- what a replica keeps of the service: the keys with their values, and each client's last reply
-abbrev pub served_of : Replica → Served Pairs
-served_of r = record { state = r.store.pairs.items; table = r.replies.items }
-
--- only the store and the replies may change
-pub record KeepsAllButService (old new : Replica) : Type 0 where
-  pub shape : new.shape ≡ old.shape
-  pub host : new.host ≡ old.host
-  pub usig : new.usig ≡ old.usig
-  pub tables : new.tables ≡ old.tables
-  pub last : new.last ≡ old.last
-  pub exec : new.exec ≡ old.exec
-  pub pending : new.pending ≡ old.pending
-
--- only the counter of the USIG may change
-pub record KeepsAllButCounter (old new : Replica) : Type 0 where
-  pub shape : new.shape ≡ old.shape
-  pub host : new.host ≡ old.host
-  pub tables : new.tables ≡ old.tables
-  pub last : new.last ≡ old.last
-  pub exec : new.exec ≡ old.exec
-  pub pending : new.pending ≡ old.pending
-  pub replies : new.replies ≡ old.replies
-  pub store : new.store ≡ old.store
-
--- ---- what is due
-
--- the slot of a batch that the primary ordered
-abbrev pub known_slot : Ordered → KnownSlot
-known_slot o = record { counter = o.counter; cert = o.cert; digest = o.digest; batch = Some o.batch }
-
-abbrev pub rule_of : Due → Rule
-rule_of (due.Commit o) = Commit o.pos (known_slot o) o.batch
-rule_of (due.Execute pos batch) = Execute pos batch
-rule_of (due.Prepare pos batch) = Prepare pos batch
-
--- the digest that is kept with a batch is its own
-abbrev pub HasDigest : Due → Type 0
-HasDigest (due.Commit o) = o.digest ≡ batch_digest o.batch
-HasDigest (due.Execute pos batch) = Unit {0}
-HasDigest (due.Prepare pos batch) = Unit {0}
-
--- what the code finds due is what the rules say
+-- The code finds a rule exactly where there is one, and names it.
 abbrev pub Names : Option Due → Option Rule → Type 0
 Names None rule = rule ≡ None
-Names (Some d) rule = (rule ≡ Some (rule_of d)) × HasDigest d
+Names (Some x) None = ⊥
+Names (Some x) (Some rule) = IsNamed x rule
 
--- ---- that it can be carried out
+module _ {S : Type 0} (self : Identity S) where
+  -- the first that is enabled of those of view changes, and of those of the normal case
 
--- a position of the window, and a batch that can be sent
-pub record IsPlaced (s : Shape) (pos : ℕ) (batch : Batch) : Type 0 where
-  pub above : 1 ≤ pos
-  pub within : pos ≤ span s
-  pub fits : FitsBatch s batch
+  abbrev pub change_rule : History → Option Rule
+  change_rule d = option_or (change_enabled self d) (option_or (announce_enabled self d) (option_or (enter_enabled self d) (option_or (open_enabled self d) (join_enabled self d))))
 
--- the log has room, and a counter is left
-abbrev pub HasCounter : Replica → Type 0
-HasCounter r = r.usig.counter < 6 * interval r.shape
+  abbrev pub normal_rule : History → Option Rule
+  normal_rule d = option_or (commit_enabled self d) (option_or (execute_enabled self d) (prepare_enabled self d))
 
-abbrev pub IsReady : Replica → Due → Type 0
-IsReady r (due.Commit o) = HasCounter r × IsCounter o.counter × IsPlaced r.shape o.pos o.batch
-IsReady r (due.Execute pos batch) = IsPlaced r.shape pos batch
-IsReady r (due.Prepare pos batch) = HasCounter r × IsPlaced r.shape pos batch
-
--- ---- where memory ran out
-
--- The batch of a position is executed up to some request. What other rules leave is not said.
-abbrev pub StopsIn : Identity Pairs → Replica → Due → Progress → Type 0
-StopsIn self r (due.Execute pos batch) x = StopsWithin self r pos batch.requests x
-StopsIn self r _ x = Unit {0}
+-- There is a step that the replica is in, of a host with this service, in which the rule of this name is next.
+pub record IsDue {V : Type 0} (is_state : V → Type 0) (after : V → Bytes → V) (result : V → Bytes → Bytes) (part : V → ℕ → Bytes) (restored : List Bytes → Result V (ℕ × ℕ)) (r : Replica V) (done : Done) (due : Due) : Type 0 where
+  pub me : Identity V
+  pub left : Progress
+  pub rule : Rule
+  pub serves : Serves is_state after result part restored me
+  pub stands : StandsAt me r done left
+  pub named : IsNamed due rule
+  pub next : next_rule me left.history ≡ Some rule

@@ -6,7 +6,7 @@ use Rattle.mb_core.specs.declared.replica.Stop.{Stop}
 use Rattle.mb_core.specs.declared.replica.Stop.TheVariants as stop
 
 -- Halted comes exactly where an earlier step ran out of memory, and then nothing changes.
-abbrev pub Halts : Replica → Result Step Stop → Replica → Type 0
+abbrev pub Halts : {V : Type 0} → Replica V → Result Step Stop → Replica V → Type 0
 Halts old (Ok step) new = (old.halted ≡ false) × (new.halted ≡ false)
 Halts old (Err stop.NoMemory) new = (old.halted ≡ false) × (new.halted ≡ true)
 Halts old (Err stop.Halted) new = (old.halted ≡ true) × (new ≡ old)

@@ -1,108 +1,30 @@
--- What the code's tables are: each represents a search in the host's history. What is built so far leads to early histories alone: the host
--- stands in view 0, and no position is stable.
-use Rattle.std.specs.Prelude.{◌≡◌, ℕ, ◌+◌, ◌<◌, ◌⊎◌, List, [], ◌++◌, Option, Some, None, Err, map, slice_get, slice_index, option_and_then}
-use Rattle.mb_base.specs.Shapes.{Bytes, host_count, client_count, span}
-use Rattle.mb_base.specs.declared.shape.Shape.{Shape}
-use Rattle.mb_parts.specs.declared.request.Request.{Request}
+-- What a replica is: each of its tables stands for its searches in the host's history.
+use Rattle.std.specs.Prelude.{◌≡◌, ℕ, List, [], map, Result}
+use Rattle.mb_base.specs.Shapes.{Bytes}
 use Rattle.mb_msg.specs.declared.event.Placed.{Placed}
 use Rattle.mb_msg.specs.declared.event.Sent.{Sent}
 use Rattle.mb_msg.specs.declared.event.Step.{Step}
 use Rattle.mb_msg.specs.Spelling.{spelling}
-use Rattle.mb_msg.specs.declared.stamped.Stamped.{Stamped as StampedMessage}
-use Rattle.mb_msg.specs.Stamps.{ui_of, as_message}
-use Rattle.mb_model.specs.declared.known.Vote.{Vote}
-use Rattle.mb_model.specs.Built.{first_path}
-use Rattle.mb_model.specs.States.{Snapshots}
-use Rattle.mb_model.specs.Histories.{Entry, Accepted, Stamped, History, Identity, counter_of, gate, here}
-use Rattle.mb_model.specs.EarlyHistories.{IsEarly}
-use Rattle.mb_model.specs.Positions.{exec_of, slot_in, vote_of}
-use Rattle.mb_model.specs.Execution.{state_of, pending}
+use Rattle.mb_model.specs.Built.{everything}
+use Rattle.mb_model.specs.Histories.{History, Identity}
+use Rattle.mb_model.specs.CarriedOut.{just_served}
 use Rattle.mb_model.specs.Sending.{Letter, Progress}
-use Rattle.mb_model.specs.CarriedOut.{just_served, serve_all}
 use Rattle.mb_model.specs.Given.{Answer}
-use Rattle.mb_core.specs.declared.tables.Tables.{Tables}
+use Rattle.mb_model.specs.HostStep.{rules_follow, asks_on}
+use Rattle.mb_model.proofs.StepArises.{IsWhole}
+use Rattle.mb_msg.specs.declared.message.Message.{Message}
+use Rattle.mb_msg.specs.declared.message.Message.TheVariants as message
+use Rattle.mb_cache.specs.Represents.{machine_of, snapshots_of}
+use Rattle.mb_core.specs.declared.given.Answer.{Answer as GivenAnswer}
+use Rattle.mb_standing.specs.Tables.{Tables}
+use Rattle.mb_standing.specs.Stands.{Stand}
+use Rattle.mb_fitting.specs.Fitting.{AreFit}
 use Rattle.mb_core.specs.declared.replica.Replica.{Replica}
 use Rattle.mb_core.specs.declared.sending.Done.{Done}
-use Rattle.mb_core.specs.Store.{Pairs, store_machine}
-
--- ---- tables
-
--- An entry brings this message: it was accepted, or this host itself stamped it.
-abbrev pub Holds : ℕ → Entry → StampedMessage → Type 0
-Holds own e m = (e ≡ Accepted (as_message m)) ⊎ ((e ≡ Stamped m) × ((ui_of m).host ≡ own))
-
--- the vote that is kept of a host, at a place of the window
-abbrev pub kept_vote : Tables → ℕ → ℕ → Option Vote
-kept_vote t i h = option_and_then (λ ballot. option_and_then (λ v. v) (slice_get ballot h)) (slice_get t.votes.items i)
-
--- the position at a place of the window above position 0
-abbrev pub position_at : ℕ → ℕ
-position_at i = 0 + i + 1
-
--- the counters of all hosts, and the slots and the votes of all positions of the window, in view 0
-pub record RepresentsTables (self : Identity Pairs) (t : Tables) (d : History) : Type 0 where
-  pub shape : t.shape ≡ self.shape
-  pub early : IsEarly d
-  pub counters : (h : ℕ) → h < host_count self.shape → slice_index t.fronts.items h ≡ (gate d h).counter
-  pub slots : (i : ℕ) → i < span self.shape → slice_get t.slots.items i ≡ Some (slot_in self d 0 (position_at i))
-  pub votes : (i h : ℕ) → i < span self.shape → h < host_count self.shape → kept_vote t i h ≡ vote_of self d h 0 (position_at i)
-
--- ---- a host
-
--- Until checkpoints are built, no part of a state is made, and none is taken back.
-abbrev pub no_snapshots : Snapshots Pairs
-no_snapshots = record { part = λ state i. []; restored = λ parts. Err (0, 0) }
-
--- a host of what is built so far, with the key-value service
-abbrev pub host_with : Shape → ℕ → Bytes → Identity Pairs
-host_with shape host secret = record { built = first_path; shape = shape; host = host; secret = secret; machine = store_machine; snapshots = no_snapshots; initial = [] }
-
--- which host a replica is
-abbrev pub me : Replica → Identity Pairs
-me r = host_with r.shape r.host r.usig.secret
-
--- a replica in the middle of a batch, of which these requests are served
-pub record RepresentsServing (self : Identity Pairs) (r : Replica) (served : List Placed) (d : History) : Type 0 where
-  pub who : me r ≡ self
-  pub counter : r.usig.counter ≡ counter_of d
-  pub own : (gate d self.host).counter ≡ counter_of d  -- it accepts none of its own messages
-  pub tables : RepresentsTables self r.tables d
-  pub last : r.last ≡ (here self d).last
-  pub exec : r.exec ≡ exec_of d
-  pub waiting : (c : ℕ) → c < client_count self.shape → slice_get r.pending.items c ≡ Some (pending self d c)
-  pub pairs : r.store.pairs.items ≡ (state_of self d).state
-  pub replies : r.replies.items ≡ (state_of self d).table
-  pub serving : just_served d ≡ served
-
--- a replica between its steps, and between the batches of a step: all that is served is executed
-abbrev pub Represents : Identity Pairs → Replica → History → Type 0
-Represents self r d = RepresentsServing self r [] d
-
--- ---- a step
 
 -- a message that is sent, as its bytes
 abbrev pub as_sent : Letter → Sent
 as_sent letter = record { to = letter.to; bytes = spelling letter.says }
-
--- a replica in the middle of a batch stands where the step stands; no state is installed
-pub record StandsServing (self : Identity Pairs) (r : Replica) (done : Done) (served : List Placed) (x : Progress) : Type 0 where
-  pub history : RepresentsServing self r served x.history
-  pub sent : done.sent ≡ map as_sent x.sent
-  pub executed : done.executed ≡ x.executed
-  pub installed : x.installed ≡ None
-
--- a replica in the middle of a step, between two batches
-abbrev pub StandsAt : Identity Pairs → Replica → Done → Progress → Type 0
-StandsAt self r done x = StandsServing self r done [] x
-
--- A replica within the batch of a position, where memory ran out: some of its requests are executed, which are its first, and the position isn't.
-pub record StopsWithin (self : Identity Pairs) (r : Replica) (pos : ℕ) (requests : List Request) (x : Progress) : Type 0 where
-  pub executed : List Request
-  pub left : List Request
-  pub parts : executed ++ left ≡ requests
-  pub served : List Placed
-  pub history : RepresentsServing self r served (serve_all self pos executed x).history
-  pub exec : r.exec ≡ exec_of x.history
 
 -- a whole step is an answer
 pub record IsStep (step : Step) (a : Answer) : Type 0 where
@@ -110,3 +32,99 @@ pub record IsStep (step : Step) (a : Answer) : Type 0 where
   pub sent : step.sent ≡ map as_sent a.left.sent
   pub executed : step.executed ≡ a.left.executed
   pub adopted : step.adopted ≡ a.left.installed
+
+module _ {V : Type 0} where
+  -- all that it keeps
+  abbrev pub tables_of : Replica V → Tables V
+  tables_of r = record {
+    counter = r.agreement.usig.counter;
+    gates = r.agreement.gates.items;
+    log = r.agreement.log;
+    normal = r.agreement.normal;
+    change = r.agreement.change;
+    stable = r.agreement.stable;
+    exec = r.agreement.exec;
+    service = r.keeper.served;
+    shelf = r.keeper.snapshots;
+    parts = r.keeper.fetched;
+    asked = r.agreement.asked;
+  }
+
+  -- which host it is
+  pub record IsHost (me : Identity V) (r : Replica V) : Type 0 where
+    pub built : me.built ≡ everything
+    pub shape : me.shape ≡ r.agreement.shape
+    pub host : me.host ≡ r.agreement.host
+    pub secret : me.secret ≡ r.agreement.usig.secret
+
+  -- A replica stands for a history of a host, also in the middle of a batch. All that is in it has the values of the grammar.
+  pub record Represents (me : Identity V) (r : Replica V) (d : History) : Type 0 where
+    pub who : IsHost me r
+    pub tables : Stand me (tables_of r) d
+    pub fit : AreFit me d
+
+  -- ---- the service
+
+  -- Its service is this one, and begins with one of its states.
+  pub record Serves (is_state : V → Type 0) (after : V → Bytes → V) (result : V → Bytes → Bytes) (part : V → ℕ → Bytes) (restored : List Bytes → Result V (ℕ × ℕ)) (me : Identity V) : Type 0 where
+    pub machine : me.machine ≡ machine_of after result
+    pub snapshots : me.snapshots ≡ snapshots_of part restored
+    pub first : is_state me.initial
+
+  -- ---- a step
+
+  -- a replica in the middle of a step, and of a batch of which these requests are served, stands where the step stands
+  pub record StandsServing (me : Identity V) (r : Replica V) (done : Done) (served : List Placed) (x : Progress) : Type 0 where
+    pub represents : Represents me r x.history
+    pub serving : just_served x.history ≡ served
+    pub sent : done.sent ≡ map as_sent x.sent
+    pub executed : done.executed ≡ x.executed
+    pub installed : done.installed ≡ x.installed
+
+  -- between two batches of a step
+  abbrev pub StandsAt : Identity V → Replica V → Done → Progress → Type 0
+  StandsAt me r done x = StandsServing me r done [] x
+
+  -- ---- what is always so, whatever the history
+
+  -- There is a history that it represents.
+  pub record HasHistory (r : Replica V) : Type 0 where
+    pub me : Identity V
+    pub history : History
+    pub represents : Represents me r history
+
+  -- There is a step that it is in, of a host with this service, between two batches.
+  pub record IsInStep (is_state : V → Type 0) (after : V → Bytes → V) (result : V → Bytes → Bytes) (part : V → ℕ → Bytes) (restored : List Bytes → Result V (ℕ × ℕ)) (r : Replica V) (done : Done) : Type 0 where
+    pub me : Identity V
+    pub left : Progress
+    pub serves : Serves is_state after result part restored me
+    pub stands : StandsAt me r done left
+
+  -- There is a history between two events that it represents, of a host with this service.
+  pub record IsAtRest (is_state : V → Type 0) (after : V → Bytes → V) (result : V → Bytes → Bytes) (part : V → ℕ → Bytes) (restored : List Bytes → Result V (ℕ × ℕ)) (r : Replica V) : Type 0 where
+    pub me : Identity V
+    pub history : History
+    pub serves : Serves is_state after result part restored me
+    pub represents : Represents me r history
+    pub whole : IsWhole history
+
+  -- ---- what is answered
+
+  -- what became of a message, and what follows it
+  pub record Answers (me : Identity V) (m : Message) (a : GivenAnswer) (is : Answer) : Type 0 where
+    pub outcome : a.outcome ≡ is.outcome
+    pub follow : a.rules_follow ≡ rules_follow me is.outcome m
+    pub asks : a.asks ≡ asks_on me m
+
+-- a stamped message or a REPLY
+abbrev pub IsOther : Message → Type 0
+IsOther (message.Prepare m) = Unit {0}
+IsOther (message.Commit m) = Unit {0}
+IsOther (message.Reply m) = Unit {0}
+IsOther (message.Checkpoint m) = Unit {0}
+IsOther (message.ViewChange m) = Unit {0}
+IsOther (message.NewView m) = Unit {0}
+IsOther (message.Enter m) = Unit {0}
+IsOther (message.Open m) = Unit {0}
+IsOther (message.Join m) = Unit {0}
+IsOther m = ⊥

@@ -1,261 +1,222 @@
-//! What each rule does.
-
-ghost use Rattle.std.specs.Prelude.{◌≡◌, ◌<◌};
-ghost use Rattle.mb_model.specs.Execution.{if_above};
+//! Executing the batch of a position, and the CHECKPOINT behind a multiple of the interval.
 
 use crate::replica::Replica;
 use crate::sending::Done;
-use crate::tables::VIEW;
-use mb_base::{Counter, Digest, Duplicate, Items, NoMemory, Pos, Seq, Ui};
-use mb_model::LastReply;
-use mb_msg::{
-    Batch, Body, Commit, Message, Placed, Prepare, Request, Slot, To, commit_bare, prepare_bare,
-};
+use mb_base::{Client, Duplicate, Items, NoMemory, Pos, Seq};
+use mb_msg::{Batch, Message, Placed, Reply, Request, Slot, To, signed_reply};
+use mb_service::Service;
 use std::alloc::Global;
 
-/// A batch as the primary ordered it.
-#[derive(Debug, PartialEq, Drop)]
-pub struct Ordered {
-    pub pos: Pos,
-    /// The primary's counter of the PREPARE.
-    pub counter: Counter,
-    /// The primary's certificate of the PREPARE.
-    pub cert: Digest,
-    /// The digest of the batch.
-    pub digest: Digest,
-    pub batch: Batch,
-}
+impl<V: Service + Drop> Replica<V> {
+    ghost use Rattle.std.specs.Prelude.{ℕ, true, List, [], ◌∷◌, ◌++◌, Some, None, OnOk, ◌≡◌, IfOk, ◌<◌, ◌≤◌, ◌%◌, ◌==◌, length};
+    ghost use Rattle.mb_base.specs.Shapes.{client_count, interval};
+    ghost use Rattle.mb_parts.specs.declared.request.Request.{Request as RequestValue};
+    ghost use Rattle.mb_parts.specs.declared.batch.Batch.{Batch as BatchValue};
+    ghost use Rattle.mb_parts.specs.Fits.{FitsText, IsCounter, IsPlace};
+    ghost use Rattle.mb_msg.specs.Fits.{Fits};
+    ghost use Rattle.mb_msg.specs.declared.event.Placed.{Placed as PlacedValue};
+    ghost use Rattle.mb_model.specs.Histories.{Identity, History};
+    ghost use Rattle.mb_model.specs.Positions.{slot_at};
+    ghost use Rattle.mb_model.specs.EnabledRules.{next_rule, Execute};
+    ghost use Rattle.mb_model.specs.Sending.{Progress, send, to_client};
+    ghost use Rattle.mb_model.specs.Making.{reply};
+    ghost use Rattle.mb_model.specs.PlainChecks.{last_seq};
+    ghost use Rattle.mb_model.specs.Given.{stored_reply};
+    ghost use Rattle.mb_model.specs.CarriedOut.{serve_all, serve, with_reply, close_slot, at_interval, with_checkpoint, carry_out};
+    ghost use Rattle.mb_model.proofs.StepArises.{JustExecuted};
+    ghost use Rattle.mb_normal.specs.Tables.{batch_of};
+    ghost use Rattle.mb_core.specs.declared.rules.Due.TheVariants as due;
+    ghost use Rattle.mb_core.specs.Due.{IsDue};
+    ghost use Rattle.mb_core.specs.Represents.{Serves, StandsServing, StandsAt, Represents};
+    ghost use Rattle.mb_core.specs.Serving.{ServesOn, IsInBatch, IsBehindBatch, WritesShelf, KeepsWhere};
+    ghost use Rattle.mb_model.specs.States.{parts_of};
+    ghost use Rattle.mb_fetch.specs.Snapshots.{parts_at};
+    ghost use Rattle.mb_cache.specs.Represents.{snapshots_of};
 
-impl Replica {
-    ghost use Rattle.std.specs.Prelude.{◌≡◌, ◌+◌, ◌-◌, ◌^◌, ◌<◌, ◌≤◌, ◌++◌, ◌∷◌, List, [], Some, OnOk, OnErr, IfOk, IsTrue, slice_get};
-    ghost use Rattle.std.specs.List.{AllByRecursion};
-    ghost use Rattle.mb_base.specs.Shapes.{span};
-    ghost use Rattle.mb_parts.specs.Fits.{IsCounter, FitsRequest};
-    ghost use Rattle.mb_parts.specs.Bares.{batch_digest};
-    ghost use Rattle.mb_usig.specs.Tags.{certificate};
-    ghost use Rattle.mb_model.specs.Service.{is_fresh, served};
-    ghost use Rattle.mb_model.specs.Execution.{state_of};
-    ghost use Rattle.mb_model.specs.Sending.{Progress, stamp};
-    ghost use Rattle.mb_model.specs.Making.{commit, prepare};
-    ghost use Rattle.mb_model.specs.Histories.{History, Served};
-    ghost use Rattle.mb_model.specs.CarriedOut.{placed_in, serve, serve_all, close_slot, execute};
-    ghost use Rattle.mb_core.specs.Store.{store_machine};
-    ghost use Rattle.mb_core.specs.Represents.{me, RepresentsServing, StandsServing, StandsAt, StopsWithin};
-    ghost use Rattle.mb_core.specs.Due.{served_of, known_slot, HasCounter, IsPlaced, KeepsAllButService, KeepsAllButCounter};
-
-    /// Votes for a batch that the primary ordered.
-    pub(crate) fn commit(
-        &mut self,
-        alloc: Global,
-        ordered: Ordered,
-        done: &mut Done,
-    ) -> Result<(), NoMemory>
-        requires room { HasCounter self.old }
-        requires counter { IsCounter ordered.counter }
-        requires placed { IsPlaced self.old.shape ordered.pos ordered.batch }
-        ensures kept { me self.new ≡ me self.old }
-        ensures stands { (x : Progress) → StandsAt (me self.old) self.old done.old x → ordered.digest ≡ batch_digest ordered.batch
-            → OnOk result (StandsAt (me self.old) self.new done.new (stamp (me self.old) (commit (me self.old) x.history ordered.pos (known_slot ordered) ordered.batch) x)) }
-    {
-        let Ordered {
-            pos,
-            counter,
-            cert,
-            digest,
-            batch,
-        } = ordered;
-        let bare = commit_bare(alloc, VIEW, pos, counter, &cert, &digest)?;
-        let ui = self.bind(bare.as_slice());
-        let message = Message::Commit(Commit {
-            view: VIEW,
-            pos,
-            counter,
-            cert,
-            body: Body::Whole(batch),
-            ui,
-        });
-        self.send(alloc, To::All, &message, done)?;
-        self.last = pos;
-        self.tables.take_commit(VIEW, pos, &ui, counter, digest);
-        Ok(())
-    }
-
-    /// Orders a batch at a position.
-    pub(crate) fn prepare(
-        &mut self,
-        alloc: Global,
-        pos: Pos,
-        batch: Batch,
-        done: &mut Done,
-    ) -> Result<(), NoMemory>
-        requires room { HasCounter self.old }
-        requires placed { IsPlaced self.old.shape pos batch }
-        ensures kept { me self.new ≡ me self.old }
-        ensures stands { (x : Progress) → StandsAt (me self.old) self.old done.old x
-            → OnOk result (StandsAt (me self.old) self.new done.new (stamp (me self.old) (prepare (me self.old) x.history pos batch) x)) }
-    {
-        let kept = batch.duplicate(alloc)?;
-        let digest = batch.digest();
-        let bare = prepare_bare(alloc, VIEW, pos, &digest)?;
-        let ui = self.bind(bare.as_slice());
-        let message = Message::Prepare(Prepare {
-            view: VIEW,
-            pos,
-            body: Body::Whole(batch),
-            ui,
-        });
-        self.send(alloc, To::All, &message, done)?;
-        self.tables.take_prepare(VIEW, pos, &ui, digest, Some(kept));
-        self.last = pos;
-        Ok(())
-    }
-
-    /// Binds the next counter to the bare bytes of a message.
-    fn bind(&mut self, bare: &[u8]) -> Ui
-        requires { HasCounter self.old }
-        ensures ui { result ≡ record { host = self.old.host; counter = self.old.usig.counter + 1; cert = certificate self.old.usig.secret self.old.host (self.old.usig.counter + 1) bare.now } }
-        ensures counted { self.new.usig ≡ record self.old.usig { counter = self.old.usig.counter + 1 } }
-        ensures rest { KeepsAllButCounter self.old self.new }
-    {
-        match self.usig.create_ui(bare) {
-            Ok(ui) => ui,
-            Err(_) => unreachable!(),
-        }
-    }
-
-    /// Executes the batch of a position, request by request. Each fresh one is answered.
-    ///
-    /// After `NoMemory` whole requests of it are executed, which are its first, and the last executed position is below it.
+    /// Executes the batch of a position. This needs no room in the log.
     pub(crate) fn execute(
         &mut self,
         alloc: Global,
         pos: Pos,
-        batch: Batch,
         done: &mut Done,
     ) -> Result<(), NoMemory>
-        requires { IsPlaced self.old.shape pos batch }
-        ensures kept { me self.new ≡ me self.old }
-        ensures stands { (x : Progress) → StandsAt (me self.old) self.old done.old x
-            → OnOk result (StandsAt (me self.old) self.new done.new (execute (me self.old) pos batch x)) }
-        ensures stops { (x : Progress) → StandsAt (me self.old) self.old done.old x → OnErr result (StopsWithin (me self.old) self.new pos batch.requests x) }
+        requires { IsDue V.is_state V.after V.answer V.part_of V.restored self.old done.old (due.Execute pos) }
+        ensures { (me : Identity V) (x : Progress) → (b : BatchValue) → Serves V.is_state V.after V.answer V.part_of V.restored me → StandsAt me self.old done.old x → next_rule me x.history ≡ Some (Execute pos b) → OnOk result (StandsAt me self.new done.new (carry_out me (Execute pos b) x)) }
     {
-        let requests = self.execute_all(alloc, pos, batch.requests, done)?;
-        self.close_slot(pos, requests, done)
+        let Some(batch) = self.batch_at(alloc, pos)? else {
+            return Ok(());
+        };
+        let requests = self.serve_all(alloc, pos, batch, done)?;
+        self.close_slot(alloc, pos, requests, done)?;
+        self.at_interval(alloc, pos, done)
     }
 
-    /// Executes requests at a position, one after the other, and gives them back, each with whether it was fresh.
-    ///
-    /// After `NoMemory` the first of them are executed.
-    fn execute_all(
+    // ---- the requests, one after the other
+
+    /// Executes all requests of a batch, and tells which were fresh.
+    fn serve_all(
         &mut self,
         alloc: Global,
         pos: Pos,
-        requests: Items<Request>,
+        batch: Batch,
         done: &mut Done,
     ) -> Result<Items<Placed>, NoMemory>
-        requires position { pos < 2 ^ 63 }
-        requires fits { AllByRecursion (FitsRequest self.old.shape) requests }
-        ensures kept { me self.new ≡ me self.old }
-        ensures stands { (x : Progress) → StandsAt (me self.old) self.old done.old x
-            → IfOk result (λ placed. StandsServing (me self.old) self.new done.new placed (serve_all (me self.old) pos requests x)) }
-        ensures stops { (x : Progress) → StandsAt (me self.old) self.old done.old x → OnErr result (StopsWithin (me self.old) self.new pos requests x) }
+        requires { IsInBatch V.is_state V.after V.answer V.part_of V.restored self.old done.old pos batch.requests [] }
+        ensures { (me : Identity V) (x : Progress) → Serves V.is_state V.after V.answer V.part_of V.restored me → ServesOn me self.old done.old pos batch.requests [] x → IfOk result (λ served. ServesOn me self.new done.new pos [] served (serve_all me pos batch.requests x)) }
     {
-        let mut placed = Items::new(alloc);
-        for request in requests.into_vec() {
-            let fresh = self.execute_one(alloc, pos, &request, done)?;
-            placed.push(Placed { request, fresh })?;
+        let mut requests = Items::new(alloc);
+        for request in batch.requests.into_vec() {
+            let fresh = self.serve(alloc, pos, &request, done)?;
+            requests.push(Placed { request, fresh })?;
         }
-        Ok(placed)
+        Ok(requests)
     }
 
-    /// Executes a request at a position, and tells whether it is fresh. A fresh one is answered.
-    ///
-    /// After `NoMemory` it is executed, or the replica is as it was.
-    fn execute_one(
+    /// Executes a request, and tells whether it is fresh.
+    fn serve(
         &mut self,
         alloc: Global,
         pos: Pos,
         request: &Request,
         done: &mut Done,
     ) -> Result<bool, NoMemory>
-        requires position { pos < 2 ^ 63 }
-        requires fits { FitsRequest self.old.shape request.now }
-        ensures kept { me self.new ≡ me self.old }
-        ensures stands { (x : Progress) (serving : List Placed) → StandsServing (me self.old) self.old done.old serving x
-            → IfOk result (λ fresh. StandsServing (me self.old) self.new done.new (serving ++ record { request = request.now; fresh = fresh } ∷ []) (serve (me self.old) pos request.now x)) }
-        ensures stops { (x : Progress) (serving : List Placed) → StandsServing (me self.old) self.old done.old serving x → OnErr result (StopsWithin (me self.old) self.new pos (request.now ∷ []) x) }
+        requires { (more : List RequestValue) × ((served : List PlacedValue) × IsInBatch V.is_state V.after V.answer V.part_of V.restored self.old done.old pos (request.now ∷ more) served) }
+        ensures { (me : Identity V) (x : Progress) (more : List RequestValue) (served : List PlacedValue) → Serves V.is_state V.after V.answer V.part_of V.restored me → ServesOn me self.old done.old pos (request.now ∷ more) served x → IfOk result (λ fresh. ServesOn me self.new done.new pos more (served ++ (record { request = request.now; fresh = fresh }) ∷ []) (serve me pos request.now x)) }
     {
-        if self.append(alloc, pos, request)? {
-            self.send_reply(alloc, request.client, done)?;
-            return Ok(true);
-        }
-        Ok(false)
-    }
-
-    /// Serves a request at a position, and tells whether it is fresh. After `NoMemory` it is not served.
-    fn append(&mut self, alloc: Global, pos: Pos, request: &Request) -> Result<bool, NoMemory>
-        requires position { pos < 2 ^ 63 }
-        requires fits { FitsRequest self.old.shape request.now }
-        ensures kept { me self.new ≡ me self.old }
-        ensures stands { (d : History) (serving : List Placed) → RepresentsServing (me self.old) self.old serving d
-            → IfOk result (λ fresh. RepresentsServing (me self.old) self.new (serving ++ record { request = request.now; fresh = fresh } ∷ []) (Served pos (placed_in (me self.old) d request.now) ∷ d)) }
-        ensures unserved { (d : History) (serving : List Placed) → RepresentsServing (me self.old) self.old serving d → OnErr result (RepresentsServing (me self.old) self.new serving d) }
-        ensures fresh { (d : History) (serving : List Placed) → RepresentsServing (me self.old) self.old serving d → IfOk result (λ fresh. fresh ≡ is_fresh (state_of (me self.old) d) request.now) }
-        ensures some { IfOk result (λ fresh. IsTrue fresh → (a : LastReply) → slice_get self.new.replies.items request.now.client ≡ Some a → 1 ≤ a.seq) }
-    {
-        let fresh = self.serve(alloc, pos, request)?;
-        settle(&mut self.pending[usize::from(request.client)], request.seq);
+        let fresh = self.keeper.execute(alloc, pos, request)?;
+        self.agreement.normal.settle(request.client, request.seq);
+        self.with_reply(alloc, fresh, request.client, done)?;
         Ok(fresh)
     }
 
-    /// The position of the requests that were served is executed. After `NoMemory` it is not.
+    /// A fresh request is answered to its client.
+    fn with_reply(
+        &self,
+        alloc: Global,
+        fresh: bool,
+        client: Client,
+        done: &mut Done,
+    ) -> Result<(), NoMemory>
+        requires client { client < client_count self.now.agreement.shape }
+        requires clients { length self.now.keeper.served.table ≡ client_count self.now.agreement.shape }
+        ensures { (me : Identity V) (x : Progress) (p : PlacedValue) (served : List PlacedValue) → StandsServing me self.now done.old served x → p.request.client ≡ client → p.fresh ≡ fresh → (fresh ≡ true → 1 ≤ last_seq me x.history client) → OnOk result (StandsServing me self.now done.new served (with_reply me p x)) }
+    {
+        if fresh {
+            return self.send_stored_reply(alloc, client, done);
+        }
+        Ok(())
+    }
+
+    /// Sends a client the reply to its last executed request, where there is one.
+    pub(crate) fn send_stored_reply(
+        &self,
+        alloc: Global,
+        client: Client,
+        done: &mut Done,
+    ) -> Result<(), NoMemory>
+        requires client { client < client_count self.now.agreement.shape }
+        requires clients { length self.now.keeper.served.table ≡ client_count self.now.agreement.shape }
+        ensures { (me : Identity V) (x : Progress) (served : List PlacedValue) → StandsServing me self.now done.old served x → 1 ≤ last_seq me x.history client → OnOk result (StandsServing me self.now done.new served (send (to_client client (stored_reply me x.history client)) x)) }
+    {
+        match self.keeper.reply(client) {
+            Some((seq, pos, answer)) => {
+                let message = self.reply(alloc, client, seq, pos, answer)?;
+                self.send(alloc, To::Client(client), &message, done)
+            }
+            None => Ok(()),
+        }
+    }
+
+    // ---- the whole batch
+
+    /// The position is executed.
     fn close_slot(
         &mut self,
+        alloc: Global,
         pos: Pos,
         requests: Items<Placed>,
         done: &mut Done,
     ) -> Result<(), NoMemory>
-        requires { pos ≤ span self.old.shape }
-        ensures kept { me self.new ≡ me self.old }
-        ensures stands { (x : Progress) → StandsServing (me self.old) self.old done.old requests x
-            → OnOk result (StandsAt (me self.old) self.new done.new (close_slot (me self.old) pos x)) }
-        ensures unchanged { OnErr result (self.new ≡ self.old) }
+        requires { IsInBatch V.is_state V.after V.answer V.part_of V.restored self.old done.old pos [] requests }
+        ensures { (me : Identity V) (x : Progress) → Serves V.is_state V.after V.answer V.part_of V.restored me → ServesOn me self.old done.old pos [] requests x → OnOk result (StandsAt me self.new done.new (close_slot me pos x)) }
     {
+        self.keep_at_interval(alloc, pos)?;
+        self.agreement.exec = pos;
         done.executed.push(Slot { pos, requests })?;
-        self.exec = pos;
         Ok(())
     }
 
-    /// Applies a request that is numbered above its client's last one, and stores the reply. After `NoMemory` the service is as it was.
-    fn serve(&mut self, alloc: Global, pos: Pos, request: &Request) -> Result<bool, NoMemory>
-        requires position { pos < 2 ^ 63 }
-        requires fits { FitsRequest self.old.shape request.now }
-        ensures rest { KeepsAllButService self.old self.new }
-        ensures served { OnOk result (served_of self.new ≡ served store_machine (served_of self.old) pos request.now) }
-        ensures fresh { IfOk result (λ fresh. fresh ≡ is_fresh (served_of self.old) request.now) }
-        ensures unserved { OnErr result (served_of self.new ≡ served_of self.old) }
+    /// At a multiple of the interval a snapshot is kept of the present state.
+    fn keep_at_interval(&mut self, alloc: Global, pos: Pos) -> Result<(), NoMemory>
+        requires above { (other : ℕ) → pos ≤ other → parts_at self.old.keeper.snapshots other ≡ None }
+        requires room { length self.old.keeper.snapshots < 3 }
+        ensures writes { OnOk result (WritesShelf self.old self.new) }
+        ensures kept { OnOk result (KeepsWhere (pos % interval self.old.agreement.shape == 0) pos (parts_of (snapshots_of V.part_of V.restored) self.old.keeper.served) self.old.keeper.snapshots self.new.keeper.snapshots) }
     {
-        let client = usize::from(request.client);
-        if request.seq <= self.replies[client].seq {
-            return Ok(false);
+        if !self.is_at_interval(pos) {
+            return Ok(());
         }
-        let result = self.store.apply(alloc, request.op.as_slice())?;
-        self.replies[client] = LastReply {
-            seq: request.seq,
-            pos,
-            result,
-        };
-        Ok(true)
+        self.keeper.keep_snapshot(alloc, pos)
     }
-}
 
-/// A request that waits is dropped where its number is at most this one.
-fn settle(waiting: &mut Option<Request>, seq: Seq)
-    ensures { waiting.new ≡ if_above seq waiting.old }
-{
-    if let Some(request) = waiting {
-        if request.seq <= seq {
-            *waiting = None;
+    /// At a multiple of the interval a CHECKPOINT follows.
+    fn at_interval(&mut self, alloc: Global, pos: Pos, done: &mut Done) -> Result<(), NoMemory>
+        requires { IsBehindBatch V.is_state V.after V.answer V.part_of V.restored self.old done.old pos }
+        ensures { (me : Identity V) (x : Progress) → Serves V.is_state V.after V.answer V.part_of V.restored me → StandsAt me self.old done.old x → JustExecuted me x.history pos → OnOk result (StandsAt me self.new done.new (at_interval me pos x)) }
+    {
+        if self.is_at_interval(pos) {
+            return self.with_checkpoint(alloc, pos, done);
         }
+        Ok(())
+    }
+
+    /// A CHECKPOINT is stamped where there is room for one at this moment, and else never.
+    fn with_checkpoint(&mut self, alloc: Global, pos: Pos, done: &mut Done) -> Result<(), NoMemory>
+        requires interval { (pos % interval self.old.agreement.shape == 0) ≡ true }
+        requires standing { IsBehindBatch V.is_state V.after V.answer V.part_of V.restored self.old done.old pos }
+        ensures { (me : Identity V) (x : Progress) → Serves V.is_state V.after V.answer V.part_of V.restored me → StandsAt me self.old done.old x → JustExecuted me x.history pos → OnOk result (StandsAt me self.new done.new (with_checkpoint me pos x)) }
+    {
+        if !self.has_room() {
+            return Ok(());
+        }
+        let state = self.keeper.digest(alloc, pos)?;
+        self.checkpoint(alloc, pos, state, done)
+    }
+
+    /// A copy of the batch that is known at a position.
+    fn batch_at(&self, alloc: Global, pos: Pos) -> Result<Option<Batch>, NoMemory>
+        ensures { (me : Identity V) (d : History) → Represents me self.now d → IfOk result (λ b. b ≡ batch_of (slot_at me d pos)) }
+    {
+        match self.agreement.normal.batch_at(pos) {
+            Some(batch) => Ok(Some(batch.duplicate(alloc)?)),
+            None => Ok(None),
+        }
+    }
+
+    /// The reply to a client's request, with its tag.
+    fn reply(
+        &self,
+        alloc: Global,
+        client: Client,
+        seq: Seq,
+        pos: Pos,
+        answer: &[u8],
+    ) -> Result<Message, NoMemory>
+        requires client { client < client_count self.now.agreement.shape }
+        requires seq { IsCounter seq }
+        requires place { IsPlace pos }
+        requires short { FitsText answer.now }
+        ensures reply { (me : Identity V) (d : History) → Represents me self.now d → IfOk result (λ m. m ≡ reply me client (record { seq = seq; pos = pos; result = answer.now })) }
+        ensures fits { IfOk result (Fits self.now.agreement.shape) }
+    {
+        let signed = signed_reply(alloc, client, seq, pos, answer)?;
+        Ok(Message::Reply(Reply {
+            host: self.agreement.host,
+            client,
+            seq,
+            pos,
+            result: Items::from_vec(Vec::from_slice(alloc, answer)?),
+            tag: self.agreement.usig.tag_reply(client, signed.as_slice()),
+        }))
     }
 }

@@ -1,18 +1,22 @@
-//! A host: the tables that it keeps, and its step over one event.
+//! A host, and its step over one event.
 
-ghost use Rattle.std.specs.Prelude.{◌≡◌, ◌<◌, ◌≤◌, ◌*◌, length, replicate, IfOk};
-ghost use Rattle.mb_base.specs.Shapes.{host_count, client_count, span, interval};
-ghost use Rattle.mb_model.specs.Service.{no_reply};
-ghost use Rattle.mb_model.specs.Built.{first_path};
-ghost use Rattle.mb_core.specs.Sound.{RequestsFit, RepliesFit};
+ghost use Rattle.std.specs.Prelude.{◌≡◌, ◌<◌, [], length, false, IfOk};
+ghost use Rattle.mb_base.specs.Shapes.{host_count};
+ghost use Rattle.mb_model.specs.Histories.{Identity, History, here};
+ghost use Rattle.mb_model.specs.Stable.{low_of};
+ghost use Rattle.mb_model.specs.OwnLog.{own_log, log_longest};
+ghost use Rattle.mb_model.specs.Positions.{exec_of};
+ghost use Rattle.mb_model.specs.HostStep.{transition};
+ghost use Rattle.mb_model.proofs.StepArises.{IsWhole};
+ghost use Rattle.mb_core.specs.Halting.{Halts};
+ghost use Rattle.mb_core.specs.Represents.{Represents, Serves, IsHost, IsAtRest, IsStep};
 
+use crate::agreement::Agreement;
 use crate::sending::Done;
-use crate::store::Store;
-use crate::tables::{LOW, Tables, VIEW};
-use mb_base::{Host, Items, Key, NoMemory, Pos, Shape, View};
-use mb_model::LastReply;
-use mb_msg::{Event, Message, Outcome, Request, Step, Undecoded, decode};
-use mb_usig::Usig;
+use mb_base::{Host, Items, Key, NoMemory, Pos, Shape};
+use mb_keeper::Keeper;
+use mb_msg::{Event, Floor, Step};
+use mb_service::Service;
 use std::alloc::Global;
 
 /// Why a step did not end.
@@ -26,84 +30,56 @@ pub enum Stop {
 
 /// A host of the protocol.
 #[derive(Drop)]
-pub struct Replica {
-    pub(crate) shape: Shape,
-    pub(crate) host: Host,
-    pub(crate) usig: Usig,
-    pub(crate) tables: Tables,
-    /// The last position that this host voted for.
-    pub(crate) last: Pos,
-    /// The last executed position.
-    pub(crate) exec: Pos,
-    /// For each client, the request that waits to be executed.
-    pub(crate) pending: Vec<Option<Request>>,
-    /// For each client, its last executed request.
-    pub(crate) replies: Vec<LastReply>,
-    pub(crate) store: Store,
+pub struct Replica<V: Service> {
+    pub(crate) agreement: Agreement,
+    pub(crate) keeper: Keeper<V>,
+    /// The bare bytes of what this host stamped in its last step, oldest first.
+    said: Vec<Items<u8>>,
     halted: bool,
-    ghost host_in: { host < host_count shape },
-    ghost one_shape: { (usig.shape ≡ shape) × (tables.shape ≡ shape) },
-    ghost one_host: { usig.host ≡ host },
-    ghost pending_len: { length pending.items ≡ client_count shape },
-    ghost replies_len: { length replies.items ≡ client_count shape },
-    ghost log_in: { usig.counter ≤ 6 * interval shape },
-    ghost last_in: { last ≤ span shape },
-    ghost exec_in: { exec ≤ span shape },
-    ghost pending_fit: { RequestsFit shape pending.items },
-    ghost replies_fit: { RepliesFit replies.items },
 }
 
-impl Replica {
-    ghost use Rattle.std.specs.Prelude.{◌≡◌, ◌<◌, [], IfOk, true, false};
-    ghost use Rattle.mb_base.specs.Shapes.{host_count};
-    ghost use Rattle.mb_msg.specs.Fits.{Fits, FitsFields};
-    ghost use Rattle.mb_msg.specs.Spelling.{kind_of};
-    ghost use Rattle.mb_msg.specs.Reading.{message_of};
-    ghost use Rattle.mb_model.specs.Histories.{History};
-    ghost use Rattle.mb_model.specs.Sending.{begin};
-    ghost use Rattle.mb_model.specs.Built.{first_path};
-    ghost use Rattle.mb_model.specs.Given.{give};
-    ghost use Rattle.mb_model.specs.HostStep.{after_message, on_message, on_bytes, transition};
-    ghost use Rattle.mb_core.specs.Halting.{Halts};
-    ghost use Rattle.mb_core.specs.Represents.{Represents, IsStep, host_with, me};
-
-    /// A host that nothing has happened to.
-    pub fn make(alloc: Global, shape: Shape, host: Host, secret: &Key) -> Result<Replica, NoMemory>
+impl<V: Service + Drop> Replica<V> {
+    /// A host that nothing has happened to. Its number is below the number of hosts.
+    pub fn make(
+        alloc: Global,
+        shape: Shape,
+        host: Host,
+        secret: &Key,
+        service: V,
+    ) -> Result<Replica<V>, NoMemory>
         requires { host < host_count shape }
-        ensures stands { IfOk result (λ r. Represents (host_with shape host secret.now) r []) }
+        ensures stands { (me : Identity V) → Serves V.is_state V.after V.answer V.part_of V.restored me → me.initial ≡ service → IfOk result (λ r. IsHost me r → Represents me r []) }
+        ensures host { IfOk result (λ r. (r.agreement.shape ≡ shape) × (r.agreement.host ≡ host) × (r.agreement.usig.secret ≡ secret.now)) }
+        ensures rests { IfOk result (λ r. IsAtRest V.is_state V.after V.answer V.part_of V.restored r) }
         ensures runs { IfOk result (λ r. r.halted ≡ false) }
     {
-        let clients = usize::from(shape.clients());
+        service.known();
         Ok(Replica {
-            shape,
-            host,
-            usig: Usig::new(shape, host, secret),
-            tables: Tables::make(alloc, shape)?,
-            last: 0,
-            exec: 0,
-            pending: no_requests(alloc, clients)?,
-            replies: no_replies(alloc, clients)?,
-            store: Store::new(alloc),
+            agreement: Agreement::make(alloc, shape, host, secret)?,
+            keeper: Keeper::make(alloc, shape, service)?,
+            said: Vec::new(alloc),
             halted: false,
         })
     }
 
-    /// One event at this host: its outcome, and what it sent and executed.
+    /// One event at this host: its outcome, and what it sent, executed and took over.
     ///
-    /// After `NoMemory` every later call is `Halted`, and only then. Where it came within a batch, whole requests of the batch are executed,
-    /// which are its first, and the last executed position is below it. The contracts of `carry_out` and `execute` say so, and not this one,
-    /// which says nothing of the tables then.
+    /// After `NoMemory` every later call is `Halted`, and only then.
     pub fn step(&mut self, alloc: Global, event: &Event) -> Result<Step, Stop>
-        ensures kept { me self.new ≡ me self.old }
-        ensures stands { (d : History) → Represents (me self.old) self.old d
-            → IfOk result (λ s. IsStep s (transition (me self.old) d event.now) × Represents (me self.old) self.new (transition (me self.old) d event.now).left.history) }
+        requires { self.old.halted ≡ false → IsAtRest V.is_state V.after V.answer V.part_of V.restored self.old }
+        ensures stands { (me : Identity V) (d : History) → Serves V.is_state V.after V.answer V.part_of V.restored me → Represents me self.old d → IsWhole d
+            → IfOk result (λ s. IsStep s (transition me d event.now) × Represents me self.new (transition me d event.now).left.history) }
+        ensures rests { self.new.halted ≡ false → IsAtRest V.is_state V.after V.answer V.part_of V.restored self.new }
         ensures halts { Halts self.old result self.new }
     {
         if self.halted {
             return Err(Stop::Halted);
         }
-        match self.on_event(alloc, event) {
-            Ok(step) => {
+        let mut done = Done::new(alloc);
+        match self.on_event(alloc, event, &mut done) {
+            Ok(outcome) => {
+                let (step, said) = done.into_step(outcome);
+                self.said = said;
                 self.halted = false;
                 Ok(step)
             }
@@ -114,136 +90,68 @@ impl Replica {
         }
     }
 
+    // ---- what is seen of a host
+
+    pub fn shape(&self) -> Shape
+        ensures { result ≡ self.now.agreement.shape }
+    {
+        self.agreement.shape
+    }
+
+    /// The number of this host.
+    pub fn host(&self) -> Host
+        ensures { result ≡ self.now.agreement.host }
+    {
+        self.agreement.host
+    }
+
+    /// Where this host stands: where the gate for its own messages stands.
+    pub fn at(&self) -> Floor
+        ensures { (me : Identity V) (d : History) → Represents me self.now d → result ≡ here me d }
+    {
+        self.here()
+    }
+
+    /// The last executed position.
+    pub fn exec(&self) -> Pos
+        ensures { (me : Identity V) (d : History) → Represents me self.now d → result ≡ exec_of d }
+    {
+        self.agreement.exec
+    }
+
+    /// The stable position.
+    pub fn low(&self) -> Pos
+        ensures low_is { result ≡ self.now.agreement.stable.pos }
+        ensures reads { (me : Identity V) (d : History) → Represents me self.now d → result ≡ low_of me d }
+    {
+        self.agreement.stable.pos
+    }
+
+    /// The number of messages in the own log.
+    pub fn log_len(&self) -> u32
+        ensures { (me : Identity V) (d : History) → Represents me self.now d → result ≡ length (own_log me d) }
+    {
+        self.agreement.log.len()
+    }
+
+    /// The most messages that the own log ever held.
+    pub fn log_longest(&self) -> u32
+        ensures { (me : Identity V) (d : History) → Represents me self.now d → result ≡ log_longest me d }
+    {
+        self.agreement.log.longest()
+    }
+
+    /// The bare bytes of what this host stamped in its last step that ended, oldest first.
+    pub fn said(&self) -> &[Items<u8>]
+        ensures { result.now ≡ self.now.said.items }
+    {
+        self.said.as_slice()
+    }
+
     /// Whether an earlier step ran out of memory.
     pub fn halted(&self) -> bool
         ensures { result ≡ self.now.halted }
     {
         self.halted
     }
-
-    /// The number of this host.
-    pub fn host(&self) -> Host
-        ensures { result ≡ self.now.host }
-    {
-        self.host
-    }
-
-    /// The view that this host stands in.
-    pub fn view(&self) -> View
-        ensures { result ≡ VIEW }
-    {
-        VIEW
-    }
-
-    /// The stable position.
-    pub fn low(&self) -> Pos
-        ensures { result ≡ LOW }
-    {
-        LOW
-    }
-
-    /// The last executed position.
-    pub fn exec(&self) -> Pos
-        ensures { result ≡ self.now.exec }
-    {
-        self.exec
-    }
-
-    /// The number of messages in the own log, from which nothing is cut until checkpoints are built.
-    pub fn log_len(&self) -> u32
-        ensures { result ≡ self.now.usig.counter }
-    {
-        self.usig.counter() as u32
-    }
-
-    #[tactic(auto, unfolding(mb_model::specs::HostStep::transition))]
-    fn on_event(&mut self, alloc: Global, event: &Event) -> Result<Step, NoMemory>
-        ensures kept { me self.new ≡ me self.old }
-        ensures stands { (d : History) → Represents (me self.old) self.old d
-            → IfOk result (λ s. IsStep s (transition (me self.old) d event.now) × Represents (me self.old) self.new (transition (me self.old) d event.now).left.history) }
-    {
-        match event {
-            Event::Given(bytes) => self.on_bytes(alloc, bytes.as_slice()),
-            Event::Patience | Event::Nudge => Ok(Done::new(alloc).into_step(Outcome::Idle)),
-        }
-    }
-
-    fn on_bytes(&mut self, alloc: Global, bytes: &[u8]) -> Result<Step, NoMemory>
-        ensures kept { me self.new ≡ me self.old }
-        ensures stands { (d : History) → Represents (me self.old) self.old d
-            → IfOk result (λ s. IsStep s (on_bytes (me self.old) (message_of self.old.shape bytes.now) d)
-            × Represents (me self.old) self.new (on_bytes (me self.old) (message_of self.old.shape bytes.now) d).left.history) }
-    {
-        match decode(alloc, &self.shape, bytes) {
-            Ok(message) => self.on_message(alloc, message),
-            Err(Undecoded::Malformed { at }) => {
-                Ok(Done::new(alloc).into_step(Outcome::Malformed { at }))
-            }
-            Err(Undecoded::NoMemory) => Err(NoMemory),
-        }
-    }
-
-    /// Of a kind that isn't built the kind alone is told.
-    fn on_message(&mut self, alloc: Global, message: Message) -> Result<Step, NoMemory>
-        requires { Fits self.old.shape message }
-        ensures kept { me self.new ≡ me self.old }
-        ensures stands { (d : History) → Represents (me self.old) self.old d
-            → IfOk result (λ s. IsStep s (on_message (me self.old) d message) × Represents (me self.old) self.new (on_message (me self.old) d message).left.history) }
-    {
-        let kind = message.kind();
-        if !is_built(kind) {
-            return Ok(Done::new(alloc).into_step(Outcome::Unbuilt { kind }));
-        }
-        self.on_built(alloc, message)
-    }
-
-    /// The rules follow what was taken.
-    fn on_built(&mut self, alloc: Global, message: Message) -> Result<Step, NoMemory>
-        requires fits { FitsFields self.old.shape message }
-        requires built { first_path.kinds (kind_of message) ≡ true }
-        ensures kept { me self.new ≡ me self.old }
-        ensures stands { (d : History) → Represents (me self.old) self.old d
-            → IfOk result (λ s. IsStep s (after_message (me self.old) message d (give (me self.old) message (begin d)))
-            × Represents (me self.old) self.new (after_message (me self.old) message d (give (me self.old) message (begin d))).left.history) }
-    {
-        let mut done = Done::new(alloc);
-        match self.give(alloc, message, &mut done)? {
-            Outcome::Took => {
-                self.run_rules(alloc, &mut done)?;
-                Ok(done.into_step(Outcome::Took))
-            }
-            outcome => Ok(done.into_step(outcome)),
-        }
-    }
-}
-
-/// Whether hosts act on messages of this kind so far: REQUEST, PREPARE, COMMIT and REPLY.
-fn is_built(kind: u8) -> bool
-    ensures { result ≡ first_path.kinds kind }
-{
-    kind <= 4
-}
-
-fn no_requests(alloc: Global, count: usize) -> Result<Vec<Option<Request>>, NoMemory>
-    ensures { IfOk result (λ v. v.items ≡ replicate count None) }
-{
-    let mut all = Vec::with_capacity(alloc, count)?;
-    for _ in 0..count {
-        all.push(None)?;
-    }
-    Ok(all)
-}
-
-fn no_replies(alloc: Global, count: usize) -> Result<Vec<LastReply>, NoMemory>
-    ensures { IfOk result (λ v. v.items ≡ replicate count no_reply) }
-{
-    let mut all = Vec::with_capacity(alloc, count)?;
-    for _ in 0..count {
-        all.push(LastReply {
-            seq: 0,
-            pos: 0,
-            result: Items::new(alloc),
-        })?;
-    }
-    Ok(all)
 }

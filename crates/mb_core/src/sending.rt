@@ -1,58 +1,82 @@
-//! What a step has sent and executed so far, and the replies that a host makes.
-
-ghost use Rattle.std.specs.Prelude.{◌≡◌, ◌<◌};
+//! What a step has sent, executed, installed and stamped so far.
 
 use crate::replica::Replica;
-use mb_base::{Client, Duplicate, Items, NoMemory};
-use mb_model::LastReply;
-use mb_msg::{Message, Outcome, Reply, Sent, Slot, Step, To, encode, signed_reply};
+use mb_base::{Items, NoMemory, Pos};
+use mb_msg::{Message, Outcome, Sent, Slot, Stamped, Step, To, encode, encode_stamped};
+use mb_service::Service;
 use std::alloc::Global;
 
-/// What a step has sent and executed so far, oldest first.
+/// What a step has done so far, oldest first.
 #[derive(Drop)]
-pub struct Done {
-    pub sent: Items<Sent>,
-    pub executed: Items<Slot>,
+pub(crate) struct Done {
+    pub(crate) sent: Items<Sent>,
+    pub(crate) executed: Items<Slot>,
+    /// The position of the state that it installed.
+    pub(crate) installed: Option<Pos>,
+    /// The bare bytes of what it stamped.
+    pub(crate) said: Vec<Items<u8>>,
 }
 
 impl Done {
-    ghost use Rattle.std.specs.Prelude.{◌≡◌, [], None};
+    ghost use Rattle.std.specs.Prelude.{[], ◌∷◌, ◌++◌, ◌≡◌, None, OnOk};
 
     /// Nothing yet.
-    pub fn new(alloc: Global) -> Done
-        ensures { result ≡ record { sent = []; executed = [] } }
+    pub(crate) fn new(alloc: Global) -> Done
+        ensures sent { result.sent ≡ [] }
+        ensures executed { result.executed ≡ [] }
+        ensures installed { result.installed ≡ None }
+        ensures said { result.said.items ≡ [] }
     {
         Done {
             sent: Items::new(alloc),
             executed: Items::new(alloc),
+            installed: None,
+            said: Vec::new(alloc),
         }
     }
 
-    /// The whole step, with its outcome.
-    pub fn into_step(self, outcome: Outcome) -> Step
-        ensures { result ≡ record { outcome = outcome; sent = self.sent; executed = self.executed; adopted = None } }
+    /// The whole step, with its outcome; and the bare bytes of what it stamped.
+    pub(crate) fn into_step(self, outcome: Outcome) -> (Step, Vec<Items<u8>>)
+        ensures step { result.0 ≡ record { outcome = outcome; sent = self.sent; executed = self.executed; adopted = self.installed } }
+        ensures said { result.1 ≡ self.said }
     {
-        Step {
+        let Done {
+            sent,
+            executed,
+            installed,
+            said,
+        } = self;
+        let step = Step {
             outcome,
-            sent: self.sent,
-            executed: self.executed,
-            adopted: None,
-        }
+            sent,
+            executed,
+            adopted: installed,
+        };
+        (step, said)
+    }
+
+    fn push(&mut self, to: To, bytes: Vec<u8>) -> Result<(), NoMemory>
+        ensures kept { (self.new.executed ≡ self.old.executed) × (self.new.installed ≡ self.old.installed) }
+        ensures said { self.new.said ≡ self.old.said }
+        ensures sent { OnOk result (self.new.sent ≡ self.old.sent ++ (record { to = to; bytes = bytes.items }) ∷ []) }
+    {
+        self.sent.push(Sent {
+            to,
+            bytes: Items::from_vec(bytes),
+        })?;
+        Ok(())
     }
 }
 
-impl Replica {
-    ghost use Rattle.std.specs.Prelude.{◌≡◌, ◌<◌, ◌≤◌, ◌++◌, ◌∷◌, [], List, OnOk, IfOk, Some, slice_get};
+impl<V: Service + Drop> Replica<V> {
+    ghost use Rattle.std.specs.Prelude.{[], ◌∷◌, ◌++◌, ◌≡◌, OnOk};
+    ghost use Rattle.mb_core.specs.Represents.{as_sent, StandsServing};
+    ghost use Rattle.std.specs.Prelude.{List};
     ghost use Rattle.mb_msg.specs.declared.event.Placed.{Placed};
-    ghost use Rattle.mb_base.specs.Shapes.{client_count};
-    ghost use Rattle.mb_parts.specs.Fits.{FitsText};
-    ghost use Rattle.mb_msg.specs.Fits.{Fits};
-    ghost use Rattle.mb_model.specs.Service.{reply_of};
-    ghost use Rattle.mb_model.specs.Histories.{History};
-    ghost use Rattle.mb_model.specs.Execution.{state_of};
-    ghost use Rattle.mb_model.specs.Sending.{to_client};
-    ghost use Rattle.mb_model.specs.Making.{reply};
-    ghost use Rattle.mb_core.specs.Represents.{RepresentsServing, me, as_sent};
+    ghost use Rattle.mb_msg.specs.Fits.{Fits, FitsStamped};
+    ghost use Rattle.mb_msg.specs.Stamps.{as_message};
+    ghost use Rattle.mb_model.specs.Histories.{Identity};
+    ghost use Rattle.mb_model.specs.Sending.{Progress, send, to_all};
 
     /// Sends a message.
     pub(crate) fn send(
@@ -62,54 +86,27 @@ impl Replica {
         message: &Message,
         done: &mut Done,
     ) -> Result<(), NoMemory>
-        requires { Fits self.now.shape message.now }
-        ensures sent { OnOk result (done.new.sent ≡ done.old.sent ++ as_sent (record { to = to; says = message.now }) ∷ []) }
-        ensures executed { done.new.executed ≡ done.old.executed }
+        requires { Fits self.now.agreement.shape message.now }
+        ensures { (me : Identity V) (x : Progress) (served : List Placed) → StandsServing me self.now done.old served x → OnOk result (StandsServing me self.now done.new served (send (record { to = to; says = message.now }) x)) }
     {
-        let bytes = encode(alloc, &self.shape, message)?;
-        done.sent.push(Sent {
-            to,
-            bytes: Items::from_vec(bytes),
-        })?;
-        Ok(())
+        done.push(to, encode(alloc, &self.agreement.shape, message)?)
     }
 
-    /// The reply to a client's last executed request.
-    fn reply_with(
+    /// Sends a stamped message to all.
+    pub(crate) fn send_stamped(
         &self,
         alloc: Global,
-        client: Client,
-        last: &LastReply,
-    ) -> Result<Message, NoMemory>
-        requires client { client < client_count self.now.shape }
-        requires text { FitsText last.now.result }
-        ensures { IfOk result (λ m. m ≡ reply (me self.now) client last.now) }
-    {
-        let signed = signed_reply(alloc, client, last.seq, last.pos, last.result.as_slice())?;
-        Ok(Message::Reply(Reply {
-            host: self.host,
-            client,
-            seq: last.seq,
-            pos: last.pos,
-            result: last.result.duplicate(alloc)?,
-            tag: self.usig.tag_reply(client, signed.as_slice()),
-        }))
-    }
-
-    /// Sends a client the reply to its last executed request.
-    pub(crate) fn send_reply(
-        &self,
-        alloc: Global,
-        client: Client,
+        message: &Stamped,
         done: &mut Done,
     ) -> Result<(), NoMemory>
-        requires client { client < client_count self.now.shape }
-        requires some { (a : LastReply) → slice_get self.now.replies.items client ≡ Some a → 1 ≤ a.seq }
-        ensures sent { (d : History) (served : List Placed) → RepresentsServing (me self.now) self.now served d
-            → OnOk result (done.new.sent ≡ done.old.sent ++ as_sent (to_client client (reply (me self.now) client (reply_of (state_of (me self.now) d) client))) ∷ []) }
-        ensures executed { done.new.executed ≡ done.old.executed }
+        requires { FitsStamped self.now.agreement.shape message.now }
+        ensures kept { (done.new.executed ≡ done.old.executed) × (done.new.installed ≡ done.old.installed) }
+        ensures said { done.new.said ≡ done.old.said }
+        ensures sent { OnOk result (done.new.sent ≡ done.old.sent ++ as_sent (to_all (as_message message.now)) ∷ []) }
     {
-        let message = self.reply_with(alloc, client, &self.replies[usize::from(client)])?;
-        self.send(alloc, To::Client(client), &message, done)
+        done.push(
+            To::All,
+            encode_stamped(alloc, &self.agreement.shape, message)?,
+        )
     }
 }

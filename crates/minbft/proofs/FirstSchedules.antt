@@ -16,8 +16,8 @@ use Rattle.minbft.specs.Unbuilt.{is_built, is_some_marked, names_faulty, unbuilt
 use Rattle.mb_theory.specs.Hashed.{HashesApart}
 use Rattle.mb_theory.specs.Safety.{IsSafe}
 use Rattle.mb_theory.proofs.Safe.{one_history}
-use Rattle.mb_core.specs.Store.{Pairs, store_machine}
-use Rattle.mb_core.specs.Represents.{no_snapshots}
+use Rattle.mb_early.specs.Store.{Pairs, store_machine}
+use Rattle.mb_early.specs.Represents.{no_snapshots}
 use Rattle.minbft.specs.World.{system_of, world}
 use Rattle.minbft.specs.WorldTables.{AllCorrect}
 use Rattle.minbft.proofs.OneSchedule.{schedule}

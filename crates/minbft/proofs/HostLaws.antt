@@ -12,9 +12,9 @@ use Rattle.mb_model.specs.OwnLog.{own_log, log_longest}
 use Rattle.mb_model.specs.Positions.{exec_of}
 use Rattle.mb_model.specs.HostStep.{transition}
 use Rattle.mb_sched.specs.declared.schedule.Schedule.{Schedule}
-use Rattle.mb_core.specs.declared.replica.Replica.{Replica}
-use Rattle.mb_core.specs.Represents.{Represents, IsStep, host_with, me}
-use Rattle.mb_core.specs.Store.{Pairs}
+use Rattle.mb_early.specs.declared.replica.Replica.{Replica}
+use Rattle.mb_early.specs.Represents.{Represents, IsStep, host_with, me}
+use Rattle.mb_early.specs.Store.{Pairs}
 use Rattle.mb_theory.specs.World.{World, update}
 use Rattle.minbft.specs.World.{system_of, self_of}
 use Rattle.minbft.specs.Hosts.{AllRun, RepresentsHosts, line_of_host}

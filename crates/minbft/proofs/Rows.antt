@@ -18,7 +18,7 @@ use Rattle.mb_sched.specs.Schedules.{schedule_of, contents}
 use Rattle.mb_sched.specs.Report.{report_text}
 use Rattle.mb_theory.proofs.WorldsOnLiterals.{worlds_on_literals}
 use Rattle.mb_sched.proofs.OnLiterals.{texts_on_literals}
-use Rattle.mb_core.specs.Store.{key_at, operation_at, operation_of, with_value}
+use Rattle.mb_early.specs.Store.{key_at, operation_at, operation_of, with_value}
 use Rattle.minbft.specs.World.{system_of, world}
 use Rattle.mb_theory.specs.Refusals.{refusals}
 use Rattle.minbft.specs.Reports.{report_of}

@@ -27,7 +27,7 @@ use Rattle.mb_sched.specs.declared.report.RefusedLine.{RefusedLine}
 use Rattle.mb_sched.specs.declared.report.HostLine.{HostLine}
 use Rattle.mb_sched.specs.declared.report.ClientLine.{ClientLine}
 use Rattle.minbft.specs.declared.world.World.{World}
-use Rattle.mb_core.specs.Represents.{IsStep, as_sent}
+use Rattle.mb_early.specs.Represents.{IsStep, as_sent}
 use Rattle.mb_theory.specs.Refusals.{refusals, refusal_of}
 use Rattle.minbft.specs.Reports.{client_line, report_of}
 use Rattle.minbft.specs.Hosts.{RepresentsHosts, line_of_host, line_of_client}

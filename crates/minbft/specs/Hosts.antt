@@ -7,8 +7,8 @@ use Rattle.mb_model.specs.Histories.{History}
 use Rattle.mb_sched.specs.declared.schedule.Schedule.{Schedule}
 use Rattle.mb_sched.specs.declared.report.HostLine.{HostLine}
 use Rattle.mb_sched.specs.declared.report.ClientLine.{ClientLine}
-use Rattle.mb_core.specs.declared.replica.Replica.{Replica}
-use Rattle.mb_core.specs.Represents.{Represents}
+use Rattle.mb_early.specs.declared.replica.Replica.{Replica}
+use Rattle.mb_early.specs.Represents.{Represents}
 use Rattle.minbft.specs.World.{self_of}
 
 -- ---- invariants

@@ -7,8 +7,8 @@ use Rattle.mb_sched.specs.declared.schedule.WorldEvent.{WorldEvent}
 use Rattle.mb_theory.specs.World.{World, System, self_of as any_self}
 use Rattle.mb_theory.specs.WorldSteps.{happens as any_event, world as any_world}
 use Rattle.mb_theory.specs.Stops.{missing_stop}
-use Rattle.mb_core.specs.Store.{Pairs, store_machine}
-use Rattle.mb_core.specs.Represents.{no_snapshots}
+use Rattle.mb_early.specs.Store.{Pairs, store_machine}
+use Rattle.mb_early.specs.Represents.{no_snapshots}
 
 -- each host is made with the empty service
 abbrev pub system_of : Schedule → System Pairs

@@ -5,13 +5,13 @@ ghost use Rattle.std.specs.Option.{option_to_list};
 ghost use Rattle.mb_model.specs.Histories.{History};
 ghost use Rattle.mb_model.specs.HostStep.{transition};
 ghost use Rattle.minbft.specs.Hosts.{AllRun, RepresentsHosts};
-ghost use Rattle.mb_core.specs.Represents.{IsStep};
+ghost use Rattle.mb_early.specs.Represents.{IsStep};
 ghost use Rattle.mb_theory.specs.Refusals.{refusal_of};
 ghost use Rattle.mb_theory.specs.World.{extended, update};
 ghost use Rattle.minbft.specs.World.{self_of};
 
 use mb_base::{Host, Items, NoMemory};
-use mb_core::{Replica, Stop};
+use mb_early::{Replica, Stop};
 use mb_msg::{Event, Outcome, Sent, Slot, Step};
 use mb_sched::{RefusedLine, Schedule, Word};
 use std::alloc::{AllocError, Global};

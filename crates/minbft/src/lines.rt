@@ -5,7 +5,7 @@ ghost use Rattle.std.specs.List.{range_with_len};
 ghost use Rattle.minbft.specs.Hosts.{line_of_host, line_of_client};
 
 use mb_base::{Client, Seq};
-use mb_core::Replica;
+use mb_early::Replica;
 use mb_msg::Phase;
 use mb_sched::{ClientLine, HostLine, HostState};
 use std::alloc::{AllocError, Global};

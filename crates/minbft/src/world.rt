@@ -8,7 +8,7 @@ ghost use Rattle.minbft.specs.declared.world.WorldStop.TheVariants as stop;
 use crate::effects::{add_messages, extend_line, note_refusal, step_of};
 use crate::lines::{client_lines, host_lines};
 use mb_base::{Client, Duplicate, Host, Items, Key, NoMemory, Seq, Shape};
-use mb_core::Replica;
+use mb_early::Replica;
 use mb_msg::{Event, Message, Request, Slot, Step, encode, signed_request};
 use mb_sched::{RefusedLine, Report, Schedule, WorldEvent};
 use mb_usig::Pen;

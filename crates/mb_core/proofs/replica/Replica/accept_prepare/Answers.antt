@@ -1,15 +1,15 @@
-use Rattle.std.proofs.Common.{inl, refl, sym}
-use Rattle.mb_msg.specs.declared.message.Message.TheVariants as message
-use Rattle.mb_msg.specs.declared.stamped.Stamped.TheVariants as stamped
-use Rattle.mb_model.specs.Histories.{Accepted}
-use Rattle.mb_core.specs.Represents.{me}
-use Rattle.mb_core.proofs.AcceptLaws.{accepted_next, accepted_stamped}
+use Rattle.std.proofs.Common.{sym}
+use Rattle.mb_core.proofs.CountedVotes.{prepare_counted, prepare_passed_over, normal_again}
 use Rattle.mb_core.proofs.replica.Replica.accept_prepare.Goals as goal
 
-pub returns-clause-stands : goal.returns-clause-stands
-returns-clause-stands c = λ d st passes.
-    let r = c.args.self.now in
-    let m = c.args.prepare in
-    let next = accepted_next (me r) d (stamped.Prepare m) st.own passes in
-    accepted_stamped (me r) r _ d (stamped.Prepare m) refl refl refl refl refl refl refl passes st
-    (c.take_prepare.ensures.stands (me r) d (Accepted (message.Prepare m)) m st.tables (inl refl) refl refl refl (sym c.batch_digest-digest.ensures) (sym c.whole_batch-batch.ensures) next.next)
+-- src/prepares.rt
+pub returns-then-counts_at-clause-awaits : goal.returns-then-counts_at-clause-awaits
+returns-then-counts_at-clause-awaits g c = λ me d r none.
+    prepare_counted me c.args.self.now d r c.args.m none c.count_vote.new.self c.put_slot.new.self c.args.digest c.whole_batch-batch.result (sym (c.if-counts_at.ensures me d r)) c.requires.digest c.whole_batch-batch.ensures
+    c.count_vote.ensures.counts c.count_vote.ensures.writes c.put_slot.ensures.puts c.put_slot.ensures.writes
+
+pub returns-then-counts_at-clause-writes : goal.returns-then-counts_at-clause-writes
+returns-then-counts_at-clause-writes g c = normal_again c.args.self.now c.count_vote.new.self c.put_slot.new.self c.count_vote.ensures.writes c.put_slot.ensures.writes
+
+pub returns-else-counts_at-clause-awaits : goal.returns-else-counts_at-clause-awaits
+returns-else-counts_at-clause-awaits g c = λ me d r none. prepare_passed_over me c.args.self.now d r c.args.m none (sym (c.if-counts_at.ensures me d r))

@@ -1,16 +1,18 @@
 use Rattle.std.proofs.Common.{refl}
-use Rattle.mb_core.specs.Represents.{me}
-use Rattle.mb_core.proofs.AcceptLaws.{only_idle}
+use Rattle.mb_core.proofs.Answering.{answered, is_other}
 use Rattle.mb_core.proofs.replica.Replica.give.Goals as goal
 
-pub returns-in-Prepare-clause-stands : goal.returns-in-Prepare-clause-stands
-returns-in-Prepare-clause-stands c = λ x st. rw c.in-Prepare.is (c.on_prepare.ensures.stands _ x st)
+-- src/given.rt
+pub returns-in-ReqViewChange : goal.returns-in-ReqViewChange
+returns-in-ReqViewChange g c = λ me x serves st.
+    let gave = c.give_wish.ensures me x c.args.done.now st in
+    rw c.in-ReqViewChange.is (answered me _ c.of-in-ReqViewChange.result c.give_wish.result _ ((λ o. refl), refl) c.of-in-ReqViewChange.ensures gave.0, gave.1)
 
-pub returns-in-Commit-clause-stands : goal.returns-in-Commit-clause-stands
-returns-in-Commit-clause-stands c = λ x st. rw c.in-Commit.is (c.on_commit.ensures.stands _ x st)
+pub returns-in-Log : goal.returns-in-Log
+returns-in-Log g c = λ me x serves st. rw c.in-Log.is (c.give_log.ensures me x c.args.done.now st)
 
-pub returns : goal.returns
-returns c = record {
-  kept = refl;
-  stands = λ x st. rw (only_idle (me c.args.self.now) c.args.message x c.requires.built c.in_default.not-Request c.in_default.not-Prepare c.in_default.not-Commit) (refl, st);
-}
+pub returns-in_default : goal.returns-in_default
+returns-in_default g c =
+    let kinds = c.in_default in
+    let other = is_other c.args.message kinds.not-Request kinds.not-ReqViewChange kinds.not-Resend kinds.not-Log kinds.not-Fetch kinds.not-State kinds.not-Stop in
+    λ me x serves st. c.give_other.ensures me x c.args.done.now serves other st

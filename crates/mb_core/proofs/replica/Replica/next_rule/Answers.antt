@@ -1,14 +1,9 @@
-use Rattle.mb_core.specs.Represents.{me}
-use Rattle.mb_core.proofs.RuleLoop.{commit-first, execute-first, prepare-last}
+use Rattle.mb_core.proofs.NextRules.{change_is_next, normal_is_next}
 use Rattle.mb_core.proofs.replica.Replica.next_rule.Goals as goal
 
-pub returns-in-Some-clause-named : goal.returns-in-Some-clause-named
-returns-in-Some-clause-named c = λ d st. commit-first (me c.args.self.now) d st.tables.early _ _ (c.in_ok-due.ensures.named d st) c.in-Some.is
+-- src/rules.rt
+pub returns-in-Some : goal.returns-in-Some
+returns-in-Some g c = λ me d r. change_is_next me d c.in-Some.rule (c.in-Some.ensures me d r)
 
-pub returns-in-Some-2-clause-named : goal.returns-in-Some-2-clause-named
-returns-in-Some-2-clause-named c = λ d st.
-    execute-first (me c.args.self.now) d _ (c.in_ok-due.ensures.named d st) c.in_default.is st.tables.early _ _ (c.in_ok-due-2.ensures.named d st) c.in-Some-2.is
-
-pub returns-clause-named : goal.returns-clause-named
-returns-clause-named c = λ d st.
-    prepare-last (me c.args.self.now) d _ (c.in_ok-due.ensures.named d st) c.in_default.is st.tables.early _ c.prepare_due.result (c.in_ok-due-2.ensures.named d st) c.in_default-2.is (c.prepare_due.ensures.named d st)
+pub returns-in-None : goal.returns-in-None
+returns-in-None g c = λ me d r. normal_is_next me d c.normal_rule.result (c.in-None.ensures me d r) (c.normal_rule.ensures me d r)

@@ -1,26 +1,33 @@
-use Rattle.std.proofs.Common.{refl, ◌∙◌, ◌≡◌, ◌-◌, ◌+◌, suc, arith}
-use Rattle.mb_core.specs.Represents.{me}
+use Rattle.std.proofs.Common.{refl, ◌≡◌, ◌-◌, ◌+◌, suc, arith}
 use Rattle.mb_core.proofs.RuleLoop.{begins, goes_on, stops, ends}
+use Rattle.mb_core.proofs.Stepping.{step_history, is_due, is_done}
 use Rattle.mb_core.proofs.replica.Replica.run_rules.Goals as goal
 
+-- src/rules.rt
 pub loop-round-init : goal.loop-round-init
-loop-round-init c = record { kept = refl; runs = λ x st. begins (me c.args.self.now) _ _ x _ refl st }
+loop-round-init g c = record { stepping = c.requires; runs = λ me x serves st. begins me _ _ x _ refl st }
 
-pub returns-in_default-clause-stands : goal.returns-in_default-clause-stands
-returns-in_default-clause-stands c = λ x st.
-    stops (me c.args.self.now) c.loop-round.self c.loop-round.done _ _ _ c.loop-round.invariant.kept c.in_ok-due.ensures.named c.in_default.is (c.loop-round.invariant.runs x st)
+pub next_rule-requires : goal.next_rule-requires
+next_rule-requires g c = step_history _ _ _ _ _ _ _ c.loop-round.invariant.stepping
+
+pub carry_out-requires : goal.carry_out-requires
+carry_out-requires g c = is_due _ _ _ _ _ _ _ _ c.loop-round.invariant.stepping c.in-Some.ensures
+
+pub returns-in_default : goal.returns-in_default
+returns-in_default g c = λ me x serves st. stops me c.loop-round.self c.loop-round.done _ _ (c.in_default.ensures me) (c.loop-round.invariant.runs me x serves st)
 
 pub loop-round-preserved : goal.loop-round-preserved
-loop-round-preserved c =
+loop-round-preserved g c =
     let one : 1000000 - c.loop-round._round ≡ suc (1000000 - (c.loop-round._round + 1)) = omega arith in
+    let due = is_due _ _ _ _ _ _ _ _ c.loop-round.invariant.stepping c.in-Some.ensures in
     record {
-      kept = c.carry_out.ensures.kept ∙ c.loop-round.invariant.kept;
-      runs = λ x st.
-          goes_on (me c.args.self.now) c.loop-round.self c.carry_out.new.self c.loop-round.done c.carry_out.new.done _ c.in-Some.due _ _ _ c.loop-round.invariant.kept one
-          c.in_ok-due.ensures.named c.in-Some.is c.in_ok-carry_out.ensures.stands (c.loop-round.invariant.runs x st);
+      stepping = is_done _ _ _ _ _ _ c.carry_out.new.self _ c.carry_out.new.done c.in-Some.rule due c.in_ok-carry_out.ensures;
+      runs = λ me x serves st.
+          goes_on me c.loop-round.self c.carry_out.new.self c.loop-round.done c.carry_out.new.done c.in-Some.rule _ _ _ one
+          (c.in-Some.ensures me) (λ y rule stands named next. c.in_ok-carry_out.ensures me y rule serves stands named next) (c.loop-round.invariant.runs me x serves st);
     }
 
-pub returns-clause-stands : goal.returns-clause-stands
-returns-clause-stands c = λ x st.
+pub returns : goal.returns
+returns g c = λ me x serves st.
     let none : 1000000 - c.loop-round._round ≡ 0 = omega arith in
-    ends (me c.args.self.now) c.loop-round.self c.loop-round.done _ _ none (c.loop-round.invariant.runs x st)
+    ends me c.loop-round.self c.loop-round.done _ _ none (c.loop-round.invariant.runs me x serves st)

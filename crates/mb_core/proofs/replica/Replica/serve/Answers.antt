@@ -1,46 +1,57 @@
-use Rattle.std.proofs.Common.{rules}
-use Rattle.mb_core.specs.Store.{store_machine}
-use Rattle.mb_core.specs.Due.{served_of}
-use Rattle.mb_core.proofs.ServedTables.{IsLast, RepliesFit-set, fresh-above, fresh-below, served-above, served-below}
+use Rattle.std.proofs.Common.{◌∙◌, ◌<◌, ℕ, refl, ap, sym, subst}
+use Rattle.mb_base.specs.declared.shape.Shape.{Shape}
+use Rattle.mb_base.specs.Shapes.{client_count}
+use Rattle.mb_normal.specs.Searches.{with_settled}
+use Rattle.mb_cache.specs.Represents.{machine_of}
+use Rattle.mb_keeper.specs.Keeping.{Keeping}
+use Rattle.mb_standing.proofs.Positions.{left_by_call}
+use Rattle.mb_core.specs.Represents.{tables_of}
+use Rattle.mb_core.proofs.Asking.{clients_known}
+use Rattle.mb_core.proofs.Serving.{client_known, place_fits, replied}
 use Rattle.mb_core.proofs.replica.Replica.serve.Goals as goal
 
-pub returns-then-request-index : goal.returns-then-request-index
-returns-then-request-index c =
-    let self = c.args.self.now in
-    let last : IsLast self.shape self.replies.items c.args.request.now c.from-client.result c.index.result.now =
-    record { len = self.replies_len; within = c.requires.fits.client; named = c.from-client.ensures; last = c.index.ensures } in
+-- src/executing.rt
+pub execute-requires : goal.execute-requires
+execute-requires g c =
+    let t = c.requires.1.1 in
+    let r = c.args.self.now in
+    let q = c.args.request.now in
     record {
-      rest = search rules;
-      served = served-below store_machine (served_of self) self.shape c.args.pos c.args.request.now _ _ last c.if-request-index.true;
-      fresh = fresh-below store_machine (served_of self) self.shape c.args.pos c.args.request.now _ _ last c.if-request-index.true;
-      unserved = search rules;
+      client = subst (λ (n : ℕ). q.client < n) (sym (clients_known t.me r t.left.history t.stands.stands.represents)) (client_known t.me r c.args.done.now c.args.pos q c.requires.0 c.requires.1.0 t.left t.stands);
+      position = place_fits t.me r c.args.done.now c.args.pos q c.requires.0 c.requires.1.0 t.left t.stands;
     }
+
+pub settle-requires : goal.settle-requires
+settle-requires g c =
+    let t = c.requires.1.1 in
+    let r = c.args.self.now in
+    let q = c.args.request.now in
+    subst (λ (s : Shape). q.client < client_count s) (sym r.agreement.normal_is.0) (client_known t.me r c.args.done.now c.args.pos q c.requires.0 c.requires.1.0 t.left t.stands)
+
+pub with_reply-requires : goal.with_reply-requires
+with_reply-requires g c =
+    let t = c.requires.1.1 in
+    let r = c.args.self.now in
+    record {
+      client = client_known t.me r c.args.done.now c.args.pos c.args.request.now c.requires.0 c.requires.1.0 t.left t.stands;
+      clients = c.execute.ensures.clients ∙ clients_known t.me r t.left.history t.stands.stands.represents;
+    }
+
+pub invariant_of-self-clause-normal_is : goal.invariant_of-self-clause-normal_is
+invariant_of-self-clause-normal_is g c =
+    let a = c.args.self.now.agreement in
+    let left = left_by_call a.normal c.settle.new.self (λ y. with_settled y c.args.request.now.client c.args.request.now.seq) c.settle.ensures in
+    (left.shape_is ∙ a.normal_is.0, left.host_is ∙ a.normal_is.1)
+
+pub invariant_of-self-clause-low_is : goal.invariant_of-self-clause-low_is
+invariant_of-self-clause-low_is g c =
+    let a = c.args.self.now.agreement in
+    (left_by_call a.normal c.settle.new.self (λ y. with_settled y c.args.request.now.client c.args.request.now.seq) c.settle.ensures).low_is ∙ a.low_is
 
 pub returns : goal.returns
-returns c =
-    let self = c.args.self.now in
-    let last : IsLast self.shape self.replies.items c.args.request.now c.from-client.result c.index.result.now =
-    record { len = self.replies_len; within = c.requires.fits.client; named = c.from-client.ensures; last = c.index.ensures } in
-    record {
-      rest = search rules;
-      served = served-above store_machine (served_of self) self.shape c.args.pos c.args.request.now _ _ last c.if-request-index.false
-          _ _ _ c.as_slice.ensures c.in_ok-result.ensures.state c.in_ok-result.ensures.answer;
-      fresh = fresh-above store_machine (served_of self) self.shape c.args.pos c.args.request.now _ _ last c.if-request-index.false;
-      unserved = search rules;
-    }
-
-pub invariant_of-self-2 : goal.invariant_of-self-2
-invariant_of-self-2 c =
-    let self = c.args.self.now in
-    record {
-      host_in = self.host_in;
-      one_shape = self.one_shape;
-      one_host = self.one_host;
-      pending_len = self.pending_len;
-      replies_len = search rules;
-      log_in = self.log_in;
-      last_in = self.last_in;
-      exec_in = self.exec_in;
-      pending_fit = self.pending_fit;
-      replies_fit = RepliesFit-set _ _ _ self.replies_fit c.in_ok-result.ensures.short c.requires.position;
-    }
+returns g c = λ me x more served serves s.
+    let r = c.args.self.now in
+    let q = c.args.request.now in
+    let tables = ap (λ (y : Keeping _). record (tables_of r) { normal = c.settle.new.self; service = c.execute.new.self.served; shelf = y.snapshots; parts = y.fetched }) c.in_ok-fresh.ensures.served in
+    replied me r c.args.done.now c.args.pos q more served x s _ c.with_reply.new.done (machine_of g.V.Service.after g.V.Service.answer) c.in_ok-fresh.fresh serves.machine
+    (record { same = record { shape = refl; host = refl; secret = refl }; tables = tables }) c.in_ok-fresh.ensures.stands c.settle.ensures c.in_ok-fresh.ensures.fresh (λ y p l. c.in_ok-with_reply.ensures me y p l)

@@ -1,0 +1,226 @@
+-- The own CHECKPOINT behind an execution: it may be signed, it is kept as another's, and it is published before the own log is cut.
+use Rattle.std.proofs.Common.{◌≡◌, ℕ, ◌+◌, ◌-◌, ◌^◌, ◌<◌, ◌≤◌, Bool, true, false, ◌&&◌, List, [], ◌∷◌, ◌++◌, refl, sym, ap, subst, ◌∙◌, arith, Option, Some, Result, Ok, Err, OnOk}
+use Rattle.std.specs.Prelude.{nat_lt, nat_le, count_by}
+use Rattle.std.proofs.lemmas.Bool.{and_parts, ltb-true, leb-true, le-leb}
+use Rattle.std.proofs.lemmas.List.{map-append}
+use Rattle.mb_base.specs.Shapes.{Bytes}
+use Rattle.mb_base.specs.declared.shape.Shape.{Shape}
+use Rattle.mb_parts.specs.declared.floor.Floor.{Floor}
+use Rattle.mb_msg.specs.declared.message.Body.TheVariants.{Whole}
+use Rattle.mb_msg.specs.declared.normal.Checkpoint.{Checkpoint}
+use Rattle.mb_msg.specs.declared.stamped.Stamped.{Stamped as StampedMessage}
+use Rattle.mb_msg.specs.declared.stamped.Stamped.TheVariants as stamped
+use Rattle.mb_msg.specs.Fits.{FitsStamped}
+use Rattle.mb_msg.specs.Spelling.{stamped_kind}
+use Rattle.mb_msg.specs.Stamps.{as_message, bare_of}
+use Rattle.mb_model.specs.EnabledRules.{Rule, rule_where, execute_enabled}
+use Rattle.mb_model.specs.Histories.{Entry, Executed, Stamped, History, Identity, is_open, counter_of}
+use Rattle.mb_model.specs.Making.{checkpoint, floors_under}
+use Rattle.mb_model.specs.OwnLog.{is_normal, own_log, is_unspent}
+use Rattle.mb_model.specs.Positions.{exec_of}
+use Rattle.mb_model.specs.Sending.{Progress, signed, next_ui, to_all, stamp, send, write}
+use Rattle.mb_model.specs.Stable.{low_of}
+use Rattle.mb_model.specs.UsableLogs.{normal_limit}
+use Rattle.mb_model.proofs.StepArises.{Adds, Arises, JustExecuted}
+use Rattle.mb_log.specs.Logs.{Log, has_room_for, appended}
+use Rattle.mb_gate.specs.declared.gate.Gate.{Gate}
+use Rattle.mb_fitting.specs.Fitting.{AreFit}
+use Rattle.mb_fitting.proofs.Fit.{checkpoint_fit}
+use Rattle.mb_searches.specs.Sound.{IsSound}
+use Rattle.mb_searches.proofs.Executing.{served_ends}
+use Rattle.mb_searches.proofs.Framing.{low_stays}
+use Rattle.mb_searches.proofs.Sound.{stays_sound}
+use Rattle.mb_standing.specs.Tables.{Tables}
+use Rattle.mb_standing.specs.Stands.{GatesStand, LogStands, NormalStands, ShelfStands, HeldStand}
+use Rattle.mb_standing.proofs.OwnLogs.{place_for, stamp_appended}
+use Rattle.mb_standing.proofs.Together.{EachStands, stands_behind, stand_lags, stays}
+use Rattle.mb_standing.proofs.Values.{own_counter_stamped}
+use Rattle.mb_core.specs.declared.replica.Replica.{Replica}
+use Rattle.mb_core.specs.declared.sending.Done.{Done}
+use Rattle.mb_core.specs.declared.stamping.TheConstants.{NO_UI}
+use Rattle.mb_core.specs.Represents.{IsHost, Represents, StandsAt, as_sent, tables_of}
+use Rattle.mb_core.specs.Between.{WritesCounter, WritesStamp, WritesLog, WritesKept, KeepingStands, AwaitsKeeping, AwaitsCut, AwaitsCheckpoint}
+use Rattle.mb_core.specs.declared.stamping.Signed.{Signed}
+use Rattle.mb_core.specs.Signed.{IsSigned, SaysMore}
+use Rattle.mb_core.proofs.Accepted.{still_host}
+use Rattle.mb_core.proofs.Accepting.{on, there}
+use Rattle.mb_core.proofs.Publishing.{fits_again, no_ui_fits}
+
+where_holds : (test : Bool) (o : Option Rule) (r : Rule) → rule_where test o ≡ Some r → test ≡ true
+where_holds true o r e = refl
+where_holds false o r e = absurd cc
+
+same_checkpoint : (a b : Checkpoint) → stamped.Checkpoint a ≡ stamped.Checkpoint b → a ≡ b
+same_checkpoint a b e = cc
+
+module _ {V : Type 0} (me : Identity V) where
+  -- A position that was just executed is not below the stable one.
+  low_reached : (d : History) (pos : ℕ) → Arises me d → JustExecuted me d pos → low_of me d ≤ pos
+  unfolding execute_enabled
+  low_reached (Executed slot ∷ d) pos a j =
+      let test = where_holds (is_open me d && nat_le (low_of me d) (exec_of d)) _ _ a.0.enabled in
+      let le = leb-true (low_of me d) (exec_of d) (and_parts (is_open me d) (nat_le (low_of me d) (exec_of d)) test).1 in
+      let place = a.0.place in
+      let low = low_stays me (Executed slot) d refl in
+      omega (arith, le, place, low, j)
+  low_reached [] pos a j = absurd j
+  low_reached (e ∷ d) pos a j = absurd j
+
+  module _ (old : Replica V) (done : Done) (pos : ℕ) (state : Bytes) (x : Progress) (w : AwaitsCheckpoint me old done pos state x) where
+    abbrev d : History
+    d = x.history
+
+    abbrev made : StampedMessage
+    made = signed me d (checkpoint me d pos)
+
+    rep : Represents me old d
+    rep = w.stands.represents
+
+    fit_now : AreFit me (Stamped made ∷ d)
+    fit_now = checkpoint_fit me (on me old rep.who) (there me old rep.who) pos d w.executed w.whole w.room rep.tables.sound rep.fit
+
+    made_fits : FitsStamped old.agreement.shape made
+    made_fits = subst (λ (s : Shape). FitsStamped s made) rep.who.shape fit_now.values.0
+
+    -- ---- what is signed
+
+    pub unspent : old.agreement.usig.counter < 2 ^ 64 - 1
+    unspent = subst (λ (n : ℕ). n < 2 ^ 64 - 1) (sym rep.tables.counter) (ltb-true (counter_of d) (2 ^ 64 - 1) (and_parts (nat_lt (count_by is_normal (own_log me d)) (normal_limit me.shape)) (is_unspent me d) w.room).1)
+
+    module _ (floors : List (Option Floor)) (is : floors ≡ floors_under me d pos) where
+      abbrev unsigned : StampedMessage
+      unsigned = stamped.Checkpoint (record { pos = pos; state = state; body = Whole (record { floors = floors }); ui = NO_UI })
+
+      pub signs : signed me d unsigned ≡ made
+      signs = rw (w.digest, is) refl
+
+      pub fits_unsigned : FitsStamped old.agreement.shape unsigned
+      fits_unsigned = fits_again old.agreement.shape (next_ui me d (bare_of unsigned)) unsigned (no_ui_fits old.agreement.shape) (subst (FitsStamped old.agreement.shape) (sym signs) made_fits)
+
+      -- What was signed is what is made.
+      pub same_own : (s : Signed) (own m : Checkpoint) → IsSigned (signed me d unsigned) s → s.message ≡ stamped.Checkpoint own → m ≡ own → made ≡ stamped.Checkpoint m
+      same_own s own m is_signed is copied = sym signs ∙ sym is_signed.message ∙ is ∙ ap (λ (y : Checkpoint). stamped.Checkpoint y) (sym copied)
+
+      pub no_other : (s : Signed) → IsSigned (signed me d unsigned) s → ((own : Checkpoint) → s.message ≡ stamped.Checkpoint own → ⊥) → ⊥
+      no_other s is_signed other = other (record { pos = pos; state = state; body = Whole (record { floors = floors }); ui = next_ui me d (bare_of unsigned) }) is_signed.message
+
+    -- ---- it is kept
+
+    module _ (m : Checkpoint) (same : made ≡ stamped.Checkpoint m) where
+      abbrev entry : Entry
+      entry = Stamped (stamped.Checkpoint m)
+
+      pub adds : Adds me d entry
+      adds = (pos, w.executed, w.whole, same)
+
+      sound_now : IsSound me (entry ∷ d)
+      sound_now = stays_sound me (on me old rep.who) entry d adds tt rep.tables.sound
+
+      fit_here : AreFit me (entry ∷ d)
+      fit_here = subst (λ (y : StampedMessage). AreFit me (Stamped y ∷ d)) same fit_now
+
+      pub fits_own : FitsStamped old.agreement.shape (stamped.Checkpoint m)
+      fits_own = subst (FitsStamped old.agreement.shape) same made_fits
+
+      kept_at : nat_le (low_of me d) m.pos ≡ true
+      kept_at =
+          let at : m.pos ≡ pos = ap (λ (y : Checkpoint). y.pos) (sym (same_checkpoint _ m same)) in
+          le-leb (low_of me d) m.pos (let le = low_reached d pos rep.tables.sound.arises w.executed in omega (arith, le, at))
+
+      pub awaits_keeping : (mid : Replica V) → WritesCounter old mid → AwaitsKeeping me mid m entry d
+      awaits_keeping mid c = record {
+        who = still_host me old mid c.same rep.who;
+        sound = rep.tables.sound;
+        now = sound_now;
+        fit = fit_here;
+        brings = refl;
+        kept = kept_at;
+        tables = record {
+          normal = subst (λ n. NormalStands me n d) (sym (ap (λ (t : Tables V). t.normal) c.tables)) rep.tables.normal;
+          stable = ap (λ (t : Tables V). t.stable) c.tables ∙ rep.tables.stable;
+          shelf = subst (λ s. ShelfStands me s d) (sym (ap (λ (t : Tables V). t.shelf) c.tables)) rep.tables.shelf;
+          parts = subst (λ s. HeldStand me s d) (sym (ap (λ (t : Tables V). t.parts) c.tables)) rep.tables.parts;
+        };
+      }
+
+      -- ---- it is published
+
+      module _ (mid kept : Replica V) (c : WritesCounter old mid) (k : WritesKept mid kept) where
+        written : tables_of kept ≡ record (tables_of old) { counter = old.agreement.usig.counter + 1; normal = kept.agreement.normal; stable = kept.agreement.stable; shelf = kept.keeper.snapshots; parts = kept.keeper.fetched }
+        written = k.tables ∙ ap (λ (t : Tables V). record t { normal = kept.agreement.normal; stable = kept.agreement.stable; shelf = kept.keeper.snapshots; parts = kept.keeper.fetched }) c.tables
+
+        same_log : kept.agreement.log ≡ old.agreement.log
+        same_log = ap (λ (t : Tables V). t.log) written
+
+        pub who_kept : IsHost me kept
+        who_kept = still_host me mid kept k.same (still_host me old mid c.same rep.who)
+
+        pub fits_kept : FitsStamped kept.agreement.shape (stamped.Checkpoint m)
+        fits_kept = subst (λ (s : Shape). FitsStamped s (stamped.Checkpoint m)) (sym (k.same.shape ∙ c.same.shape)) fits_own
+
+        pub room_kept : has_room_for kept.agreement.log (stamped_kind (stamped.Checkpoint m)) ≡ true
+        room_kept = subst (λ (l : Log). has_room_for l (stamped_kind (stamped.Checkpoint m)) ≡ true) (sym same_log) (place_for me old.agreement.log d rep.tables.log (stamped.Checkpoint m) refl w.room)
+
+        pub gates_kept : GatesStand me kept.agreement.gates.items d
+        gates_kept = subst (λ (l : List Gate). GatesStand me l d) (sym (ap (λ (t : Tables V). t.gates) written)) rep.tables.gates
+
+        module _ (sent : Replica V) (stands : KeepingStands me kept (entry ∷ d)) (s : WritesStamp kept sent) (log : sent.agreement.log ≡ appended (stamped.Checkpoint m) kept.agreement.log) where
+          pub awaits_cut : AwaitsCut me sent entry d
+          awaits_cut = record {
+            who = still_host me kept sent s.same who_kept;
+            kept = kept_at;
+            log = stamp_appended me kept.agreement.log sent.agreement.log (stamped.Checkpoint m) d log (subst (λ (l : Log). LogStands me l d) (sym same_log) rep.tables.log);
+            counter = ap (λ (t : Tables V). t.counter) s.tables ∙ ap (λ (t : Tables V). t.counter) written ∙ own_counter_stamped old.agreement.usig.counter (stamped.Checkpoint m) d rep.tables.counter;
+            normal = subst (λ n. NormalStands me n (entry ∷ d)) (sym (ap (λ (t : Tables V). t.normal) s.tables)) stands.normal;
+          }
+
+          pub checkpoint_stands : (new : Replica V) → GatesStand me sent.agreement.gates.items (entry ∷ d) → WritesLog sent new → LogStands me new.agreement.log (entry ∷ d) → Represents me new (entry ∷ d)
+          checkpoint_stands new gates l cut =
+              let left = stays me (low_of me d) (tables_of old) entry d (stand_lags me (tables_of old) d rep.tables) adds in
+              let all : tables_of new ≡ record (tables_of old) {
+                counter = old.agreement.usig.counter + 1;
+                gates = sent.agreement.gates.items;
+                log = new.agreement.log;
+                normal = kept.agreement.normal;
+                stable = kept.agreement.stable;
+                shelf = kept.keeper.snapshots;
+                parts = kept.keeper.fetched;
+              } = l.tables ∙ ap (λ (t : Tables V). record t { log = new.agreement.log }) (s.tables ∙ ap (λ (t : Tables V). record t { gates = sent.agreement.gates.items; log = sent.agreement.log }) written) in
+              record {
+                who = still_host me sent new l.same (still_host me kept sent s.same who_kept);
+                tables = stands_behind me (tables_of old) (tables_of new) entry d rep.tables adds tt (subst (λ (t : Tables V). EachStands me t (entry ∷ d)) (sym all) (record {
+                  counter = own_counter_stamped old.agreement.usig.counter (stamped.Checkpoint m) d rep.tables.counter;
+                  gates = gates;
+                  log = cut;
+                  normal = stands.normal;
+                  change = left.change refl;
+                  stable = stands.stable;
+                  exec = left.exec refl;
+                  service = left.service refl;
+                  shelf = stands.shelf;
+                  parts = stands.parts;
+                  asked = left.asked refl;
+                }));
+                fit = fit_here;
+              }
+
+    -- ---- the step
+
+    -- It was sent to all, and nothing else.
+    pub checkpoint_sent : (new : Replica V) (signing after : Done) (m : Checkpoint) → made ≡ stamped.Checkpoint m → Represents me new (Stamped (stamped.Checkpoint m) ∷ d) → SaysMore done signing
+        → after.sent ≡ signing.sent ++ as_sent (to_all (as_message (stamped.Checkpoint m))) ∷ [] → (after.executed ≡ signing.executed) × (after.installed ≡ signing.installed) → StandsAt me new after (stamp me (checkpoint me d pos) x)
+    checkpoint_sent new signing after m same r more sent kept = subst (λ (y : StampedMessage). StandsAt me new after (send (to_all (as_message y)) (write (Stamped y) x))) (sym same) (record {
+      represents = r;
+      serving = served_ends (Stamped (stamped.Checkpoint m)) d refl;
+      sent = sent ∙ ap (λ l. l ++ as_sent (to_all (as_message (stamped.Checkpoint m))) ∷ []) (more.sent ∙ w.stands.sent) ∙ sym (map-append as_sent x.sent (to_all (as_message (stamped.Checkpoint m)) ∷ []));
+      executed = kept.0 ∙ more.executed ∙ w.stands.executed;
+      installed = kept.1 ∙ more.installed ∙ w.stands.installed;
+    })
+
+    pub checkpoint_ends : {E : Type 0} (result : Result (Unit {0}) E) (mid kept sent new : Replica V) (signing after : Done) (m : Checkpoint) (same : made ≡ stamped.Checkpoint m) (c : WritesCounter old mid) (k : WritesKept mid kept)
+        → KeepingStands me kept (Stamped (stamped.Checkpoint m) ∷ d) → WritesStamp kept sent → sent.agreement.log ≡ appended (stamped.Checkpoint m) kept.agreement.log → GatesStand me sent.agreement.gates.items (Stamped (stamped.Checkpoint m) ∷ d)
+        → OnOk result (WritesLog sent new) → OnOk result (LogStands me new.agreement.log (Stamped (stamped.Checkpoint m) ∷ d)) → SaysMore done signing
+        → after.sent ≡ signing.sent ++ as_sent (to_all (as_message (stamped.Checkpoint m))) ∷ [] → (after.executed ≡ signing.executed) × (after.installed ≡ signing.installed) → OnOk result (StandsAt me new after (stamp me (checkpoint me d pos) x))
+    checkpoint_ends (Ok u) mid kept sent new signing after m same c k stands s log gates l cut more out left =
+        checkpoint_sent new signing after m same (checkpoint_stands m same mid kept c k sent stands s log new gates l cut) more out left
+    checkpoint_ends (Err e) mid kept sent new signing after m same c k stands s log gates l cut more out left = tt

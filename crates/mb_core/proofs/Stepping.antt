@@ -1,0 +1,111 @@
+-- How a step goes on: between two batches of it the replica stands where the step stands.
+use Rattle.std.proofs.Common.{◌≡◌, ℕ, List, [], Option, Some, None, Result, refl, sym, ap, subst, ◌∙◌}
+use Rattle.mb_base.specs.Shapes.{Bytes}
+use Rattle.mb_msg.specs.declared.event.Event.{Event}
+use Rattle.mb_msg.specs.declared.event.Outcome.{Outcome}
+use Rattle.mb_msg.specs.declared.event.Step.{Step}
+use Rattle.mb_model.specs.Histories.{History, Identity}
+use Rattle.mb_model.specs.Sending.{Progress, begin}
+use Rattle.mb_model.specs.EnabledRules.{Rule, next_rule}
+use Rattle.mb_model.specs.CarriedOut.{carry_out}
+use Rattle.mb_model.specs.Given.{Answer}
+use Rattle.mb_model.specs.HostStep.{transition}
+use Rattle.mb_model.proofs.StepArises.{IsWhole, none_served}
+use Rattle.mb_searches.proofs.SoundRules.{transition_sound}
+use Rattle.mb_standing.specs.Tables.{Tables}
+use Rattle.mb_standing.specs.Stands.{Stand}
+use Rattle.mb_keeper.specs.Keeping.{Keeping}
+use Rattle.mb_core.specs.declared.agreement.Agreement.{Agreement}
+use Rattle.mb_core.specs.declared.replica.Replica.{Replica}
+use Rattle.mb_core.specs.declared.sending.Done.{Done}
+use Rattle.mb_core.specs.declared.rules.Due.{Due}
+use Rattle.mb_core.specs.Due.{Names, IsNamed, IsDue}
+use Rattle.mb_core.specs.Represents.{Represents, Serves, StandsAt, HasHistory, IsInStep, IsAtRest, IsStep}
+
+module _ {V : Type 0} where
+  -- all that it keeps, of the two parts that it has
+  abbrev kept_in : Agreement → Keeping V → Tables V
+  kept_in a k = record {
+    counter = a.usig.counter;
+    gates = a.gates.items;
+    log = a.log;
+    normal = a.normal;
+    change = a.change;
+    stable = a.stable;
+    exec = a.exec;
+    service = k.served;
+    shelf = k.snapshots;
+    parts = k.fetched;
+    asked = a.asked;
+  }
+
+  -- What it says of itself, and whether it is halted, are no tables.
+  pub same_tables : (me : Identity V) (r new : Replica V) (d : History) → new.agreement ≡ r.agreement → new.keeper ≡ r.keeper → Represents me r d → Represents me new d
+  same_tables me r new d agreement keeper rep = record {
+    who = record {
+      built = rep.who.built;
+      shape = rep.who.shape ∙ sym (ap (λ (a : Agreement). a.shape) agreement);
+      host = rep.who.host ∙ sym (ap (λ (a : Agreement). a.host) agreement);
+      secret = rep.who.secret ∙ sym (ap (λ (a : Agreement). a.usig.secret) agreement);
+    };
+    tables = subst (λ (t : Tables V). Stand me t d) (ap (λ (a : Agreement). kept_in a r.keeper) (sym agreement) ∙ ap (λ (k : Keeping V). kept_in new.agreement k) (sym keeper)) rep.tables;
+    fit = rep.fit;
+  }
+
+  pub has_history : (me : Identity V) (r : Replica V) (done : Done) (x : Progress) → StandsAt me r done x → HasHistory r
+  has_history me r done x stands = record { me = me; history = x.history; represents = stands.represents }
+
+  -- at the beginning of a step nothing is done
+  pub stands_begin : (me : Identity V) (r : Replica V) (done : Done) (d : History) → Represents me r d → IsWhole d → done.sent ≡ [] → done.executed ≡ [] → done.installed ≡ None → StandsAt me r done (begin d)
+  stands_begin me r done d rep whole sent executed installed = record { represents = rep; serving = none_served d whole; sent = sent; executed = executed; installed = installed }
+
+-- a step that is told
+pub is_step : {V : Type 0} (me : Identity V) (r : Replica V) (done : Done) (step : Step) (o : Outcome) (a : Answer) → step ≡ record { outcome = o; sent = done.sent; executed = done.executed; adopted = done.installed } → o ≡ a.outcome → StandsAt me r done a.left → IsStep step a
+is_step me r done step o a is same stands = record {
+  outcome = ap (λ (s : Step). s.outcome) is ∙ same;
+  sent = ap (λ (s : Step). s.sent) is ∙ stands.sent;
+  executed = ap (λ (s : Step). s.executed) is ∙ stands.executed;
+  adopted = ap (λ (s : Step). s.adopted) is ∙ stands.installed;
+}
+
+module _ {V : Type 0} (is_state : V → Type 0) (after : V → Bytes → V) (result : V → Bytes → Bytes) (part : V → ℕ → Bytes) (restored : List Bytes → Result V (ℕ × ℕ)) where
+  abbrev IsService : Identity V → Type 0
+  IsService me = Serves is_state after result part restored me
+
+  pub step_history : (r : Replica V) (done : Done) → IsInStep is_state after result part restored r done → HasHistory r
+  step_history r done s = has_history s.me r done s.left s.stands
+
+  -- the rule that the code names is next
+  pub is_due : (r : Replica V) (done : Done) (due : Due) → IsInStep is_state after result part restored r done → ((me : Identity V) (d : History) → Represents me r d → Names (Some due) (next_rule me d))
+      → IsDue is_state after result part restored r done due
+  is_due r done due s named = by_rule (next_rule s.me s.left.history) refl (named s.me s.left.history s.stands.represents) where
+    by_rule : (o : Option Rule) → next_rule s.me s.left.history ≡ o → Names (Some due) o → IsDue is_state after result part restored r done due
+    by_rule None e n = absurd n
+    by_rule (Some rule) e n = record { me = s.me; left = s.left; rule = rule; serves = s.serves; stands = s.stands; named = n; next = e }
+
+  -- and is carried out
+  pub is_done : (r new : Replica V) (done more : Done) (due : Due) → IsDue is_state after result part restored r done due
+      → ((me : Identity V) (x : Progress) (rule : Rule) → IsService me → StandsAt me r done x → IsNamed due rule → next_rule me x.history ≡ Some rule → StandsAt me new more (carry_out me rule x))
+      → IsInStep is_state after result part restored new more
+  is_done r new done more due is carried = record { me = is.me; left = carry_out is.me is.rule is.left; serves = is.serves; stands = carried is.me is.left is.rule is.serves is.stands is.named is.next }
+
+  -- at the beginning of a step
+  pub step_begins : (r : Replica V) (done : Done) → IsAtRest is_state after result part restored r → done.sent ≡ [] → done.executed ≡ [] → done.installed ≡ None → IsInStep is_state after result part restored r done
+  step_begins r done a sent executed installed = record { me = a.me; left = begin a.history; serves = a.serves; stands = stands_begin a.me r done a.history a.represents a.whole sent executed installed }
+
+  -- what a step does of any history it stands for, it does of that which it is in
+  pub step_goes_on : (r new : Replica V) (done more : Done) (f : Identity V → Progress → Progress) → IsInStep is_state after result part restored r done
+      → ((me : Identity V) (x : Progress) → IsService me → StandsAt me r done x → StandsAt me new more (f me x)) → IsInStep is_state after result part restored new more
+  step_goes_on r new done more f s stands = record { me = s.me; left = f s.me s.left; serves = s.serves; stands = stands s.me s.left s.serves s.stands }
+
+  -- at its end it stands for what the event leaves, and is at rest
+  pub step_ends : (r new : Replica V) (event : Event) → IsAtRest is_state after result part restored r
+      → ((me : Identity V) (d : History) → IsService me → Represents me r d → IsWhole d → Represents me new (transition me d event).left.history)
+      → IsAtRest is_state after result part restored new
+  step_ends r new event a represents = record {
+    me = a.me;
+    history = (transition a.me a.history event).left.history;
+    serves = a.serves;
+    represents = represents a.me a.history a.serves a.represents a.whole;
+    whole = (transition_sound a.me (ap (λ b. b.order) a.represents.who.built) a.history event a.represents.tables.sound a.whole).1;
+  }

@@ -1,0 +1,22 @@
+use Rattle.std.proofs.Common.{◌∙◌, ℕ, [], ap, subst}
+use Rattle.std.specs.Prelude.{OnOk}
+use Rattle.mb_model.specs.Execution.{asked_host}
+use Rattle.mb_model.specs.Sending.{Letter, send, to_host}
+use Rattle.mb_core.specs.Represents.{StandsAt}
+use Rattle.mb_core.proofs.Letters.{fetch_fits}
+use Rattle.mb_core.proofs.Fetching.{missing_is}
+use Rattle.mb_core.proofs.replica.Replica.send_fetch.Goals as goal
+
+-- src/fetches.rt
+pub send-requires : goal.send-requires
+send-requires g c =
+    let t = c.requires.history in
+    let r = c.args.self.now in
+    let missing = c.requires.missing ∙ missing_is t.me r.keeper.fetched t.history t.represents.tables.parts in
+    fetch_fits t.me r t.history t.represents c.requires.behind _ (c.fetch-message.ensures t.me t.history t.represents missing)
+
+pub returns : goal.returns
+returns g c = λ me x s missing.
+    let r = c.args.self.now in
+    let letter = ap (λ (h : ℕ). to_host h c.fetch-message.result) s.represents.tables.asked ∙ ap (to_host (asked_host me x.history)) (c.fetch-message.ensures me x.history s.represents missing) in
+    subst (λ (l : Letter). OnOk c.send.result (StandsAt me r c.send.new.done (send l x))) letter (c.send.ensures me x [] s)

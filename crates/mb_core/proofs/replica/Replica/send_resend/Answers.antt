@@ -1,0 +1,17 @@
+use Rattle.std.proofs.Common.{[], subst}
+use Rattle.std.specs.Prelude.{OnOk}
+use Rattle.mb_msg.specs.declared.message.Message.{Message}
+use Rattle.mb_model.specs.Sending.{send, to_all}
+use Rattle.mb_core.specs.Represents.{StandsAt}
+use Rattle.mb_core.proofs.Letters.{resend_fits}
+use Rattle.mb_core.proofs.replica.Replica.send_resend.Goals as goal
+
+-- src/resends.rt
+pub send-requires : goal.send-requires
+send-requires g c =
+    let t = c.requires in
+    resend_fits t.me c.args.self.now t.history t.represents c.in_ok-message.message (c.in_ok-message.ensures t.me t.history t.represents)
+
+pub returns : goal.returns
+returns g c = λ me x s.
+    subst (λ (m : Message). OnOk c.send.result (StandsAt me c.args.self.now c.send.new.done (send (to_all m) x))) (c.in_ok-message.ensures me x.history s.represents) (c.send.ensures me x [] s)

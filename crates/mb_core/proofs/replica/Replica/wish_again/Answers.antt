@@ -1,0 +1,29 @@
+use Rattle.std.proofs.Common.{Bool, ap, sym, subst, OnOk}
+use Rattle.std.specs.Prelude.{if◌then◌else◌}
+use Rattle.mb_model.specs.Making.{wish}
+use Rattle.mb_model.specs.Sending.{send, to_all}
+use Rattle.mb_model.proofs.EarlyHistories.{shape_fits}
+use Rattle.mb_fitting.proofs.Answers.{wish_again_sent}
+use Rattle.mb_core.specs.Represents.{StandsAt}
+use Rattle.mb_core.proofs.Behind.{host_there}
+use Rattle.mb_core.proofs.replica.Replica.wish_again.Goals as goal
+
+-- src/nudges.rt
+pub send_wish-requires : goal.send_wish-requires
+send_wish-requires g c =
+    let h = c.requires in
+    let r = h.represents in
+    record {
+      me = h.me;
+      history = h.history;
+      represents = r;
+      fits = wish_again_sent h.me (shape_fits h.me.shape) (host_there h.me c.args.self.now h.history r) (ap (λ b. b.order) r.tables.whole) h.history (sym (c.if-is_unfulfilled.ensures h.me h.history r)) r.tables.sound r.fit;
+    }
+
+pub returns-then-is_unfulfilled : goal.returns-then-is_unfulfilled
+returns-then-is_unfulfilled g c = λ me x st.
+    subst (λ (b : Bool). OnOk c.send_wish.result (StandsAt me c.args.self.now c.send_wish.new.done (if b then send (to_all (wish me x.history)) x else x))) (c.if-is_unfulfilled.ensures me x.history st.represents) (c.send_wish.ensures me x st)
+
+pub returns : goal.returns
+returns g c = λ me x st.
+    subst (λ (b : Bool). StandsAt me c.args.self.now c.args.done.now (if b then send (to_all (wish me x.history)) x else x)) (c.if-is_unfulfilled.ensures me x.history st.represents) st

@@ -1,0 +1,79 @@
+//! What a given message does: for each kind its outcome, and what follows.
+
+use crate::replica::Replica;
+use crate::sending::Done;
+use mb_base::NoMemory;
+use mb_msg::{Message, Outcome};
+use mb_service::Service;
+use std::alloc::Global;
+
+/// What became of an event, and what follows it.
+#[derive(Clone, Copy)]
+pub(crate) struct Answer {
+    pub(crate) outcome: Outcome,
+    /// The rules follow what was taken; and each LOG that checks before its entries, also where it ended at a refusal.
+    pub(crate) rules_follow: bool,
+    /// A STATE asks for the parts that are missing still.
+    pub(crate) asks: bool,
+}
+
+impl Answer {
+    ghost use Rattle.std.specs.Prelude.{◌≡◌, false};
+    ghost use Rattle.mb_core.specs.Answers.{is_taken};
+
+    /// That of a message other than LOG and STATE, or of lost patience.
+    pub(crate) fn of(outcome: Outcome) -> Answer
+        ensures { result ≡ record { outcome = outcome; rules_follow = is_taken outcome; asks = false } }
+    {
+        Answer {
+            outcome,
+            rules_follow: outcome == Outcome::Took,
+            asks: false,
+        }
+    }
+}
+
+impl<V: Service + Drop> Replica<V> {
+    ghost use Rattle.mb_core.specs.declared.sending.Done.{Done};
+    ghost use Rattle.mb_core.specs.Represents.{IsOther, Serves, StandsAt, Answers, HasHistory, IsInStep};
+    ghost use Rattle.std.specs.Prelude.{◌≡◌, IfOk};
+    ghost use Rattle.mb_msg.specs.Fits.{FitsFields};
+    ghost use Rattle.mb_model.specs.Histories.{Identity, History};
+    ghost use Rattle.mb_model.specs.Sending.{Progress};
+    ghost use Rattle.mb_model.specs.Given.{give};
+    ghost use Rattle.mb_model.specs.HostStep.{rules_follow, asks_on};
+    /// Gives a message to this host. A REPLY is for clients.
+    pub(crate) fn give(
+        &mut self,
+        alloc: Global,
+        message: Message,
+        done: &mut Done,
+    ) -> Result<Answer, NoMemory>
+        requires fits { FitsFields self.old.agreement.shape message }
+        requires stepping { IsInStep V.is_state V.after V.answer V.part_of V.restored self.old done.old }
+        ensures { (me : Identity V) (x : Progress) → Serves V.is_state V.after V.answer V.part_of V.restored me → StandsAt me self.old done.old x → IfOk result (λ a. Answers me message a (give me message x) × StandsAt me self.new done.new (give me message x).left) }
+    {
+        match message {
+            Message::Request(m) => Ok(Answer::of(self.give_request(alloc, m, done)?)),
+            Message::ReqViewChange(m) => Ok(Answer::of(self.give_wish(&m))),
+            Message::Resend(m) => Ok(Answer::of(self.give_resend(alloc, &m, done)?)),
+            Message::Log(m) => self.give_log(alloc, m),
+            Message::Fetch(m) => Ok(Answer::of(self.give_fetch(alloc, &m, done)?)),
+            Message::State(m) => self.give_state(alloc, &m, done),
+            Message::Stop(m) => Ok(Answer::of(self.stop_answer(&m))),
+            other => self.give_other(alloc, other),
+        }
+    }
+
+    /// Gives a stamped message or a REPLY.
+    fn give_other(&mut self, alloc: Global, message: Message) -> Result<Answer, NoMemory>
+        requires fits { FitsFields self.old.agreement.shape message }
+        requires history { HasHistory self.old }
+        ensures { (me : Identity V) (x : Progress) → (done : Done) → Serves V.is_state V.after V.answer V.part_of V.restored me → IsOther message → StandsAt me self.old done x → IfOk result (λ a. Answers me message a (give me message x) × StandsAt me self.new done (give me message x).left) }
+    {
+        match message.into_stamped() {
+            Ok(stamped) => Ok(Answer::of(self.give_stamped(alloc, stamped)?)),
+            Err(_reply) => Ok(Answer::of(Outcome::Idle)),
+        }
+    }
+}

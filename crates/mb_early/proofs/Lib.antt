@@ -1,0 +1,13 @@
+pub mod AcceptLaws
+pub mod EntryLaws
+pub mod Beginning
+pub mod CheckLaws
+pub mod ExecutedEntry
+pub mod RuleLaws
+pub mod FillLaws
+pub mod RuleLoop
+pub mod ServedTables
+pub mod StampedEntry
+pub mod StoreLaws
+pub mod TableLaws
+pub mod StepLaws

@@ -1,0 +1,7 @@
+pub mod Store
+pub mod Sound
+pub mod Represents
+pub mod StoreTables
+pub mod Halting
+pub mod Due
+pub mod Filling
