@@ -1,0 +1,13 @@
+pub mod CleanLaws
+pub mod Walks
+pub mod ClaimLaws
+pub mod MemberLaws
+pub mod BareReads
+pub mod Places
+pub mod Sets
+pub mod Issuing
+pub mod Kept
+pub mod TagLaws
+pub mod InMessages
+pub mod FirstBytes
+pub mod ShownForms

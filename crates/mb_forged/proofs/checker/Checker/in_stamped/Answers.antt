@@ -1,0 +1,13 @@
+use Rattle.std.proofs.Common.{sym, ◌∙◌, ◌∷◌, []}
+use Rattle.mb_forged.proofs.Walks.{front_found, then_clean}
+use Rattle.mb_msg.specs.Stamps.{ui_of, bare_of}
+use Rattle.mb_theory.specs.Inside.{sender_claim, claims_in_stamped, stamped_claims}
+use Rattle.mb_forged.proofs.checker.Checker.in_stamped.Goals as goal
+
+pub returns-in-Some : goal.returns-in-Some
+unfolding stamped_claims
+returns-in-Some c s w a = front_found s w (claims_in_stamped s.shape c.args.m.now) ((sender_claim (ui_of c.args.m.now) (bare_of c.args.m.now) ∷ [])) c.in-Some.found (sym c.in-Some.is ∙ c.in_ok-found.ensures s w a)
+
+pub returns : goal.returns
+unfolding stamped_claims
+returns c s w a = then_clean s w (claims_in_stamped s.shape c.args.m.now) ((sender_claim (ui_of c.args.m.now) (bare_of c.args.m.now) ∷ [])) c.sender_of_stamped.result (sym c.in_default.is ∙ c.in_ok-found.ensures s w a) (c.sender_of_stamped.ensures s w a)

@@ -1,0 +1,4 @@
+pub mod Places
+pub mod Ledgers
+pub mod Checks
+pub mod Contents
