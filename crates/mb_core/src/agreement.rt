@@ -12,7 +12,7 @@ use mb_msg::StableCert;
 use mb_normal::Normal;
 use mb_usig::Usig;
 
-/// What a host agrees on with the other hosts, apart from what it executes with. Each field is a search in the host's history.
+/// What a host agrees on with the other hosts, apart from what it executes with. Each field but the first two is a search in the host's history.
 #[derive(Drop)]
 pub(crate) struct Agreement {
     pub(crate) shape: Shape,

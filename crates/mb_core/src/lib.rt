@@ -4,7 +4,8 @@
 //! changes, its own log. It knows nothing of the service. The keeper executes what is agreed on.
 //!
 //! A step is one event, then the rules, of which the first that is enabled is carried out, again and again, and at its end a FETCH where the
-//! host is behind. For each kind of message there is one file: why it is refused, what it does where it is not, and the rule that stamps it.
+//! host is behind and the event was a Nudge or a STATE, or the stable position rose. The rules and the FETCH follow what was taken. For each kind
+//! of message there is one file: why it is refused, what it does where it is not, and the rule that stamps it.
 //!
 //! | Files | Have |
 //! |---|---|

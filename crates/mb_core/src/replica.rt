@@ -68,7 +68,7 @@ impl<V: Service + Drop> Replica<V> {
     pub fn step(&mut self, alloc: Global, event: &Event) -> Result<Step, Stop>
         requires { self.old.halted ≡ false → IsAtRest V.is_state V.after V.answer V.part_of V.restored self.old }
         ensures stands { (me : Identity V) (d : History) → Serves V.is_state V.after V.answer V.part_of V.restored me → Represents me self.old d → IsWhole d
-            → IfOk result (λ s. IsStep s (transition me d event.now) × Represents me self.new (transition me d event.now).left.history) }
+            → IfOk result (λ s. IsStep s (transition me d event.now) × (Represents me self.new (transition me d event.now).left.history × IsWhole (transition me d event.now).left.history)) }
         ensures rests { self.new.halted ≡ false → IsAtRest V.is_state V.after V.answer V.part_of V.restored self.new }
         ensures halts { Halts self.old result self.new }
     {

@@ -8,7 +8,7 @@ use mb_normal::Due as NormalDue;
 use mb_service::Service;
 use std::alloc::Global;
 
-/// More rules than any step carries out.
+/// At least as many rules as any step carries out.
 const ENOUGH: u32 = 1_000_000;
 
 /// What is to be done. What it is done with is lent from the tables when it is carried out.
