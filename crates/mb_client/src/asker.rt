@@ -107,6 +107,7 @@ impl Asker {
         ensures stands { (s : Shape) (secret : Bytes) (client : ℕ) (a : Asking) → Represents s secret client self.old a
             → OnOk result (Represents s secret client self.new (asks a)) }
         ensures unchanged { OnErr result (self.new ≡ self.old) }
+        ensures number { OnOk result (self.new.number ≡ self.old.number + 1) }
         ensures shape { self.new.shape ≡ self.old.shape }
     {
         let request = self.request(alloc, self.number + 1, op)?;
@@ -137,6 +138,7 @@ impl Asker {
         requires text { FitsText reply.now.result }
         ensures answer { (s : Shape) (secret : Bytes) (client : ℕ) (a : Asking) → Represents s secret client self.old a → as_taken result ≡ taken s secret client a reply.now }
         ensures stands { (s : Shape) (secret : Bytes) (client : ℕ) (a : Asking) → Represents s secret client self.old a → Represents s secret client self.new (takes s secret client a reply.now) }
+        ensures number { self.new.number ≡ self.old.number }
         ensures shape { self.new.shape ≡ self.old.shape }
     {
         if !self.is_right(reply) {
@@ -191,6 +193,7 @@ impl Asker {
         ensures answer { as_taken result ≡ Accepted reply.pos }
         ensures stands { (s : Shape) (secret : Bytes) (client : ℕ) (a : Asking) → Represents s secret client self.old a
             → Represents s secret client self.new (left_by s secret client (Accepted reply.pos) a reply) }
+        ensures number { self.new.number ≡ self.old.number }
         ensures shape { self.new.shape ≡ self.old.shape }
     {
         let pos = reply.pos();
