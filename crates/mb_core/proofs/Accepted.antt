@@ -38,7 +38,7 @@ module _ {V : Type 0} where
   same_again a b c first second = record { shape = second.shape ∙ first.shape; host = second.host ∙ first.host; secret = second.secret ∙ first.secret }
 
   pub still_host : (me : Identity V) (old new : Replica V) → IsSame old new → IsHost me old → IsHost me new
-  still_host me old new same who = record { built = who.built; shape = who.shape ∙ sym same.shape; host = who.host ∙ sym same.host; secret = who.secret ∙ sym same.secret }
+  still_host me old new same who = record { shape = who.shape ∙ sym same.shape; host = who.host ∙ sym same.host; secret = who.secret ∙ sym same.secret }
 
   -- The table of view changes is of the same system and host.
   pub same_table : (old new : Replica V) → IsSame old new → SameHost old.agreement.change new.agreement.change

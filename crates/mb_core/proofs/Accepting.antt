@@ -1,6 +1,6 @@
 -- An accepted message, from its tables to its sender's gate: where all tables but the gate took it, and the gate follows, the replica stands for the
 -- longer history.
-use Rattle.std.proofs.Common.{◌≡◌, ℕ, ◌<◌, true, false, List, [], ◌∷◌, refl, sym, ap, subst, ◌∙◌, inl, Some, None}
+use Rattle.std.proofs.Common.{◌≡◌, ℕ, ◌<◌, false, List, [], ◌∷◌, refl, sym, ap, subst, ◌∙◌, inl, Some, None}
 use Rattle.std.specs.List.{AllByRecursion}
 use Rattle.mb_base.specs.Shapes.{Bytes, host_count}
 use Rattle.mb_base.specs.declared.shape.Shape.{Shape}
@@ -77,9 +77,6 @@ module _ {V : Type 0} (me : Identity V) where
   -- ---- which host it is
 
   module _ (r : Replica V) (who : IsHost me r) where
-    pub on : me.built.order ≡ true
-    on = ap (λ b. b.order) who.built
-
     pub there : me.host < host_count me.shape
     there = subst (λ (h : ℕ). h < host_count me.shape) (sym who.host) (subst (λ (s : Shape). r.agreement.host < host_count s) (sym who.shape) r.agreement.host_in)
 
@@ -117,7 +114,7 @@ module _ {V : Type 0} (me : Identity V) where
 
   pub accepted_fit : (r : Replica V) (m : StampedMessage) (d : History) → Represents me r d → FitsStamped r.agreement.shape m → stamped_refusal me d m ≡ None → AreFit me (Accepted (as_message m) ∷ d)
   accepted_fit r m d rep fits none =
-      unstamped_fit me (on r rep.who) (there r rep.who) (Accepted (as_message m)) d refl (accepted_adds me m d none)
+      unstamped_fit me (there r rep.who) (Accepted (as_message m)) d refl (accepted_adds me m d none)
       ((as_message m, as_message_fits me.shape m (fits_here r rep.who m fits), inl refl), any_of (compared_by me d (as_message m))) rep.tables.sound rep.fit
 
   pub accepted_stands : (old mid new : Replica V) (m : StampedMessage) (d : History) (mark : Mark) → Represents me old d → FitsStamped old.agreement.shape m → stamped_refusal me d m ≡ None
@@ -125,7 +122,7 @@ module _ {V : Type 0} (me : Identity V) where
   accepted_stands old mid new m d mark r fits none a is g =
       let e : Entry = Accepted (as_message m) in
       let gates : GatesStand me mid.agreement.gates.items d = subst (λ (x : List Gate). GatesStand me x d) (sym a.gates) r.tables.gates in
-      let taken = gate_taken me r.who.built mid.agreement.gates.items d m mark g.before g.behind none (marked mark m is) g.there g.law gates in
+      let taken = gate_taken me mid.agreement.gates.items d m mark g.before g.behind none (marked mark m is) g.there g.law gates in
       let each : EachStands me (record (tables_of mid) { gates = new.agreement.gates.items }) (e ∷ d) = record {
         counter = a.rest.counter;
         gates = subst (λ (x : List Gate). GatesStand me x (e ∷ d)) (sym g.now) taken;
@@ -173,7 +170,7 @@ module _ {V : Type 0} (me : Identity V) where
       record {
         who = still_host me old new g.writes.same r.who;
         tables = stands_behind me (tables_of old) (tables_of new) e d t tt (illegal_is_of_others me d t.sound.own.own m rule some) (subst (λ (x : Tables V). EachStands me x (e ∷ d)) (sym g.writes.tables) each);
-        fit = unstamped_fit me (on old r.who) (there old r.who) e d refl tt (as_message m, m, as_message_fits me.shape m (fits_here old r.who m fits), inl refl, convicts me d m rule some) t.sound r.fit;
+        fit = unstamped_fit me (there old r.who) e d refl tt (as_message m, m, as_message_fits me.shape m (fits_here old r.who m fits), inl refl, convicts me d m rule some) t.sound r.fit;
       }
 
   -- ---- within a step

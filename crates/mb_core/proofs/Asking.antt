@@ -153,7 +153,7 @@ module _ {V : Type 0} (me : Identity V) where
         counter = left.counter refl;
         gates = left.gates (λ h. refl);
         log = left.log refl;
-        normal = request_pended me (ap (λ b. b.order) rep.who.built) r d t.normal new.agreement.normal (adds, rep.tables.sound.arises) pends rep.tables.normal;
+        normal = request_pended me r d t.normal new.agreement.normal (adds, rep.tables.sound.arises) pends rep.tables.normal;
         change = left.change refl;
         stable = left.stable refl;
         exec = left.exec refl;

@@ -1,6 +1,6 @@
 -- One entry more: a replica represents the history with it where each table stands behind it. Of an entry that stamps nothing, and of one that speaks to
 -- the table of view changes alone.
-use Rattle.std.proofs.Common.{◌≡◌, ℕ, ◌<◌, false, [], ◌∷◌, refl, sym, ap, subst}
+use Rattle.std.proofs.Common.{◌≡◌, ℕ, ◌<◌, false, [], ◌∷◌, refl, sym, subst}
 use Rattle.mb_base.specs.declared.shape.Shape.{Shape}
 use Rattle.mb_base.specs.Shapes.{host_count}
 use Rattle.mb_model.specs.Histories.{Entry, Served, History, Identity}
@@ -52,7 +52,7 @@ module _ {V : Type 0} (me : Identity V) where
     represents_more each = record {
       who = still_host me old new same rep.who;
       tables = stands_behind me (tables_of old) (tables_of new) e d rep.tables adds moves each;
-      fit = unstamped_fit me (ap (λ b. b.order) rep.tables.whole) (host_there old d rep) e d unstamped adds comes rep.tables.sound rep.fit;
+      fit = unstamped_fit me (host_there old d rep) e d unstamped adds comes rep.tables.sound rep.fit;
     }
 
   -- what an entry leaves of the tables

@@ -1,5 +1,5 @@
 -- What a replica's history says of the numbers in its tables.
-use Rattle.std.proofs.Common.{◌≡◌, ◌<◌, ◌^◌, ℕ, true, ap, sym, subst}
+use Rattle.std.proofs.Common.{◌≡◌, ◌<◌, ◌^◌, ℕ, true, sym, subst}
 use Rattle.std.proofs.lemmas.Bool.{ltb-true}
 use Rattle.mb_base.specs.declared.shape.Shape.{Shape}
 use Rattle.mb_parts.specs.declared.certificates.StableCert.{StableCert}
@@ -13,9 +13,6 @@ use Rattle.mb_core.specs.declared.replica.Replica.{Replica}
 use Rattle.mb_core.specs.Represents.{Represents, HasHistory}
 
 module _ {V : Type 0} (me : Identity V) (r : Replica V) (d : History) (rep : Represents me r d) where
-  pub in_order : me.built.order ≡ true
-  in_order = ap (λ b. b.order) rep.who.built
-
   pub host_there : me.host < host_count me.shape
   host_there =
       let within : r.agreement.host < host_count r.agreement.shape = r.agreement.host_in in
@@ -23,10 +20,10 @@ module _ {V : Type 0} (me : Identity V) (r : Replica V) (d : History) (rep : Rep
       subst (λ (s : Shape). me.host < host_count s) (sym rep.who.shape) here_in
 
   pub last_low : (here me d).last < 2 ^ 63
-  last_low = (gate_fits me in_order d rep.tables.sound.arises rep.fit.values me.host).at.last
+  last_low = (gate_fits me d rep.tables.sound.arises rep.fit.values me.host).at.last
 
   pub exec_low : exec_of d < 2 ^ 63
-  exec_low = exec_place me in_order host_there d rep.tables.sound rep.fit
+  exec_low = exec_place me host_there d rep.tables.sound rep.fit
 
   -- behind the stable position
   pub behind_low : is_behind me d ≡ true → r.agreement.exec < r.agreement.stable.pos

@@ -1,6 +1,5 @@
 -- What the tables name as due is the rule of the history, so what the host names is.
 use Rattle.std.proofs.Common.{◌≡◌, ◌∙◌, ℕ, Bool, Option, Some, None, refl}
-use Rattle.mb_msg.specs.declared.message.Message.{Message}
 use Rattle.mb_parts.specs.declared.floor.Floor.{Floor}
 use Rattle.mb_change.specs.declared.due.ChangeDue.{ChangeDue}
 use Rattle.mb_change.specs.declared.due.ChangeDue.TheVariants as change
@@ -10,7 +9,6 @@ use Rattle.mb_change.specs.Rules.{due_with}
 use Rattle.mb_model.specs.EnabledRules.{Rule, ChangeView, Announce, Enter, Open, Join, Commit, Execute, Prepare}
 use Rattle.mb_model.specs.Histories.{History, Identity, here}
 use Rattle.mb_model.specs.OwnLog.{has_other_room}
-use Rattle.mb_model.specs.Positions.{exec_of}
 use Rattle.mb_model.specs.Stable.{low_of}
 use Rattle.mb_standing.proofs.Changes.{change_answers}
 use Rattle.mb_core.specs.declared.rules.Due.{Due}

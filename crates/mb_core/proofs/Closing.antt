@@ -5,7 +5,6 @@ use Rattle.mb_base.specs.declared.shape.Shape.{Shape}
 use Rattle.mb_base.specs.Shapes.{Bytes, interval}
 use Rattle.mb_msg.specs.declared.event.Placed.{Placed}
 use Rattle.mb_msg.specs.declared.event.Slot.{Slot}
-use Rattle.mb_model.specs.Built.{Built, everything}
 use Rattle.mb_model.specs.Service.{Served as ServedState}
 use Rattle.mb_model.specs.States.{Snapshots, parts_of}
 use Rattle.mb_model.specs.Histories.{Entry, Executed, History, Identity}
@@ -63,7 +62,7 @@ module _ {V : Type 0} (me : Identity V) where
     closed_now = Executed (slot_for me x.history pos)
 
     ends : IsSound me (closed_now ∷ x.history)
-    ends = serving_ends me s.orders pos s.batch x.history s.serving
+    ends = serving_ends me pos s.batch x.history s.serving
 
     adds_on : Adds me x.history closed_now
     adds_on = ends.arises.0
@@ -116,7 +115,7 @@ module _ {V : Type 0} (me : Identity V) where
           represents = record {
             who = hosted me old new writes.same rep.who;
             tables = stands_behind me t (tables_of new) closed_now x.history rep.tables adds_on tt (subst (λ (u : Tables V). EachStands me u (closed_now ∷ x.history)) (sym writes.tables) each);
-            fit = executed_fit me s.orders (is_there me old rep.who) pos s.batch x.history s.serving rep.fit;
+            fit = executed_fit me (is_there me old rep.who) pos s.batch x.history s.serving rep.fit;
           };
           serving = served_ends closed_now x.history refl;
           sent = does.sent ∙ s.stands.sent;
@@ -130,11 +129,11 @@ module _ {V : Type 0} (me : Identity V) where
 
   -- ---- the CHECKPOINT that follows
 
-  pub interval_is : (pos : ℕ) (x : Progress) → me.built ≡ everything → (pos % interval me.shape == 0) ≡ true → with_checkpoint me pos (note (state_strings me x.history pos) x) ≡ at_interval me pos x
-  interval_is pos x whole multiple = let on : me.built.checkpoints ≡ true = ap (λ (b : Built). b.checkpoints) whole in rw (on, multiple) refl
+  pub interval_is : (pos : ℕ) (x : Progress) → (pos % interval me.shape == 0) ≡ true → with_checkpoint me pos (note (state_strings me x.history pos) x) ≡ at_interval me pos x
+  interval_is pos x multiple = rw multiple refl
 
-  pub no_interval_is : (pos : ℕ) (x : Progress) → me.built ≡ everything → (pos % interval me.shape == 0) ≡ false → x ≡ at_interval me pos x
-  no_interval_is pos x whole apart = let on : me.built.checkpoints ≡ true = ap (λ (b : Built). b.checkpoints) whole in rw (on, apart) refl
+  pub no_interval_is : (pos : ℕ) (x : Progress) → (pos % interval me.shape == 0) ≡ false → x ≡ at_interval me pos x
+  no_interval_is pos x apart = rw apart refl
 
   pub checkpoint_is : (pos : ℕ) (x : Progress) → has_room me x.history ≡ true → stamp me (checkpoint me x.history pos) x ≡ with_checkpoint me pos x
   checkpoint_is pos x room = rw room refl

@@ -42,7 +42,7 @@ use Rattle.mb_core.specs.declared.replica.Replica.{Replica}
 use Rattle.mb_core.specs.Represents.{Represents}
 use Rattle.mb_core.specs.Between.{WritesNormal, AwaitsGate, BehindCommit}
 use Rattle.mb_core.proofs.Accepted.{same_again}
-use Rattle.mb_core.proofs.Accepting.{on, marked, votes_await, prepare_speaks, commit_speaks}
+use Rattle.mb_core.proofs.Accepting.{marked, votes_await, prepare_speaks, commit_speaks}
 use Rattle.mb_core.proofs.Places.{stored}
 
 -- the vote and the slot that the code makes of a digest
@@ -86,7 +86,7 @@ module _ {V : Type 0} where
           → PutsSlot voted.agreement.normal new.agreement.normal m.pos (slot_of m.ui digest batch) → WritesNormal voted new → AwaitsGate me old new (stamped.Prepare m) d
       prepare_counted voted new digest batch counts is whole votes first puts second =
           votes_await me old new (stamped.Prepare m) d r none (prepare_speaks m) (normal_again old voted new first second)
-          (prepare_counts me (on me old r.who) m d old.agreement.normal voted.agreement.normal new.agreement.normal (accepted_adds me (stamped.Prepare m) d none, r.tables.sound.arises) counts
+          (prepare_counts me m d old.agreement.normal voted.agreement.normal new.agreement.normal (accepted_adds me (stamped.Prepare m) d none, r.tables.sound.arises) counts
           (subst (λ (b : Bytes). CountsVote old.agreement.normal voted.agreement.normal m.pos m.ui.host (vote_of m.ui.counter b)) is votes)
           (subst (λ (b : Bytes). PutsSlot voted.agreement.normal new.agreement.normal m.pos (slot_of m.ui b (whole_body m.body))) is
           (subst (λ (o : Option Batch). PutsSlot voted.agreement.normal new.agreement.normal m.pos (slot_of m.ui digest o)) whole puts))
@@ -95,7 +95,7 @@ module _ {V : Type 0} where
       pub prepare_passed_over : counts_at me d m.view m.pos ≡ false → AwaitsGate me old old (stamped.Prepare m) d
       prepare_passed_over not_so =
           votes_await me old old (stamped.Prepare m) d r none (prepare_speaks m) (nothing_written old)
-          (prepare_does_not_count me (on me old r.who) m d old.agreement.normal (accepted_adds me (stamped.Prepare m) d none, r.tables.sound.arises) not_so r.tables.normal)
+          (prepare_does_not_count me m d old.agreement.normal (accepted_adds me (stamped.Prepare m) d none, r.tables.sound.arises) not_so r.tables.normal)
 
     -- ---- COMMIT
 
@@ -104,13 +104,13 @@ module _ {V : Type 0} where
           → CountsVote old.agreement.normal new.agreement.normal m.pos m.ui.host (vote_of m.counter digest) → WritesNormal old new → AwaitsGate me old new (stamped.Commit m) d
       commit_counted new digest counts is votes w =
           votes_await me old new (stamped.Commit m) d r none (commit_speaks m) w
-          (commit_counts me (on me old r.who) m d old.agreement.normal new.agreement.normal (accepted_adds me (stamped.Commit m) d none, r.tables.sound.arises) counts
+          (commit_counts me m d old.agreement.normal new.agreement.normal (accepted_adds me (stamped.Commit m) d none, r.tables.sound.arises) counts
           (subst (λ (b : Bytes). CountsVote old.agreement.normal new.agreement.normal m.pos m.ui.host (vote_of m.counter b)) is votes) r.tables.normal)
 
       pub commit_passed_over : counts_at me d m.view m.pos ≡ false → AwaitsGate me old old (stamped.Commit m) d
       commit_passed_over not_so =
           votes_await me old old (stamped.Commit m) d r none (commit_speaks m) (nothing_written old)
-          (commit_does_not_count me (on me old r.who) m d old.agreement.normal (accepted_adds me (stamped.Commit m) d none, r.tables.sound.arises) not_so r.tables.normal)
+          (commit_does_not_count me m d old.agreement.normal (accepted_adds me (stamped.Commit m) d none, r.tables.sound.arises) not_so r.tables.normal)
 
     -- ---- the PREPARE that it names
 
@@ -120,7 +120,7 @@ module _ {V : Type 0} where
           ≡ option_or (then_some (is_own_future me d (named_prepare me m).ui) outcome.Idle) (gate_refusal me d (stamped.Prepare (named_prepare me m)))
       named_refused =
           subst (λ (x : History). stamped_refusal me x (stamped.Prepare (named_prepare me m)) ≡ option_or (then_some (is_own_future me x (named_prepare me m).ui) outcome.Idle) (gate_refusal me x (stamped.Prepare (named_prepare me m)))) (sym behind.is)
-          (named_refusal me (on me old r.who) m behind.before (subst (λ (x : History). Arises me x) behind.is r.tables.sound.arises) behind.casts
+          (named_refusal me m behind.before (subst (λ (x : History). Arises me x) behind.is r.tables.sound.arises) behind.casts
           (passes_stamped me behind.before (stamped.Commit m) behind.passed))
 
       pub future_refused : (p : Prepare) → p ≡ named_prepare me m → is_own_future me d p.ui ≡ true → Some outcome.Idle ≡ stamped_refusal me d (stamped.Prepare p)
@@ -133,7 +133,7 @@ module _ {V : Type 0} where
           let host = fits.ui.host in
           let lt : p.ui.host < length old.agreement.gates.items = omega (arith, count, host) in
           let stands = r.tables.gates.each p.ui.host gate (stored old.agreement.gates.items p.ui.host at gate same lt read) in
-          let refuses : gate_refusal me d (stamped.Prepare p) ≡ refusal_of o = gate_refuses me r.who.built d (stamped.Prepare p) mark gate o stands (marked mark (stamped.Prepare p) mark_is)
+          let refuses : gate_refusal me d (stamped.Prepare p) ≡ refusal_of o = gate_refuses me d (stamped.Prepare p) mark gate o stands (marked mark (stamped.Prepare p) mark_is)
           (subst (λ (b : Bool). Judges gate mark b o) (sym (inner_of_prepare me p)) judges) in
           let named : stamped_refusal me d (stamped.Prepare p) ≡ option_or (then_some (is_own_future me d p.ui) outcome.Idle) (gate_refusal me d (stamped.Prepare p)) =
           subst (λ (x : Prepare). stamped_refusal me d (stamped.Prepare x) ≡ option_or (then_some (is_own_future me d x.ui) outcome.Idle) (gate_refusal me d (stamped.Prepare x))) (sym is) named_refused in

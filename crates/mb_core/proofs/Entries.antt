@@ -1,9 +1,8 @@
 -- One entry more at a host, where nothing is stamped: what a replica stands for behind it.
-use Rattle.std.proofs.Common.{◌≡◌, ◌<◌, ◌∙◌, ℕ, true, false, ◌∷◌, ap, sym, subst}
+use Rattle.std.proofs.Common.{◌≡◌, ◌<◌, ◌∙◌, ℕ, false, ◌∷◌, sym, subst}
 use Rattle.mb_base.specs.declared.shape.Shape.{Shape}
 use Rattle.mb_base.specs.Shapes.{host_count}
 use Rattle.mb_msg.specs.declared.event.Outcome.{Outcome}
-use Rattle.mb_model.specs.Built.{Built}
 use Rattle.mb_model.specs.Histories.{Entry, History, Identity}
 use Rattle.mb_model.specs.Sending.{Progress, write}
 use Rattle.mb_model.specs.Given.{Answer}
@@ -25,14 +24,10 @@ module _ {V : Type 0} (me : Identity V) where
 
   pub hosted : (old new : Replica V) → IsSame old new → IsHost me old → IsHost me new
   hosted old new same who = record {
-    built = who.built;
     shape = who.shape ∙ sym same.shape;
     host = who.host ∙ sym same.host;
     secret = who.secret ∙ sym same.secret;
   }
-
-  pub orders : (r : Replica V) → IsHost me r → me.built.order ≡ true
-  orders r who = ap (λ (b : Built). b.order) who.built
 
   pub is_there : (r : Replica V) → IsHost me r → me.host < host_count me.shape
   is_there r who =
@@ -46,7 +41,7 @@ module _ {V : Type 0} (me : Identity V) where
   one_more old new e d rep same none adds moves comes each = record {
     who = hosted old new same rep.who;
     tables = stands_behind me (tables_of old) (tables_of new) e d rep.tables adds moves each;
-    fit = unstamped_fit me (orders old rep.who) (is_there old rep.who) e d none adds comes rep.tables.sound rep.fit;
+    fit = unstamped_fit me (is_there old rep.who) e d none adds comes rep.tables.sound rep.fit;
   }
 
   -- that leaves all tables
@@ -54,7 +49,7 @@ module _ {V : Type 0} (me : Identity V) where
   one_left r e d rep none adds comes tables = record {
     who = rep.who;
     tables = tables;
-    fit = unstamped_fit me (orders r rep.who) (is_there r rep.who) e d none adds comes rep.tables.sound rep.fit;
+    fit = unstamped_fit me (is_there r rep.who) e d none adds comes rep.tables.sound rep.fit;
   }
 
   -- ---- in a step

@@ -1,6 +1,6 @@
 -- What follows an event: the rules and the FETCH, where the answer says so.
 use Rattle.std.proofs.Common.{◌≡◌, ◌∙◌, Bool, true, false, refl, sym, ap, subst, Result, Option, Some, None}
-use Rattle.std.specs.Prelude.{if◌then◌else◌, IfOk}
+use Rattle.std.specs.Prelude.{IfOk}
 use Rattle.mb_base.specs.declared.shape.Shape.{Shape}
 use Rattle.mb_base.specs.Shapes.{Bytes}
 use Rattle.mb_msg.specs.Reading.{message_of}
@@ -8,8 +8,6 @@ use Rattle.mb_msg.specs.declared.event.Event.TheVariants as event
 use Rattle.mb_msg.specs.declared.event.Outcome.{Outcome}
 use Rattle.mb_msg.specs.declared.event.Outcome.TheVariants as outcome
 use Rattle.mb_msg.specs.declared.message.Message.{Message}
-use Rattle.mb_msg.specs.Spelling.{kind_of}
-use Rattle.mb_model.specs.Built.{Built, everything}
 use Rattle.mb_model.specs.Histories.{History, Identity}
 use Rattle.mb_model.specs.Sending.{Progress, begin}
 use Rattle.mb_model.specs.Given.{Answer, answer, give}
@@ -21,7 +19,6 @@ use Rattle.mb_standing.specs.Stands.{HeldStand}
 use Rattle.mb_core.specs.declared.given.Answer.{Answer as GivenAnswer}
 use Rattle.mb_core.specs.declared.replica.Replica.{Replica}
 use Rattle.mb_core.specs.declared.sending.Done.{Done}
-use Rattle.mb_core.specs.Answers.{is_taken}
 use Rattle.mb_core.specs.Represents.{Answers, StandsAt}
 use Rattle.mb_core.proofs.Answering.{same_taken, answer_of}
 
@@ -35,33 +32,28 @@ module _ {V : Type 0} (me : Identity V) where
   same_outcome true asks d a = refl
   same_outcome false asks d a = refl
 
-  module _ (built : me.built ≡ everything) where
-    -- every kind of message is built
-    message_is : (d : History) (m : Message) → on_message me d m ≡ after_message me m d (give me m (begin d))
-    message_is d m = ap (λ (b : Built). if b.kinds (kind_of m) then after_message me m d (give me m (begin d)) else answer (outcome.Unbuilt (kind_of m)) (begin d)) built
+  pub message_ends : (d : History) (m : Message) (a : GivenAnswer) (o : Outcome) (r : Replica V) (done : Done) → Answers me m a (give me m (begin d))
+      → StandsAt me r done (finished_where me a.rules_follow a.asks d (answer o (give me m (begin d)).left)).left
+      → (a.outcome ≡ (on_message me d m).outcome) × StandsAt me r done (on_message me d m).left
+  message_ends d m a o r done is stands =
+      let given : Answer = give me m (begin d) in
+      let follow : Bool = host.rules_follow me given.outcome m in
+      let asks : Bool = host.asks_on me m in
+      let left : (finished_where me a.rules_follow a.asks d (answer o given.left)).left ≡ (on_message me d m).left =
+      ap (λ (b : Bool). (finished_where me b a.asks d (answer o given.left)).left) is.follow
+      ∙ (ap (λ (b : Bool). (finished_where me follow b d (answer o given.left)).left) is.asks
+      ∙ same_left follow asks d o given) in
+      (is.outcome ∙ sym (same_outcome follow asks d given), subst (λ (x : Progress). StandsAt me r done x) left stands)
 
-    pub message_ends : (d : History) (m : Message) (a : GivenAnswer) (o : Outcome) (r : Replica V) (done : Done) → Answers me m a (give me m (begin d))
-        → StandsAt me r done (finished_where me a.rules_follow a.asks d (answer o (give me m (begin d)).left)).left
-        → (a.outcome ≡ (on_message me d m).outcome) × StandsAt me r done (on_message me d m).left
-    message_ends d m a o r done is stands =
-        let given : Answer = give me m (begin d) in
-        let follow : Bool = host.rules_follow me given.outcome m in
-        let asks : Bool = host.asks_on me m in
-        let left : (finished_where me a.rules_follow a.asks d (answer o given.left)).left ≡ (on_message me d m).left =
-        ap (λ (b : Bool). (finished_where me b a.asks d (answer o given.left)).left) is.follow
-        ∙ (ap (λ (b : Bool). (finished_where me follow b d (answer o given.left)).left) is.asks
-        ∙ (same_left follow asks d o given ∙ ap (λ (x : Answer). x.left) (sym (message_is d m)))) in
-        (is.outcome ∙ (sym (same_outcome follow asks d given) ∙ ap (λ (x : Answer). x.outcome) (sym (message_is d m))), subst (λ (x : Progress). StandsAt me r done x) left stands)
+  -- ---- signals
 
-    -- ---- signals
+  pub patience_is : (d : History) → after_patience me d (on_patience me (begin d)) ≡ transition me d event.Patience
+  unfolding transition
+  patience_is d = refl
 
-    pub patience_is : (d : History) → after_patience me d (on_patience me (begin d)) ≡ transition me d event.Patience
-    unfolding transition
-    patience_is d = ap (λ (b : Built). if b.signals then after_patience me d (on_patience me (begin d)) else answer outcome.Idle (begin d)) (sym built)
-
-    pub nudge_is : (d : History) → finished me true d (on_nudge me (begin d)) ≡ transition me d event.Nudge
-    unfolding transition
-    nudge_is d = ap (λ (b : Built). if b.signals then finished me true d (on_nudge me (begin d)) else answer outcome.Idle (begin d)) (sym built)
+  pub nudge_is : (d : History) → finished me true d (on_nudge me (begin d)) ≡ transition me d event.Nudge
+  unfolding transition
+  nudge_is d = refl
 
   pub patience_ends : (d : History) (a : Answer) (g : GivenAnswer) (o other : Outcome) (r : Replica V) (done : Done) → g ≡ answer_of o → o ≡ a.outcome
       → StandsAt me r done (finished_where me g.rules_follow g.asks d (answer other a.left)).left

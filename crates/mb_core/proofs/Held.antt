@@ -175,9 +175,6 @@ pub record BringsPlan {S : Type 0} (me : Identity S) (e : Entry) (d : History) :
   pub brings : stable_of me (e ∷ d) ≡ further (stable_of me d) (plan_base (brought me d e))
 
 module _ {V : Type 0} (me : Identity V) (old : Replica V) (m : StampedMessage) (d : History) (rep : Represents me old d) (passed : stamped_refusal me d m ≡ None) where
-  on : me.built.order ≡ true
-  on = ap (λ b. b.order) rep.tables.whole
-
   arises : Arises me (Accepted (as_message m) ∷ d)
   arises = (accepted_adds me m d passed, rep.tables.sound.arises)
 
@@ -209,7 +206,7 @@ module _ {V : Type 0} (me : Identity V) (old : Replica V) (m : StampedMessage) (
   plan_taken mid new here holds writes counts is b opens stands =
       let e : Entry = Accepted (as_message m) in
       let c : Option StableCert = plan_base (brought me d e) in
-      let now : Counts me (e ∷ d) (above_raise me e d) here mid = record { change = changed mid holds; view_is = is ∙ sym (view_stays me on e d arises b.stays); opens = opens; low = refl } in
+      let now : Counts me (e ∷ d) (above_raise me e d) here mid = record { change = changed mid holds; view_is = is ∙ sym (view_stays me e d arises b.stays); opens = opens; low = refl } in
       let shape : mid.agreement.shape ≡ me.shape = holds.same.shape ∙ sym rep.who.shape in
       let counted : StandsCounting me (e ∷ d) (above_raise me e d) (hosts_below (host_count me.shape)) new =
       subst (λ (s : Shape). StandsCounting me (e ∷ d) (above_raise me e d) (hosts_below (host_count s)) new) shape (counts me (e ∷ d) (above_raise me e d) now (raised_behind mid c b.brings holds.learns)) in
@@ -225,7 +222,7 @@ module _ {V : Type 0} (me : Identity V) (old : Replica V) (d : History) (rep : R
     snapshots = refl;
     parts = refl;
     brings = stable_of_plan me m d;
-  }) opens (λ st. new_view_counted me (on me old (stamped.NewView m) d rep passed) m d new.agreement.normal (arises me old (stamped.NewView m) d rep passed) opens st)
+  }) opens (λ st. new_view_counted me m d new.agreement.normal (arises me old (stamped.NewView m) d rep passed) opens st)
 
   pub open_taken : (m : Open) → FitsOpen old.agreement.shape m → stamped_refusal me d (stamped.Open m) ≡ None → (mid new : Replica V) (here : ℕ) → HoldsEntry me d (Accepted (message.Open m)) old mid → WritesNormal mid new → CountsOpens here mid new
       → here ≡ view_of me d → AwaitsGate me old new (stamped.Open m) d
@@ -235,7 +232,7 @@ module _ {V : Type 0} (me : Identity V) (old : Replica V) (d : History) (rep : R
     snapshots = refl;
     parts = refl;
     brings = stable_of_opened me m d;
-  }) opens (λ st. open_counted me (on me old (stamped.Open m) d rep passed) m d new.agreement.normal (arises me old (stamped.Open m) d rep passed) opens st)
+  }) opens (λ st. open_counted me m d new.agreement.normal (arises me old (stamped.Open m) d rep passed) opens st)
 
   pub join_taken : (m : Join) → stamped_refusal me d (stamped.Join m) ≡ None → (new : Replica V) → Holds (with_shown me d m.evidence) (Some m.stable) old new → AwaitsGate me old new (stamped.Join m) d
   join_taken m passed new holds =
@@ -243,5 +240,5 @@ module _ {V : Type 0} (me : Identity V) (old : Replica V) (d : History) (rep : R
       let learns : Learns (stable_of me d) (Some m.stable) old.agreement.normal new.agreement.normal = subst (λ (s : StableCert). Learns s (Some m.stable) old.agreement.normal new.agreement.normal) rep.tables.stable holds.learns in
       awaits_held me old (stamped.Join m) d rep passed new new (with_shown me d m.evidence) (Some m.stable) holds (none_written new) (stable_shown me m d)
       (record { counter = refl; log = refl; executed = refl; state = refl; nudge = refl }) refl refl
-      (join_learnt me (on me old (stamped.Join m) d rep passed) m d old.agreement.normal new.agreement.normal (arises me old (stamped.Join m) d rep passed) learns rep.tables.normal)
+      (join_learnt me m d old.agreement.normal new.agreement.normal (arises me old (stamped.Join m) d rep passed) learns rep.tables.normal)
       (change_stands me old.agreement.change new.agreement.change e d (same_table old new holds.same) holds.stands rep.tables.change)

@@ -48,7 +48,7 @@ use Rattle.mb_core.specs.declared.sending.Done.{Done}
 use Rattle.mb_core.specs.Represents.{tables_of, Represents, StandsAt}
 use Rattle.mb_core.specs.Between.{IsSame}
 use Rattle.mb_core.specs.Installing.{Settles, WritesInstalled, DoesInstall}
-use Rattle.mb_core.proofs.Entries.{hosted, orders, is_there, one_more, written}
+use Rattle.mb_core.proofs.Entries.{hosted, is_there, one_more, written}
 use Rattle.mb_core.proofs.Fetching.{held_search, held_stand}
 
 module _ {V : Type 0} (me : Identity V) where
@@ -81,7 +81,6 @@ module _ {V : Type 0} (me : Identity V) where
 
   with_parts : (t : Tables V) (held : Option Fetched) (d : History) → Stand me t d → HeldStand me held d → Stand me (record t { parts = held }) d
   with_parts t held d s parts = record {
-    whole = s.whole;
     sound = s.sound;
     counter = s.counter;
     gates = s.gates;
@@ -191,10 +190,10 @@ module _ {V : Type 0} (me : Identity V) where
         behind_it = installed_now ∷ (taken_now ∷ x.history)
 
         taken_sound : IsSound me (taken_now ∷ x.history)
-        taken_sound = stays_sound me (orders me old rep.who) taken_now x.history adds_on tt rep.tables.sound
+        taken_sound = stays_sound me taken_now x.history adds_on tt rep.tables.sound
 
         taken_fit : AreFit me (taken_now ∷ x.history)
-        taken_fit = unstamped_fit me (orders me old rep.who) (is_there me old rep.who) taken_now x.history refl adds_on comes_on rep.tables.sound rep.fit
+        taken_fit = unstamped_fit me (is_there me old rep.who) taken_now x.history refl adds_on comes_on rep.tables.sound rep.fit
 
         installs : Adds me (taken_now ∷ x.history) installed_now
         installs =
@@ -205,7 +204,7 @@ module _ {V : Type 0} (me : Identity V) where
         no_fault = rw (all, gives) refl
 
         installed_sound : IsSound me behind_it
-        installed_sound = stays_sound me (orders me old rep.who) installed_now (taken_now ∷ x.history) installs tt taken_sound
+        installed_sound = stays_sound me installed_now (taken_now ∷ x.history) installs tt taken_sound
 
         low_is : old.agreement.stable.pos ≡ low_now
         low_is = ap (λ (c : StableCert). c.pos) rep.tables.stable ∙ sym (low_stays me taken_now x.history refl)
@@ -216,14 +215,13 @@ module _ {V : Type 0} (me : Identity V) where
         requests normal settles =
             let first : History = taken_now ∷ x.history in
             let parts : List Bytes = parts_held me first in
-            let on = orders me old rep.who in
             let service : y ≡ state_of me behind_it = service_installed me y low_now parts first gives in
             let numbers : (λ c. (last_of y.table c).seq) ≡ installed_numbers me low_now parts first = fun_ext (λ (c : ℕ). ap (λ (z : ServedState V). (reply_of z c).seq) service) in
-            let before : NormalStands me old.agreement.normal first = normal_stays me on taken_now x.history old.agreement.normal taken_sound.arises refl rep.tables.normal in
+            let before : NormalStands me old.agreement.normal first = normal_stays me taken_now x.history old.agreement.normal taken_sound.arises refl rep.tables.normal in
             let done : NormalRepresents me.shape me.host normal (settled_below (searches_in me first) (λ c. (last_of y.table c).seq) (client_count old.agreement.shape)) = settles me.shape me.host (searches_in me first) before in
             let counted : NormalRepresents me.shape me.host normal (settled_below (searches_in me first) (λ c. (last_of y.table c).seq) (client_count me.shape)) =
             subst (λ (z : Shape). NormalRepresents me.shape me.host normal (settled_below (searches_in me first) (λ c. (last_of y.table c).seq) (client_count z))) (sym rep.who.shape) done in
-            requests_settled me on low_now parts first normal installed_sound.arises (subst (λ (f : ℕ → ℕ). NormalRepresents me.shape me.host normal (settled_below (searches_in me first) f (client_count me.shape))) numbers counted)
+            requests_settled me low_now parts first normal installed_sound.arises (subst (λ (f : ℕ → ℕ). NormalRepresents me.shape me.host normal (settled_below (searches_in me first) f (client_count me.shape))) numbers counted)
 
         -- ---- all tables
 
@@ -234,7 +232,6 @@ module _ {V : Type 0} (me : Identity V) where
             let first : History = taken_now ∷ x.history in
             let parts : List Bytes = parts_held me first in
             record {
-              whole = rep.tables.whole;
               sound = installed_sound;
               counter = own_counter_stays t.counter installed_now first refl (own_counter_stays t.counter taken_now x.history refl rep.tables.counter);
               gates = gates_stay me t.gates installed_now first (λ h. refl) (gates_stay me t.gates taken_now x.history (λ h. refl) rep.tables.gates);
@@ -259,7 +256,7 @@ module _ {V : Type 0} (me : Identity V) where
               represents = record {
                 who = hosted me old new same rep.who;
                 tables = subst (λ (u : Tables V). Stand me u behind_it) (sym is) (installed_tables new.agreement.normal settles);
-                fit = unstamped_fit me (orders me old rep.who) (is_there me old rep.who) installed_now first refl installs comes taken_sound taken_fit;
+                fit = unstamped_fit me (is_there me old rep.who) installed_now first refl installs comes taken_sound taken_fit;
               };
               serving = served_ends installed_now first refl;
               sent = does.sent ∙ s.sent;

@@ -1,5 +1,5 @@
 -- A CHECKPOINT that is kept: the certificate that it completes is learnt, and then the own log is cut. One that is below the stable position leaves all.
-use Rattle.std.proofs.Common.{◌≡◌, ℕ, ◌+◌, ◌-◌, ◌*◌, ◌/◌, ◌%◌, ◌<◌, ◌≤◌, div-add-mod', Bool, true, false, ◌&&◌, List, [], ◌∷◌, refl, sym, ap, subst, ◌∙◌, inl, inr, arith, length, Option, Some, None, Result, Ok, Err, OnOk, OnErr}
+use Rattle.std.proofs.Common.{◌≡◌, ℕ, ◌+◌, ◌*◌, ◌/◌, ◌%◌, ◌<◌, ◌≤◌, div-add-mod', Bool, true, false, ◌&&◌, List, [], ◌∷◌, refl, sym, ap, subst, ◌∙◌, inl, inr, arith, length, Option, Some, None, Result, Ok, Err, OnOk, OnErr}
 use Rattle.std.specs.Prelude.{nat_lt, nat_le, option_and_then, if◌then◌else◌}
 use Rattle.std.proofs.lemmas.Bool.{lt-ltb}
 use Rattle.std.proofs.lemmas.Result.{on_ok_weaker}
@@ -50,7 +50,7 @@ use Rattle.mb_core.specs.declared.replica.Replica.{Replica}
 use Rattle.mb_core.specs.Represents.{Represents, tables_of}
 use Rattle.mb_core.specs.Between.{RestStands, RisesTo, WritesNormal, WritesLearnt, WritesLog, WritesKept, KeepingStands, AwaitsKeeping, AwaitsCut, Learnt, LearntAgreed, CutsFound, goes_forward, IsWithin, AwaitsGate}
 use Rattle.mb_core.proofs.Accepted.{same_again, still_host}
-use Rattle.mb_core.proofs.Accepting.{on, there, accepted_fit}
+use Rattle.mb_core.proofs.Accepting.{there, accepted_fit}
 use Rattle.mb_core.proofs.Learnt.{keeper_stays, keeper_learns}
 
 pub multiple : (p k : ℕ) → p % k ≡ 0 → (n : ℕ) × (p ≡ n * k)
@@ -130,15 +130,15 @@ keeping_left (Err x) old new m becomes same = record { shape_is = ap (λ (n : No
 module _ {V : Type 0} (me : Identity V) where
   -- ---- the tables of positions and the certificate, however the CHECKPOINT came
 
-  module _ (order : me.built.order ≡ true) (e : Entry) (m : Checkpoint) (d : History) (a : Arises me (e ∷ d)) (brings : checkpoint_in e ≡ Some m) (from : nat_le (low_of me d) m.pos ≡ true) (t : Normal)
+  module _ (e : Entry) (m : Checkpoint) (d : History) (a : Arises me (e ∷ d)) (brings : checkpoint_in e ≡ Some m) (from : nat_le (low_of me d) m.pos ≡ true) (t : Normal)
       (stands : NormalStands me t d) where
     pub place_for : IsKeptPlace t.checkpoints m.pos
     place_for = by_entry e a brings where
       by_entry : (e : Entry) → Arises me (e ∷ d) → checkpoint_in e ≡ Some m → IsKeptPlace t.checkpoints m.pos
       by_entry (Accepted (message.Checkpoint x)) a is = let same : m ≡ x = sym (some_is x m is) in
-          subst (λ (y : Checkpoint). IsKeptPlace t.checkpoints y.pos) (sym same) (checkpoint_place me order x d t a (subst (λ (y : Checkpoint). nat_le (low_of me d) y.pos ≡ true) same from) stands)
+          subst (λ (y : Checkpoint). IsKeptPlace t.checkpoints y.pos) (sym same) (checkpoint_place me x d t a (subst (λ (y : Checkpoint). nat_le (low_of me d) y.pos ≡ true) same from) stands)
       by_entry (Stamped (stamped.Checkpoint x)) a is = let same : m ≡ x = sym (some_is x m is) in
-          subst (λ (y : Checkpoint). IsKeptPlace t.checkpoints y.pos) (sym same) (own_checkpoint_place me order x d t a (subst (λ (y : Checkpoint). nat_le (low_of me d) y.pos ≡ true) same from) stands)
+          subst (λ (y : Checkpoint). IsKeptPlace t.checkpoints y.pos) (sym same) (own_checkpoint_place me x d t a (subst (λ (y : Checkpoint). nat_le (low_of me d) y.pos ≡ true) same from) stands)
       by_entry e a is = absurd cc
 
     module _ (kept : Normal) (becomes : Becomes t kept (λ x. with_checkpoint x m)) (c : Option StableCert) (answers : AnswersStable kept c) where
@@ -146,18 +146,18 @@ module _ {V : Type 0} (me : Identity V) where
       completes = by_entry e a brings where
         by_entry : (e : Entry) → Arises me (e ∷ d) → checkpoint_in e ≡ Some m → stable_of me (e ∷ d) ≡ further (stable_of me d) c
         by_entry (Accepted (message.Checkpoint x)) a is = let same : m ≡ x = sym (some_is x m is) in
-            checkpoint_completes me order x d t kept c a (subst (λ (y : Checkpoint). nat_le (low_of me d) y.pos ≡ true) same from) (subst (λ (y : Checkpoint). Becomes t kept (λ s. with_checkpoint s y)) same becomes) answers stands
+            checkpoint_completes me x d t kept c a (subst (λ (y : Checkpoint). nat_le (low_of me d) y.pos ≡ true) same from) (subst (λ (y : Checkpoint). Becomes t kept (λ s. with_checkpoint s y)) same becomes) answers stands
         by_entry (Stamped (stamped.Checkpoint x)) a is = let same : m ≡ x = sym (some_is x m is) in
-            own_checkpoint_completes me order x d t kept c a (subst (λ (y : Checkpoint). nat_le (low_of me d) y.pos ≡ true) same from) (subst (λ (y : Checkpoint). Becomes t kept (λ s. with_checkpoint s y)) same becomes) answers stands
+            own_checkpoint_completes me x d t kept c a (subst (λ (y : Checkpoint). nat_le (low_of me d) y.pos ≡ true) same from) (subst (λ (y : Checkpoint). Becomes t kept (λ s. with_checkpoint s y)) same becomes) answers stands
         by_entry e a is = absurd cc
 
       normal_kept : (new : Normal) → Learns (stable_of me d) c kept new → NormalStands me new (e ∷ d)
       normal_kept new learns = by_entry e a brings where
         by_entry : (e : Entry) → Arises me (e ∷ d) → checkpoint_in e ≡ Some m → NormalStands me new (e ∷ d)
         by_entry (Accepted (message.Checkpoint x)) a is = let same : m ≡ x = sym (some_is x m is) in
-            checkpoint_kept me order x d t kept new c a (subst (λ (y : Checkpoint). nat_le (low_of me d) y.pos ≡ true) same from) (subst (λ (y : Checkpoint). Becomes t kept (λ s. with_checkpoint s y)) same becomes) answers learns stands
+            checkpoint_kept me x d t kept new c a (subst (λ (y : Checkpoint). nat_le (low_of me d) y.pos ≡ true) same from) (subst (λ (y : Checkpoint). Becomes t kept (λ s. with_checkpoint s y)) same becomes) answers learns stands
         by_entry (Stamped (stamped.Checkpoint x)) a is = let same : m ≡ x = sym (some_is x m is) in
-            own_checkpoint_kept me order x d t kept new c a (subst (λ (y : Checkpoint). nat_le (low_of me d) y.pos ≡ true) same from) (subst (λ (y : Checkpoint). Becomes t kept (λ s. with_checkpoint s y)) same becomes) answers learns stands
+            own_checkpoint_kept me x d t kept new c a (subst (λ (y : Checkpoint). nat_le (low_of me d) y.pos ≡ true) same from) (subst (λ (y : Checkpoint). Becomes t kept (λ s. with_checkpoint s y)) same becomes) answers learns stands
         by_entry e a is = absurd cc
 
       -- The certificate on which kept CHECKPOINTs agree is of a position above the stable one.
@@ -179,18 +179,15 @@ module _ {V : Type 0} (me : Identity V) where
   -- ---- the whole of it
 
   module _ (old : Replica V) (m : Checkpoint) (e : Entry) (d : History) (w : AwaitsKeeping me old m e d) where
-    order : me.built.order ≡ true
-    order = on me old w.who
-
     pub place_there : IsKeptPlace old.agreement.normal.checkpoints m.pos
-    place_there = place_for order e m d w.now.arises w.brings w.kept old.agreement.normal w.tables.normal
+    place_there = place_for e m d w.now.arises w.brings w.kept old.agreement.normal w.tables.normal
 
     module _ (kept : Normal) (becomes : Becomes old.agreement.normal kept (λ x. with_checkpoint x m)) where
       -- What is learnt has the values of the grammar.
       pub agreed_fits : (x : StableCert) → AnswersStable kept (Some x) → FitsStable old.agreement.shape x
       agreed_fits x answers =
-          subst (λ (s : Shape). FitsStable s x) w.who.shape (subst (FitsStable me.shape) (agreed_now order e m d w.now.arises w.brings w.kept old.agreement.normal w.tables.normal kept becomes (Some x) answers x refl)
-          (stable_fits me order (there me old w.who) (e ∷ d) w.now w.fit))
+          subst (λ (s : Shape). FitsStable s x) w.who.shape (subst (FitsStable me.shape) (agreed_now e m d w.now.arises w.brings w.kept old.agreement.normal w.tables.normal kept becomes (Some x) answers x refl)
+          (stable_fits me (there me old w.who) (e ∷ d) w.now w.fit))
 
       -- The tables were written so.
       module _ (mid new : Replica V) (normal : mid.agreement.normal ≡ kept) (stable : mid.agreement.stable ≡ old.agreement.stable) (keeper : mid.keeper ≡ old.keeper) where
@@ -206,23 +203,23 @@ module _ {V : Type 0} (me : Identity V) where
         kept_stand : (c : Option StableCert) → AnswersStable kept c → Learns mid.agreement.stable c mid.agreement.normal new.agreement.normal → new.agreement.stable ≡ further mid.agreement.stable c
             → (ShelfStands me new.keeper.snapshots (e ∷ d) × HeldStand me new.keeper.fetched (e ∷ d)) → KeepingStands me new (e ∷ d)
         kept_stand c answers learns is follow = record {
-          normal = normal_kept order e m d w.now.arises w.brings w.kept old.agreement.normal w.tables.normal kept becomes c answers new.agreement.normal
+          normal = normal_kept e m d w.now.arises w.brings w.kept old.agreement.normal w.tables.normal kept becomes c answers new.agreement.normal
               (subst (λ (n : Normal). Learns (stable_of me d) c n new.agreement.normal) normal (subst (λ (s : StableCert). Learns s c mid.agreement.normal new.agreement.normal) was learns));
           stable = is ∙ ap (λ (s : StableCert). further s c) was ∙ sym (now_is c answers);
           shelf = follow.0;
           parts = follow.1;
         } where
           now_is : (c : Option StableCert) → AnswersStable kept c → stable_of me (e ∷ d) ≡ further (stable_of me d) c
-          now_is c answers = completes order e m d w.now.arises w.brings w.kept old.agreement.normal w.tables.normal kept becomes c answers
+          now_is c answers = completes e m d w.now.arises w.brings w.kept old.agreement.normal w.tables.normal kept becomes c answers
 
         by_cert : (c : Option StableCert) → AnswersStable kept c → Learnt c mid new → KeepingStands me new (e ∷ d)
         by_cert None answers same =
-            let now = completes order e m d w.now.arises w.brings w.kept old.agreement.normal w.tables.normal kept becomes None answers in
+            let now = completes e m d w.now.arises w.brings w.kept old.agreement.normal w.tables.normal kept becomes None answers in
             let left = keeper_stays me mid.keeper d w.sound snapshots held e (brings_snapshots e m w.brings) (brings_parts e m w.brings) (ap (λ (s : StableCert). s.pos) now) in
             kept_stand None answers (ap (λ (r : Replica V). r.agreement.normal) same) (ap (λ (r : Replica V). r.agreement.stable) same)
             (subst (λ (k : Keeping V). ShelfStands me k.snapshots (e ∷ d) × HeldStand me k.fetched (e ∷ d)) (ap (λ (r : Replica V). r.keeper) (sym same)) left)
         by_cert (Some x) answers l =
-            let now = completes order e m d w.now.arises w.brings w.kept old.agreement.normal w.tables.normal kept becomes (Some x) answers in
+            let now = completes e m d w.now.arises w.brings w.kept old.agreement.normal w.tables.normal kept becomes (Some x) answers in
             let left = keeper_learns me mid.keeper d w.sound snapshots held e (brings_snapshots e m w.brings) (brings_parts e m w.brings) mid.agreement.stable x was now in
             kept_stand (Some x) answers l.learns (ap (λ (t : Tables V). t.stable) l.tables)
             (subst (λ (k : Keeping V). ShelfStands me k.snapshots (e ∷ d) × HeldStand me k.fetched (e ∷ d)) (sym l.keeper) left)
@@ -271,7 +268,6 @@ module _ {V : Type 0} (me : Identity V) where
     pub below_awaits : nat_le (low_of me d) m.pos ≡ false → AwaitsGate me old old (stamped.Checkpoint m) d
     below_awaits below =
         let t = r.tables in
-        let order = on me old r.who in
         let left = stays me (low_of me d) (tables_of old) entry d (stand_lags me (tables_of old) d t) adds.0 in
         let none_learnt : learnt_in me d old.agreement.stable.pos entry ≡ None = rw (ap (λ (s : StableCert). nat_le s.pos m.pos) t.stable ∙ below) refl in
         let stable = no_certificate me old.agreement.stable entry d t.stable none_learnt in
@@ -282,7 +278,7 @@ module _ {V : Type 0} (me : Identity V) where
           log = own_log_uncut me old.agreement.log entry d below (not_appended me old.agreement.log entry d refl t.log);
           rest = record {
             counter = left.counter refl;
-            normal = checkpoint_below me order m d old.agreement.normal adds below t.normal;
+            normal = checkpoint_below me m d old.agreement.normal adds below t.normal;
             change = left.change refl;
             stable = stable;
             exec = left.exec refl;
@@ -298,7 +294,7 @@ module _ {V : Type 0} (me : Identity V) where
       awaits_keeping = record {
         who = r.who;
         sound = r.tables.sound;
-        now = stays_sound me (on me old r.who) entry d adds.0 tt r.tables.sound;
+        now = stays_sound me entry d adds.0 tt r.tables.sound;
         fit = accepted_fit me old (stamped.Checkpoint m) d r fits none;
         brings = refl;
         kept = kept;

@@ -13,14 +13,14 @@ use Rattle.mb_model.specs.Stable.{low_of}
 use Rattle.mb_model.specs.Positions.{exec_of, is_behind}
 use Rattle.mb_model.specs.Execution.{snapshot_of}
 use Rattle.mb_model.specs.Making.{log_for, resend, fetch, state_message}
-use Rattle.mb_model.proofs.EarlyHistories.{shape_fits}
+use Rattle.mb_model.proofs.ShapesFit.{shape_fits}
 use Rattle.mb_fitting.proofs.Messages.{snapshot_many}
 use Rattle.mb_fitting.proofs.Letters.{log_sent, resend_sent, state_sent}
 use Rattle.mb_fitting.proofs.Answers.{behind_sent}
 use Rattle.mb_keeper.specs.Keeping.{AreShort}
 use Rattle.mb_core.specs.declared.replica.Replica.{Replica}
 use Rattle.mb_core.specs.Represents.{Represents}
-use Rattle.mb_core.proofs.Entries.{orders, is_there}
+use Rattle.mb_core.proofs.Entries.{is_there}
 
 module _ {V : Type 0} (me : Identity V) (r : Replica V) (d : History) (rep : Represents me r d) where
   -- A message that has the values for the host that the replica is of.
@@ -28,10 +28,10 @@ module _ {V : Type 0} (me : Identity V) (r : Replica V) (d : History) (rep : Rep
   of_host m n is f = subst (λ (s : Shape). Fits s m) rep.who.shape (subst (Fits me.shape) (sym is) f)
 
   pub log_fits : (m : Resend) (says : Message) → says ≡ log_for me d m → Fits r.agreement.shape says
-  log_fits m says is = of_host says (log_for me d m) is (log_sent me (shape_fits me.shape) (is_there me r rep.who) (orders me r rep.who) d rep.tables.sound rep.fit m)
+  log_fits m says is = of_host says (log_for me d m) is (log_sent me (shape_fits me.shape) (is_there me r rep.who) d rep.tables.sound rep.fit m)
 
   pub resend_fits : (says : Message) → says ≡ resend me d → Fits r.agreement.shape says
-  resend_fits says is = of_host says (resend me d) is (resend_sent me (shape_fits me.shape) (is_there me r rep.who) (orders me r rep.who) d rep.tables.sound rep.fit)
+  resend_fits says is = of_host says (resend me d) is (resend_sent me (shape_fits me.shape) (is_there me r rep.who) d rep.tables.sound rep.fit)
 
   -- of a host that is behind
   pub behind_is : r.agreement.exec < r.agreement.stable.pos → is_behind me d ≡ true
@@ -46,7 +46,7 @@ module _ {V : Type 0} (me : Identity V) (r : Replica V) (d : History) (rep : Rep
       omega (arith, lt, rep.tables.exec, ap (λ (c : StableCert). c.pos) rep.tables.stable)
 
   pub fetch_fits : r.agreement.exec < r.agreement.stable.pos → (says : Message) → says ≡ fetch me d → Fits r.agreement.shape says
-  fetch_fits lt says is = of_host says (fetch me d) is (behind_sent me (shape_fits me.shape) (is_there me r rep.who) (orders me r rep.who) d (behind_is lt) rep.tables.sound rep.fit)
+  fetch_fits lt says is = of_host says (fetch me d) is (behind_sent me (shape_fits me.shape) (is_there me r rep.who) d (behind_is lt) rep.tables.sound rep.fit)
 
   -- the STATE of a snapshot that was kept
   pub state_fits : (pos first : ℕ) (parts : List Bytes) → (1 ≤ pos) × IsBase r.agreement.shape pos → first ≤ 64 → snapshot_of me d pos ≡ Some parts → AreShort parts → (says : Message) → says ≡ state_message me pos first parts → Fits r.agreement.shape says

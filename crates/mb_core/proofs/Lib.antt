@@ -45,3 +45,4 @@ mod Nudged
 mod Finishing
 mod Services
 mod ShownEntries
+pub mod SentLengths

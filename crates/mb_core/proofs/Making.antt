@@ -1,5 +1,5 @@
 -- The messages that a host makes of its tables are those that its history has it make.
-use Rattle.std.proofs.Common.{◌≡◌, ◌∙◌, ℕ, Option, None, refl, ap, List, length}
+use Rattle.std.proofs.Common.{◌≡◌, ◌∙◌, ℕ, Option, None, refl, List, length}
 use Rattle.std.specs.Prelude.{nat_le, if◌then◌else◌}
 use Rattle.mb_parts.specs.declared.certificates.Evidence.{Evidence}
 use Rattle.mb_parts.specs.declared.certificates.FloorCert.{FloorCert}

@@ -7,13 +7,11 @@ use Rattle.mb_parts.specs.Ordered.{initial_floor}
 use Rattle.mb_gate.specs.declared.gate.Gate.{Gate}
 use Rattle.mb_gate.specs.SenderLogs.{log_from}
 use Rattle.mb_gate.specs.Represents.{Represents as GateRepresents}
-use Rattle.mb_normal.specs.declared.normal.Normal.{Normal}
 use Rattle.mb_normal.specs.Searches.{nothing_above}
 use Rattle.mb_normal.specs.Tables.{Represents as NormalRepresents}
 use Rattle.mb_log.specs.Logs.{empty_log}
 use Rattle.mb_change.specs.Tables.{empty_table}
 use Rattle.mb_fetch.specs.Snapshots.{Snapshot, Represents as ShelfRepresents}
-use Rattle.mb_model.specs.Built.{everything}
 use Rattle.mb_model.specs.Service.{start}
 use Rattle.mb_model.specs.Histories.{Identity}
 use Rattle.mb_standing.specs.Beginning.{IsNew as AreNew}
@@ -66,15 +64,15 @@ module _ {V : Type 0} (is_state : V → Type 0) (after : V → Bytes → V) (res
       }
 
       pub begins : Serves is_state after result part restored me → me.initial ≡ service → Represents me r []
-      begins serves first = record { who = who; tables = stands_begin me (tables_of r) who.built (are_new serves first); fit = begins_fit me }
+      begins serves first = record { who = who; tables = stands_begin me (tables_of r) (are_new serves first); fit = begins_fit me }
 
     -- the host that it is
     its_self : Identity V
-    its_self = record { built = everything; shape = r.agreement.shape; host = r.agreement.host; secret = r.agreement.usig.secret; machine = machine_of after result; snapshots = snapshots_of part restored; initial = service }
+    its_self = record { shape = r.agreement.shape; host = r.agreement.host; secret = r.agreement.usig.secret; machine = machine_of after result; snapshots = snapshots_of part restored; initial = service }
 
     pub at_rest : is_state service → IsAtRest is_state after result part restored r
     unfolding its_self
     at_rest state =
         let serves : Serves is_state after result part restored its_self = record { machine = refl; snapshots = refl; first = state } in
-        let who : IsHost its_self r = record { built = refl; shape = refl; host = refl; secret = refl } in
+        let who : IsHost its_self r = record { shape = refl; host = refl; secret = refl } in
         record { me = its_self; history = []; serves = serves; represents = begins its_self who serves refl; whole = tt }

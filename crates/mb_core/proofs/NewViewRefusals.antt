@@ -13,7 +13,6 @@ use Rattle.mb_msg.specs.declared.event.Outcome.{Outcome}
 use Rattle.mb_msg.specs.declared.event.Outcome.TheVariants as outcome
 use Rattle.mb_model.specs.Histories.{Identity}
 use Rattle.mb_model.specs.KindChecks.{new_view_fault, unusable}
-use Rattle.mb_model.specs.UsableLogs.{Fault}
 use Rattle.mb_plan.specs.declared.new_view.NewViewFault.{NewViewFault}
 use Rattle.mb_plan.specs.declared.new_view.NewViewFault.TheVariants.{Unusable, OtherPlan}
 use Rattle.mb_plan.specs.NewViews.{Follows}

@@ -1,5 +1,5 @@
 -- The next rule, where it is the execution of a batch.
-use Rattle.std.proofs.Common.{◌≡◌, ◌∙◌, ℕ, true, List, [], ap, sym, subst, inl, inr, Option, Some, Result}
+use Rattle.std.proofs.Common.{◌≡◌, ◌∙◌, ℕ, List, [], ap, sym, subst, inl, inr, Option, Some, Result}
 use Rattle.mb_base.specs.Shapes.{Bytes}
 use Rattle.mb_parts.specs.declared.batch.Batch.{Batch}
 use Rattle.mb_model.specs.Histories.{History, Identity, here}
@@ -25,7 +25,6 @@ use Rattle.mb_core.specs.declared.rules.Due.TheVariants as named
 use Rattle.mb_core.specs.Due.{IsNamed, IsDue}
 use Rattle.mb_core.specs.Represents.{Represents, Serves, StandsAt}
 use Rattle.mb_core.specs.Serving.{ServesOn, IsInBatch}
-use Rattle.mb_core.proofs.Entries.{orders}
 use Rattle.mb_core.proofs.Publishing.{nothing_served}
 
 module _ {S : Type 0} (me : Identity S) (d : History) (p : ℕ) (b : Batch) where
@@ -56,12 +55,10 @@ module _ {V : Type 0} (me : Identity V) (r : Replica V) (done : Done) (x : Progr
 
   pub begins : ServesOn me r done p b.requests [] x
   begins =
-      let on : me.built.order ≡ true = orders me r s.represents.who in
       record {
         stands = s;
-        orders = on;
         batch = b;
-        serving = serving_begins me on p b x.history is_next.enabled s.represents.tables.sound (nothing_served x.history s.serving);
+        serving = serving_begins me p b x.history is_next.enabled s.represents.tables.sound (nothing_served x.history s.serving);
       }
 
 -- What carrying it out comes to, where this is its batch.

@@ -7,7 +7,7 @@ use Rattle.mb_model.specs.Histories.{History, Identity, here}
 use Rattle.mb_model.specs.Stable.{low_of}
 use Rattle.mb_model.specs.OwnLog.{has_room}
 use Rattle.mb_model.specs.Positions.{exec_of}
-use Rattle.mb_model.specs.EnabledRules.{Rule, Commit, Execute, Prepare, next_rule}
+use Rattle.mb_model.specs.EnabledRules.{Rule, next_rule}
 use Rattle.mb_normal.specs.declared.due.Due.{Due as NormalDue}
 use Rattle.mb_normal.specs.declared.due.Due.TheVariants as normal
 use Rattle.mb_normal.specs.Searches.{Searches}

@@ -37,7 +37,6 @@ use Rattle.mb_core.specs.declared.stamping.TheConstants.{NO_UI}
 use Rattle.mb_core.specs.Between.{IsSame, AwaitsPublish, WritesCounter, WritesChange}
 use Rattle.mb_core.specs.Due.{IsNamed, IsDue}
 use Rattle.mb_core.specs.Represents.{IsHost, Represents}
-use Rattle.mb_core.proofs.Accepting.{on}
 use Rattle.mb_core.proofs.Publishing.{MayStamp, IsNext, is_next, may_next, Begun, LearntNothing, awaits_publish, begun, nothing_yet, then_change, nothing_by_change}
 
 -- ---- what is named
@@ -188,7 +187,7 @@ same_enter a b e = cc
 
 module _ {V : Type 0} (me : Identity V) (old new : Replica V) (d : History) (rep : Represents me old d) (b : Begun me old new) (k : LearntNothing me old new) (normal : new.agreement.normal ≡ old.agreement.normal) where
   normal_behind : (m : StampedMessage) → MayStamp me m d → speaks_of_positions (Stamped m) ≡ false → NormalStands me new.agreement.normal (Stamped m ∷ d)
-  normal_behind m may none = subst (λ (t : Normal). NormalStands me t (Stamped m ∷ d)) (sym normal) (normal_stays me (on me old rep.who) (Stamped m) d old.agreement.normal may.sound.arises none rep.tables.normal)
+  normal_behind m may none = subst (λ (t : Normal). NormalStands me t (Stamped m ∷ d)) (sym normal) (normal_stays me (Stamped m) d old.agreement.normal may.sound.arises none rep.tables.normal)
 
   -- The own ENTER is held.
   pub enter_awaits : (m : EnterMessage) → MayStamp me (stamped.Enter m) d → SameHost old.agreement.change new.agreement.change → StandsWith old.agreement.change (with_enter m) new.agreement.change → AwaitsPublish me new (stamped.Enter m) d

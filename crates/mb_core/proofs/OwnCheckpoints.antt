@@ -10,7 +10,7 @@ use Rattle.mb_msg.specs.declared.message.Body.TheVariants.{Whole}
 use Rattle.mb_msg.specs.declared.normal.Checkpoint.{Checkpoint}
 use Rattle.mb_msg.specs.declared.stamped.Stamped.{Stamped as StampedMessage}
 use Rattle.mb_msg.specs.declared.stamped.Stamped.TheVariants as stamped
-use Rattle.mb_msg.specs.Fits.{FitsStamped}
+use Rattle.mb_msg.specs.Fits.{Fits, FitsStamped}
 use Rattle.mb_msg.specs.Spelling.{stamped_kind}
 use Rattle.mb_msg.specs.Stamps.{as_message, bare_of}
 use Rattle.mb_model.specs.EnabledRules.{Rule, rule_where, execute_enabled}
@@ -25,7 +25,10 @@ use Rattle.mb_model.proofs.StepArises.{Adds, Arises, JustExecuted}
 use Rattle.mb_log.specs.Logs.{Log, has_room_for, appended}
 use Rattle.mb_gate.specs.declared.gate.Gate.{Gate}
 use Rattle.mb_fitting.specs.Fitting.{AreFit}
+use Rattle.mb_model.specs.Histories.{stamped as all_stamped}
+use Rattle.mb_model.proofs.ShapesFit.{shape_fits}
 use Rattle.mb_fitting.proofs.Fit.{checkpoint_fit}
+use Rattle.mb_fitting.proofs.Letters.{stamps_sent}
 use Rattle.mb_searches.specs.Sound.{IsSound}
 use Rattle.mb_searches.proofs.Executing.{served_ends}
 use Rattle.mb_searches.proofs.Framing.{low_stays}
@@ -41,9 +44,9 @@ use Rattle.mb_core.specs.declared.stamping.TheConstants.{NO_UI}
 use Rattle.mb_core.specs.Represents.{IsHost, Represents, StandsAt, as_sent, tables_of}
 use Rattle.mb_core.specs.Between.{WritesCounter, WritesStamp, WritesLog, WritesKept, KeepingStands, AwaitsKeeping, AwaitsCut, AwaitsCheckpoint}
 use Rattle.mb_core.specs.declared.stamping.Signed.{Signed}
-use Rattle.mb_core.specs.Signed.{IsSigned, SaysMore}
+use Rattle.mb_core.specs.Signed.{IsSigned}
 use Rattle.mb_core.proofs.Accepted.{still_host}
-use Rattle.mb_core.proofs.Accepting.{on, there}
+use Rattle.mb_core.proofs.Accepting.{there}
 use Rattle.mb_core.proofs.Publishing.{fits_again, no_ui_fits}
 
 where_holds : (test : Bool) (o : Option Rule) (r : Rule) → rule_where test o ≡ Some r → test ≡ true
@@ -77,7 +80,7 @@ module _ {V : Type 0} (me : Identity V) where
     rep = w.stands.represents
 
     fit_now : AreFit me (Stamped made ∷ d)
-    fit_now = checkpoint_fit me (on me old rep.who) (there me old rep.who) pos d w.executed w.whole w.room rep.tables.sound rep.fit
+    fit_now = checkpoint_fit me (there me old rep.who) pos d w.executed w.whole w.room rep.tables.sound rep.fit
 
     made_fits : FitsStamped old.agreement.shape made
     made_fits = subst (λ (s : Shape). FitsStamped s made) rep.who.shape fit_now.values.0
@@ -114,13 +117,17 @@ module _ {V : Type 0} (me : Identity V) where
       adds = (pos, w.executed, w.whole, same)
 
       sound_now : IsSound me (entry ∷ d)
-      sound_now = stays_sound me (on me old rep.who) entry d adds tt rep.tables.sound
+      sound_now = stays_sound me entry d adds tt rep.tables.sound
 
       fit_here : AreFit me (entry ∷ d)
       fit_here = subst (λ (y : StampedMessage). AreFit me (Stamped y ∷ d)) same fit_now
 
       pub fits_own : FitsStamped old.agreement.shape (stamped.Checkpoint m)
       fits_own = subst (FitsStamped old.agreement.shape) same made_fits
+
+      sent_own : Fits me.shape (as_message (stamped.Checkpoint m))
+      unfolding all_stamped
+      sent_own = (stamps_sent me (shape_fits me.shape) (there me old rep.who) (entry ∷ d) sound_now fit_here).0
 
       kept_at : nat_le (low_of me d) m.pos ≡ true
       kept_at =
@@ -155,8 +162,8 @@ module _ {V : Type 0} (me : Identity V) where
         pub who_kept : IsHost me kept
         who_kept = still_host me mid kept k.same (still_host me old mid c.same rep.who)
 
-        pub fits_kept : FitsStamped kept.agreement.shape (stamped.Checkpoint m)
-        fits_kept = subst (λ (s : Shape). FitsStamped s (stamped.Checkpoint m)) (sym (k.same.shape ∙ c.same.shape)) fits_own
+        pub sent_kept : Fits kept.agreement.shape (as_message (stamped.Checkpoint m))
+        sent_kept = subst (λ (s : Shape). Fits s (as_message (stamped.Checkpoint m))) (rep.who.shape ∙ sym (k.same.shape ∙ c.same.shape)) sent_own
 
         pub room_kept : has_room_for kept.agreement.log (stamped_kind (stamped.Checkpoint m)) ≡ true
         room_kept = subst (λ (l : Log). has_room_for l (stamped_kind (stamped.Checkpoint m)) ≡ true) (sym same_log) (place_for me old.agreement.log d rep.tables.log (stamped.Checkpoint m) refl w.room)
@@ -207,20 +214,20 @@ module _ {V : Type 0} (me : Identity V) where
     -- ---- the step
 
     -- It was sent to all, and nothing else.
-    pub checkpoint_sent : (new : Replica V) (signing after : Done) (m : Checkpoint) → made ≡ stamped.Checkpoint m → Represents me new (Stamped (stamped.Checkpoint m) ∷ d) → SaysMore done signing
-        → after.sent ≡ signing.sent ++ as_sent (to_all (as_message (stamped.Checkpoint m))) ∷ [] → (after.executed ≡ signing.executed) × (after.installed ≡ signing.installed) → StandsAt me new after (stamp me (checkpoint me d pos) x)
-    checkpoint_sent new signing after m same r more sent kept = subst (λ (y : StampedMessage). StandsAt me new after (send (to_all (as_message y)) (write (Stamped y) x))) (sym same) (record {
+    pub checkpoint_sent : (new : Replica V) (after : Done) (m : Checkpoint) → made ≡ stamped.Checkpoint m → Represents me new (Stamped (stamped.Checkpoint m) ∷ d)
+        → after.sent ≡ done.sent ++ as_sent (to_all (as_message (stamped.Checkpoint m))) ∷ [] → (after.executed ≡ done.executed) × (after.installed ≡ done.installed) → StandsAt me new after (stamp me (checkpoint me d pos) x)
+    checkpoint_sent new after m same r sent kept = subst (λ (y : StampedMessage). StandsAt me new after (send (to_all (as_message y)) (write (Stamped y) x))) (sym same) (record {
       represents = r;
       serving = served_ends (Stamped (stamped.Checkpoint m)) d refl;
-      sent = sent ∙ ap (λ l. l ++ as_sent (to_all (as_message (stamped.Checkpoint m))) ∷ []) (more.sent ∙ w.stands.sent) ∙ sym (map-append as_sent x.sent (to_all (as_message (stamped.Checkpoint m)) ∷ []));
-      executed = kept.0 ∙ more.executed ∙ w.stands.executed;
-      installed = kept.1 ∙ more.installed ∙ w.stands.installed;
+      sent = sent ∙ ap (λ l. l ++ as_sent (to_all (as_message (stamped.Checkpoint m))) ∷ []) w.stands.sent ∙ sym (map-append as_sent x.sent (to_all (as_message (stamped.Checkpoint m)) ∷ []));
+      executed = kept.0 ∙ w.stands.executed;
+      installed = kept.1 ∙ w.stands.installed;
     })
 
-    pub checkpoint_ends : {E : Type 0} (result : Result (Unit {0}) E) (mid kept sent new : Replica V) (signing after : Done) (m : Checkpoint) (same : made ≡ stamped.Checkpoint m) (c : WritesCounter old mid) (k : WritesKept mid kept)
+    pub checkpoint_ends : {E : Type 0} (result : Result (Unit {0}) E) (mid kept sent new : Replica V) (after : Done) (m : Checkpoint) (same : made ≡ stamped.Checkpoint m) (c : WritesCounter old mid) (k : WritesKept mid kept)
         → KeepingStands me kept (Stamped (stamped.Checkpoint m) ∷ d) → WritesStamp kept sent → sent.agreement.log ≡ appended (stamped.Checkpoint m) kept.agreement.log → GatesStand me sent.agreement.gates.items (Stamped (stamped.Checkpoint m) ∷ d)
-        → OnOk result (WritesLog sent new) → OnOk result (LogStands me new.agreement.log (Stamped (stamped.Checkpoint m) ∷ d)) → SaysMore done signing
-        → after.sent ≡ signing.sent ++ as_sent (to_all (as_message (stamped.Checkpoint m))) ∷ [] → (after.executed ≡ signing.executed) × (after.installed ≡ signing.installed) → OnOk result (StandsAt me new after (stamp me (checkpoint me d pos) x))
-    checkpoint_ends (Ok u) mid kept sent new signing after m same c k stands s log gates l cut more out left =
-        checkpoint_sent new signing after m same (checkpoint_stands m same mid kept c k sent stands s log new gates l cut) more out left
-    checkpoint_ends (Err e) mid kept sent new signing after m same c k stands s log gates l cut more out left = tt
+        → OnOk result (WritesLog sent new) → OnOk result (LogStands me new.agreement.log (Stamped (stamped.Checkpoint m) ∷ d))
+        → after.sent ≡ done.sent ++ as_sent (to_all (as_message (stamped.Checkpoint m))) ∷ [] → (after.executed ≡ done.executed) × (after.installed ≡ done.installed) → OnOk result (StandsAt me new after (stamp me (checkpoint me d pos) x))
+    checkpoint_ends (Ok u) mid kept sent new after m same c k stands s log gates l cut out left =
+        checkpoint_sent new after m same (checkpoint_stands m same mid kept c k sent stands s log new gates l cut) out left
+    checkpoint_ends (Err e) mid kept sent new after m same c k stands s log gates l cut out left = tt

@@ -61,7 +61,6 @@ use Rattle.mb_core.specs.Represents.{IsHost, Represents}
 use Rattle.mb_core.proofs.Learnt.{KeptStands, kept_learnt, stable_learnt}
 use Rattle.mb_core.proofs.Opened.{opens_are}
 use Rattle.mb_core.proofs.Accepted.{still_host}
-use Rattle.mb_core.proofs.Accepting.{on}
 use Rattle.mb_core.proofs.Publishing.{MayStamp, IsNext, may_next, Begun, awaits_publish, awaits_learnt, begun, nothing_yet, then_written, then_normal, then_change, nothing_by_normal, nothing_by_change}
 
 -- ---- snapshots and parts
@@ -183,10 +182,10 @@ module _ {V : Type 0} (me : Identity V) (old bound : Replica V) (d : History) (r
   normal_behind m may cleared counted who clears changed counts =
       let e = Stamped (stamped.ViewChange m) in
       let opens : AreOpens me.shape (e ∷ d) = opens_behind (stamped.ViewChange m) may in
-      let begins : NormalRepresents me.shape me.host cleared.agreement.normal (without_votes (searches_in me d)) = change_cleared me (on me old rep.who) d bound.agreement.normal cleared.agreement.normal clears stood in
+      let begins : NormalRepresents me.shape me.host cleared.agreement.normal (without_votes (searches_in me d)) = change_cleared me d bound.agreement.normal cleared.agreement.normal clears stood in
       let ends : StandsCounting me (e ∷ d) (without_votes (searches_in me d)) (hosts_below (host_count cleared.agreement.shape)) counted =
-      counts me (e ∷ d) (without_votes (searches_in me d)) (record { change = changed; view_is = sym (view_changed me (on me old rep.who) m d may.sound.arises).0; opens = opens; low = sym (low_stays me e d refl) }) begins in
-      change_counted me (on me old rep.who) m d counted.agreement.normal may.sound.arises opens
+      counts me (e ∷ d) (without_votes (searches_in me d)) (record { change = changed; view_is = sym (view_changed me m d may.sound.arises).0; opens = opens; low = sym (low_stays me e d refl) }) begins in
+      change_counted me m d counted.agreement.normal may.sound.arises opens
       (subst (λ (s : Shape). NormalRepresents me.shape me.host counted.agreement.normal (counting (without_votes (searches_in me d)) (open_votes me (e ∷ d)) (hosts_below (host_count s)))) (sym who.shape) ends)
 
   -- ---- the own NEW_VIEW
@@ -212,7 +211,7 @@ module _ {V : Type 0} (me : Identity V) (old bound : Replica V) (d : History) (r
         let learns : Learns (stable_of me d) (plan_base (plan_in_new_view me m)) shown.agreement.normal kept.agreement.normal =
         subst (λ (p : Option (ℕ × Plan)). Learns (stable_of me d) (plan_base p) shown.agreement.normal kept.agreement.normal) (sym plan_shown)
         (subst (λ (c : StableCert). Learns c (plan_base (Some (view, plan))) shown.agreement.normal kept.agreement.normal) (stable_is ∙ rep.tables.stable) second.learns) in
-        own_new_view_raised me (on me old rep.who) m d shown.agreement.normal kept.agreement.normal learns (subst (λ (t : Normal). NormalStands me t d) (sym (ap (λ (t : Tables V). t.normal) first.tables)) stood)
+        own_new_view_raised me m d shown.agreement.normal kept.agreement.normal learns (subst (λ (t : Normal). NormalStands me t d) (sym (ap (λ (t : Tables V). t.normal) first.tables)) stood)
 
     -- and the votes of OPENs are counted.
     normal_announced : IsHost me kept → SameHost bound.agreement.change kept.agreement.change → NormalStands me counted.agreement.normal (Stamped (stamped.NewView m) ∷ d)
@@ -220,8 +219,8 @@ module _ {V : Type 0} (me : Identity V) (old bound : Replica V) (d : History) (r
         let e = Stamped (stamped.NewView m) in
         let opens : AreOpens me.shape (e ∷ d) = opens_behind (stamped.NewView m) may in
         let ends : StandsCounting me (e ∷ d) (above_raise me e d) (hosts_below (host_count kept.agreement.shape)) counted =
-        counts me (e ∷ d) (above_raise me e d) (record { change = change_announced same; view_is = here ∙ sym (view_stays me (on me old rep.who) e d may.sound.arises refl); opens = opens; low = refl }) normal_raised in
-        own_new_view_counted me (on me old rep.who) m d counted.agreement.normal may.sound.arises opens
+        counts me (e ∷ d) (above_raise me e d) (record { change = change_announced same; view_is = here ∙ sym (view_stays me e d may.sound.arises refl); opens = opens; low = refl }) normal_raised in
+        own_new_view_counted me m d counted.agreement.normal may.sound.arises opens
         (subst (λ (s : Shape). NormalRepresents me.shape me.host counted.agreement.normal (counting (above_raise me e d) (open_votes me (e ∷ d)) (hosts_below (host_count s)))) (sym who.shape) ends)
 
     brings : stable_of me (Stamped (stamped.NewView m) ∷ d) ≡ further (stable_of me d) (plan_base (Some (view, plan)))
@@ -264,7 +263,7 @@ module _ {V : Type 0} (me : Identity V) (old bound : Replica V) (d : History) (r
       let stands : StandsWith old.agreement.change (with_evidence m.evidence) new.agreement.change =
       subst (λ (y : Evidence). StandsWith old.agreement.change (with_evidence y) new.agreement.change) (sym opens.shows.evidence)
       (subst (λ (t : ChangeTable). StandsWith t (with_evidence evidence) new.agreement.change) before holds) in
-      let normal : NormalStands me carried.agreement.normal (e ∷ d) = open_carried me (on me old rep.who) m d carried.agreement.normal may.sound.arises (carries me d m opens stood) in
+      let normal : NormalStands me carried.agreement.normal (e ∷ d) = open_carried me m d carried.agreement.normal may.sound.arises (carries me d m opens stood) in
       awaits_publish me old new (stamped.Open m) d rep (then_change me old carried new (then_normal me old bound carried (begun me old bound w) first) second)
       (subst (λ (t : Normal). NormalStands me t (e ∷ d)) (sym (ap (λ (t : Tables V). t.normal) second.tables)) normal)
       (own_open_held me old.agreement.change new.agreement.change d same rep.tables.change m stands)

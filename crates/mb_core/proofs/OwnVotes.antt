@@ -44,7 +44,6 @@ use Rattle.mb_core.specs.declared.stamping.TheConstants.{NO_UI}
 use Rattle.mb_core.specs.Between.{AwaitsPublish, WritesCounter, WritesNormal}
 use Rattle.mb_core.specs.Due.{IsNamed, IsDue}
 use Rattle.mb_core.specs.Represents.{Represents}
-use Rattle.mb_core.proofs.Accepting.{on}
 use Rattle.mb_core.proofs.Publishing.{MayStamp, IsNext, is_next, may_next, awaits_publish, begun, then_normal, nothing_yet, nothing_by_normal}
 use Rattle.mb_standing.specs.Tables.{Tables}
 
@@ -216,7 +215,7 @@ module _ {V : Type 0} (me : Identity V) (old bound : Replica V) (d : History) (r
       → CountsVote bound.agreement.normal voted.agreement.normal at bound.agreement.host vote → AwaitsPublish me voted (stamped.Commit m) d
   commit_awaits voted m may writes at vote same_pos same_vote counts =
       awaits_publish me old voted (stamped.Commit m) d rep (then_normal me old bound voted (begun me old bound w) writes)
-      (own_commit_counts me (on me old rep.who) m d bound.agreement.normal voted.agreement.normal may.sound.arises
+      (own_commit_counts me m d bound.agreement.normal voted.agreement.normal may.sound.arises
       (counts_as bound.agreement.normal voted.agreement.normal at bound.agreement.host vote m.pos me.host (vote_in_commit m) same_pos host_is same_vote counts)
       (subst (λ (t : Normal). NormalStands me t d) (sym normal_is) rep.tables.normal))
       (change_behind voted (stamped.Commit m) (ap (λ (t : Tables V). t.change) writes.tables) refl)
@@ -228,7 +227,7 @@ module _ {V : Type 0} (me : Identity V) (old bound : Replica V) (d : History) (r
       → AwaitsPublish me voted (stamped.Prepare m) d
   prepare_awaits put voted m may first second at voter slot vote same_pos same_host same_slot same_vote puts counts =
       awaits_publish me old voted (stamped.Prepare m) d rep (then_normal me old put voted (then_normal me old bound put (begun me old bound w) first) second)
-      (own_prepare_counts me (on me old rep.who) m d bound.agreement.normal put.agreement.normal voted.agreement.normal may.sound.arises
+      (own_prepare_counts me m d bound.agreement.normal put.agreement.normal voted.agreement.normal may.sound.arises
       (subst (λ (k : KnownSlot). PutsSlot bound.agreement.normal put.agreement.normal m.pos k) same_slot (subst (λ (p : ℕ). PutsSlot bound.agreement.normal put.agreement.normal p slot) same_pos puts))
       (counts_as put.agreement.normal voted.agreement.normal at voter vote m.pos me.host (vote_in_prepare m) same_pos same_host same_vote counts)
       (subst (λ (t : Normal). NormalStands me t d) (sym normal_is) rep.tables.normal))

@@ -7,7 +7,6 @@ use Rattle.mb_msg.specs.declared.change.Plan.{Plan}
 use Rattle.mb_msg.specs.declared.change.ViewChange.{ViewChange}
 use Rattle.mb_msg.specs.Fits.{FitsMember}
 use Rattle.mb_msg.specs.Plans.{CanHash}
-use Rattle.mb_model.specs.Built.{everything}
 use Rattle.mb_model.specs.Histories.{Identity}
 use Rattle.mb_model.specs.Held.{logs_of}
 use Rattle.mb_model.specs.Plans.{plan_of, by_host}
@@ -17,7 +16,6 @@ use Rattle.mb_fitting.proofs.Changes.{plan_from_fits}
 -- some host of a system, whatever it executes
 any_host : Shape → Identity (Unit {0})
 any_host s = record {
-  built = everything;
   shape = s;
   host = 0;
   secret = [];

@@ -11,7 +11,7 @@ use Rattle.mb_parts.specs.Fits.{FitsUi}
 use Rattle.mb_msg.specs.declared.event.Placed.{Placed}
 use Rattle.mb_msg.specs.declared.stamped.Stamped.{Stamped as StampedMessage}
 use Rattle.mb_msg.specs.declared.stamped.Stamped.TheVariants as stamped
-use Rattle.mb_msg.specs.Fits.{FitsStamped}
+use Rattle.mb_msg.specs.Fits.{Fits, FitsStamped}
 use Rattle.mb_msg.specs.Spelling.{stamped_kind}
 use Rattle.mb_msg.specs.Stamps.{as_message, with_ui, ui_of, bare_of}
 use Rattle.mb_model.specs.CarriedOut.{carry_out, just_served}
@@ -23,7 +23,8 @@ use Rattle.mb_model.specs.OwnLog.{is_normal, own_log, has_room, has_other_room, 
 use Rattle.mb_model.specs.Stable.{stable_of}
 use Rattle.mb_model.specs.UsableLogs.{normal_limit, other_limit}
 use Rattle.mb_model.specs.Sending.{Progress, begin, write, send, note, to_all, signed, next_ui}
-use Rattle.mb_model.proofs.EarlyHistories.{shape_fits}
+use Rattle.mb_model.specs.Histories.{stamped as all_stamped}
+use Rattle.mb_model.proofs.ShapesFit.{shape_fits}
 use Rattle.mb_model.proofs.StepArises.{Adds, IsWhole}
 use Rattle.mb_theory.proofs.RoomForRules.{room_for}
 use Rattle.mb_log.specs.Logs.{Log, has_room_for, appended}
@@ -44,14 +45,14 @@ use Rattle.mb_standing.proofs.Snapshots.{shelf_stays}
 use Rattle.mb_standing.proofs.Values.{own_counter_stamped, executed_stays, certificate_stays, service_stays, asked_left}
 use Rattle.mb_fitting.specs.Fitting.{AreFit}
 use Rattle.mb_fitting.proofs.Fit.{rule_fit}
+use Rattle.mb_fitting.proofs.Letters.{stamps_sent}
 use Rattle.mb_core.specs.declared.replica.Replica.{Replica}
 use Rattle.mb_core.specs.declared.sending.Done.{Done}
 use Rattle.mb_core.specs.declared.stamping.TheConstants.{NO_UI}
 use Rattle.mb_core.specs.Between.{IsSame, RestStands, AwaitsPublish, WritesStamp, WritesCounter, WritesNormal, WritesChange}
 use Rattle.mb_core.specs.Represents.{IsHost, Represents, StandsAt, as_sent, tables_of}
-use Rattle.mb_core.specs.Signed.{SaysMore}
 use Rattle.mb_core.proofs.Accepted.{same_again, still_host}
-use Rattle.mb_core.proofs.Accepting.{on, there}
+use Rattle.mb_core.proofs.Accepting.{there}
 
 -- ---- identifiers that stand in a message until it is stamped
 
@@ -145,10 +146,10 @@ module _ {V : Type 0} (me : Identity V) where
 
   module _ (r : Replica V) (d : History) (rep : Represents me r d) (whole : IsWhole d) where
     sound_behind : (a : Rule) → next_rule me d ≡ Some a → IsSound me (carry_out me a (begin d)).history
-    sound_behind a next = (rule_sound me (on me r rep.who) a (begin d) next rep.tables.sound whole).0
+    sound_behind a next = (rule_sound me a (begin d) next rep.tables.sound whole).0
 
     fit_behind : (a : Rule) → next_rule me d ≡ Some a → AreFit me (carry_out me a (begin d)).history
-    fit_behind a next = rule_fit me (on me r rep.who) (there me r rep.who) a (begin d) next rep.tables.sound whole rep.fit
+    fit_behind a next = rule_fit me (there me r rep.who) a (begin d) next rep.tables.sound whole rep.fit
 
     -- The next rule may stamp its message.
     pub may_stamp : (a : Rule) → next_rule me d ≡ Some a → (m : StampedMessage) → signs a d m → MayStamp m d
@@ -296,7 +297,6 @@ module _ {V : Type 0} (me : Identity V) where
   stands_published old r new m d rep may waits log gates w = let rest = rest_after r new (Stamped m ∷ d) w waits.rest in record {
     who = still_host me r new w.same waits.who;
     tables = record {
-      whole = rep.tables.whole;
       sound = may.sound;
       counter = rest.counter;
       gates = gates;
@@ -313,26 +313,26 @@ module _ {V : Type 0} (me : Identity V) where
     fit = may.fit;
   }
 
-  published : (old r new : Replica V) (before signed after : Done) (x : Progress) (m : StampedMessage) → StandsAt me old before x → MayStamp m x.history → AwaitsPublish me r m x.history → SaysMore before signed
-      → after.sent ≡ signed.sent ++ as_sent (to_all (as_message m)) ∷ [] → (after.executed ≡ signed.executed) × (after.installed ≡ signed.installed) → new.agreement.log ≡ appended m r.agreement.log
+  published : (old r new : Replica V) (before after : Done) (x : Progress) (m : StampedMessage) → StandsAt me old before x → MayStamp m x.history → AwaitsPublish me r m x.history
+      → after.sent ≡ before.sent ++ as_sent (to_all (as_message m)) ∷ [] → (after.executed ≡ before.executed) × (after.installed ≡ before.installed) → new.agreement.log ≡ appended m r.agreement.log
       → GatesStand me new.agreement.gates.items (Stamped m ∷ x.history) → WritesStamp r new → StandsAt me new after (send (to_all (as_message m)) (write (Stamped m) x))
   unfolding just_served
-  published old r new before signed after x m st may waits more sent kept log gates w = record {
+  published old r new before after x m st may waits sent kept log gates w = record {
     represents = stands_published old r new m x.history st.represents may waits log gates w;
     serving = refl;
-    sent = sent ∙ ap (λ l. l ++ as_sent (to_all (as_message m)) ∷ []) (more.sent ∙ st.sent) ∙ sym (map-append as_sent x.sent (to_all (as_message m) ∷ []));
-    executed = kept.0 ∙ more.executed ∙ st.executed;
-    installed = kept.1 ∙ more.installed ∙ st.installed;
+    sent = sent ∙ ap (λ l. l ++ as_sent (to_all (as_message m)) ∷ []) st.sent ∙ sym (map-append as_sent x.sent (to_all (as_message m) ∷ []));
+    executed = kept.0 ∙ st.executed;
+    installed = kept.1 ∙ st.installed;
   }
 
   -- What publishing leaves, where it succeeds.
-  pub when_published : {E : Type 0} (result : Result (Unit {0}) E) (old r new : Replica V) (before signed after : Done) (x : Progress) (m : StampedMessage) → StandsAt me old before x → MayStamp m x.history → AwaitsPublish me r m x.history
-      → SaysMore before signed → OnOk result (after.sent ≡ signed.sent ++ as_sent (to_all (as_message m)) ∷ []) → (after.executed ≡ signed.executed) × (after.installed ≡ signed.installed)
+  pub when_published : {E : Type 0} (result : Result (Unit {0}) E) (old r new : Replica V) (before after : Done) (x : Progress) (m : StampedMessage) → StandsAt me old before x → MayStamp m x.history → AwaitsPublish me r m x.history
+      → OnOk result (after.sent ≡ before.sent ++ as_sent (to_all (as_message m)) ∷ []) → (after.executed ≡ before.executed) × (after.installed ≡ before.installed)
       → OnOk result (new.agreement.log ≡ appended m r.agreement.log) → ((me : Identity V) (d : History) → IsHost me r → IsSound me d → Adds me d (Stamped m) → GatesStand me r.agreement.gates.items d → OnOk result (GatesStand me new.agreement.gates.items (Stamped m ∷ d)))
       → OnOk result (WritesStamp r new) → OnOk result (StandsAt me new after (send (to_all (as_message m)) (write (Stamped m) x)))
-  when_published (Ok a) old r new before signed after x m st may waits more sent kept log gates w =
-      published old r new before signed after x m st may waits more sent kept log (gates me x.history waits.who st.represents.tables.sound may.adds waits.gates) w
-  when_published (Err e) old r new before signed after x m st may waits more sent kept log gates w = tt
+  when_published (Ok a) old r new before after x m st may waits sent kept log gates w =
+      published old r new before after x m st may waits sent kept log (gates me x.history waits.who st.represents.tables.sound may.adds waits.gates) w
+  when_published (Err e) old r new before after x m st may waits sent kept log gates w = tt
 
 -- ---- before it is signed
 
@@ -361,19 +361,24 @@ module _ {V : Type 0} (me : Identity V) (r : Replica V) (d : History) (rep : Rep
     pub fits_signed : (s : StampedMessage) → s ≡ m → FitsStamped new.agreement.shape s
     fits_signed s is = subst (FitsStamped new.agreement.shape) (sym is) (subst (λ (t : Shape). FitsStamped t m) (rep.who.shape ∙ sym b.same.shape) may.fit.values.0)
 
+    pub sent_signed : (s : StampedMessage) → s ≡ m → Fits new.agreement.shape (as_message s)
+    unfolding all_stamped
+    sent_signed s is = subst (λ (y : StampedMessage). Fits new.agreement.shape (as_message y)) (sym is) (subst (λ (t : Shape). Fits t (as_message m)) (rep.who.shape ∙ sym b.same.shape)
+        (stamps_sent me (shape_fits me.shape) (there me r rep.who) (Stamped m ∷ d) may.sound may.fit).0)
+
     pub room_signed : (s : StampedMessage) → s ≡ m → has_room_for new.agreement.log (stamped_kind s) ≡ true
     room_signed s is = subst (λ (y : StampedMessage). has_room_for new.agreement.log (stamped_kind y) ≡ true) (sym is) (subst (λ (l : Log). has_room_for l (stamped_kind m) ≡ true) (sym b.log) (may.room r.agreement.log rep.tables.log))
 
 module _ {V : Type 0} (me : Identity V) where
   -- A rule ends with what it publishes.
-  pub rule_ends : {E : Type 0} (result : Result (Unit {0}) E) (old r new : Replica V) (before signed after : Done) (x : Progress) (a : Rule) (s m : StampedMessage) → StandsAt me old before x → next_rule me x.history ≡ Some a
-      → signs me a x.history m → s ≡ m → AwaitsPublish me r m x.history → SaysMore before signed → OnOk result (after.sent ≡ signed.sent ++ as_sent (to_all (as_message s)) ∷ [])
-      → (after.executed ≡ signed.executed) × (after.installed ≡ signed.installed) → OnOk result (new.agreement.log ≡ appended s r.agreement.log)
+  pub rule_ends : {E : Type 0} (result : Result (Unit {0}) E) (old r new : Replica V) (before after : Done) (x : Progress) (a : Rule) (s m : StampedMessage) → StandsAt me old before x → next_rule me x.history ≡ Some a
+      → signs me a x.history m → s ≡ m → AwaitsPublish me r m x.history → OnOk result (after.sent ≡ before.sent ++ as_sent (to_all (as_message s)) ∷ [])
+      → (after.executed ≡ before.executed) × (after.installed ≡ before.installed) → OnOk result (new.agreement.log ≡ appended s r.agreement.log)
       → ((me : Identity V) (d : History) → IsHost me r → IsSound me d → Adds me d (Stamped s) → GatesStand me r.agreement.gates.items d → OnOk result (GatesStand me new.agreement.gates.items (Stamped s ∷ d)))
       → OnOk result (WritesStamp r new) → OnOk result (StandsAt me new after (send (to_all (as_message m)) (write (Stamped m) x)))
-  rule_ends result old r new before signed after x a s m st next is same waits more sent kept log gates w =
+  rule_ends result old r new before after x a s m st next is same waits sent kept log gates w =
       let may : MayStamp me m x.history = may_next me old x.history a (is_next me old before x a st next) m is in
-      let ends = when_published me result old r new before signed after x s st (subst (λ (y : StampedMessage). MayStamp me y x.history) (sym same) may) (subst (λ (y : StampedMessage). AwaitsPublish me r y x.history) (sym same) waits) more sent kept log gates w in
+      let ends = when_published me result old r new before after x s st (subst (λ (y : StampedMessage). MayStamp me y x.history) (sym same) may) (subst (λ (y : StampedMessage). AwaitsPublish me r y x.history) (sym same) waits) sent kept log gates w in
       subst (λ (y : StampedMessage). OnOk result (StandsAt me new after (send (to_all (as_message y)) (write (Stamped y) x)))) same ends
 
   -- What it compared is no table.

@@ -1,6 +1,6 @@
 -- What the gate of its sender says of a given message, as the history does.
 use Rattle.std.proofs.Common.{◌≡◌, ◌<◌, ◌≤◌, ◌∙◌, ℕ, Bool, true, Option, Some, None, refl, ap, sym, subst, inl, inr, length, arith}
-use Rattle.std.specs.Prelude.{slice_get, get_or, nat_le}
+use Rattle.std.specs.Prelude.{get_or, nat_le}
 use Rattle.std.proofs.lemmas.Bool.{cases_Bool, leb-true, le-leb}
 use Rattle.mb_base.specs.declared.shape.Shape.{Shape}
 use Rattle.mb_base.specs.declared.names.Ui.{Ui}
@@ -54,11 +54,11 @@ module _ {V : Type 0} (me : Identity V) (r : Replica V) (d : History) (rep : Rep
 
     pub refuses : (inner : Bool) (o : Offer) → inner ≡ inner_valid me.shape (valid me) (bare_of a.message) → Judges gate a.mark inner o → refusal_of o ≡ gate_refusal me d a.message
     refuses inner o verified judges =
-        sym (gate_refuses me rep.tables.whole d a.message a.mark gate o stands marked (subst (λ (b : Bool). Judges gate a.mark b o) verified judges))
+        sym (gate_refuses me d a.message a.mark gate o stands marked (subst (λ (b : Bool). Judges gate a.mark b o) verified judges))
 
     -- also before the certificates in it are checked
     pub refuses_early : (o : Offer) → Judges gate a.mark true o → (o ≡ offer.Next → ⊥) → refusal_of o ≡ gate_refusal me d a.message
-    refuses_early o judges other = sym (gate_refuses_early me rep.tables.whole d a.message a.mark gate o stands marked judges other)
+    refuses_early o judges other = sym (gate_refuses_early me d a.message a.mark gate o stands marked judges other)
 
 -- ---- the floor of a host below a position
 

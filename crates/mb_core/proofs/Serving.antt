@@ -62,9 +62,8 @@ module _ {V : Type 0} (me : Identity V) where
       → ServesOn me new before pos more served x → StandsServing me new done served (with_reply me p x) → ServesOn me new done pos more served (with_reply me p x)
   replied_on new done before pos p more served x s stands = record {
     stands = stands;
-    orders = s.orders;
     batch = s.batch;
-    serving = subst (IsServing me s.orders pos s.batch more) (sym (reply_history p x)) s.serving;
+    serving = subst (IsServing me pos s.batch more) (sym (reply_history p x)) s.serving;
   }
 
   -- ---- a request
@@ -84,11 +83,11 @@ module _ {V : Type 0} (me : Identity V) where
     abbrev served_now : Entry
     served_now = Served pos (placed_in me x.history r)
 
-    goes_on : IsServing me s.orders pos s.batch more (served_now ∷ x.history)
-    goes_on = serving_goes_on me s.orders pos s.batch r more x.history s.serving
+    goes_on : IsServing me pos s.batch more (served_now ∷ x.history)
+    goes_on = serving_goes_on me pos s.batch r more x.history s.serving
 
     fits_on : AreFit me (served_now ∷ x.history)
-    fits_on = served_fit me s.orders (is_there me old rep.who) pos s.batch r more x.history s.serving rep.fit
+    fits_on = served_fit me (is_there me old rep.who) pos s.batch r more x.history s.serving rep.fit
 
     pub place_fits : IsPosition pos
     place_fits = fits_on.values.0.0
@@ -115,7 +114,7 @@ module _ {V : Type 0} (me : Identity V) where
           counter = left.counter refl;
           gates = left.gates (λ h. refl);
           log = left.log refl;
-          normal = request_served me s.orders pos placed x.history t.normal new.agreement.normal goes_on.sound.arises settles rep.tables.normal;
+          normal = request_served me pos placed x.history t.normal new.agreement.normal goes_on.sound.arises settles rep.tables.normal;
           change = left.change refl;
           stable = left.stable refl;
           exec = left.exec refl;
@@ -136,7 +135,6 @@ module _ {V : Type 0} (me : Identity V) where
             executed = s.stands.executed;
             installed = s.stands.installed;
           };
-          orders = s.orders;
           batch = s.batch;
           serving = goes_on;
         }

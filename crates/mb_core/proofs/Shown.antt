@@ -53,7 +53,7 @@ module _ {V : Type 0} (me : Identity V) where
         counter = left.counter refl;
         gates = left.gates (λ h. refl);
         log = left.log refl;
-        normal = log_learnt me (ap (λ b. b.order) rep.tables.whole) m d old.agreement.normal new.agreement.normal (adds, rep.tables.sound.arises) learns rep.tables.normal;
+        normal = log_learnt me m d old.agreement.normal new.agreement.normal (adds, rep.tables.sound.arises) learns rep.tables.normal;
         change = log_taken me old.agreement.change new.agreement.change d (same_table old new holds.same) rep.tables.change m holds.stands;
         stable = stable_learnt me old d rep e (Some m.stable) (stable_in_log me m d);
         exec = left.exec refl;
@@ -112,7 +112,6 @@ module _ {V : Type 0} (me : Identity V) where
       represents = record {
         who = still_host me old new writes.same stands.represents.who;
         tables = subst (λ (t : Tables V). Stand me t x.history) (sym writes.tables) (record {
-          whole = t.whole;
           sound = t.sound;
           counter = t.counter;
           gates = gates;

@@ -21,4 +21,4 @@ module _ {V : Type 0} where
   own_gate_follows old new m mark same follows me d who sound adds g =
       let f : GateFollows me.host mark old new = subst (λ (h : ℕ). GateFollows h mark old new) (sym who.host) follows in
       let marks : Marks mark m = subst (λ (k : Mark). Marks k m) (sym same) (mark_says m) in
-      subst (λ (l : List Gate). GatesStand me l (Stamped m ∷ d)) (sym f.now) (gate_stamped me who.built old.agreement.gates.items d m mark f.before f.behind sound adds marks f.there f.law g)
+      subst (λ (l : List Gate). GatesStand me l (Stamped m ∷ d)) (sym f.now) (gate_stamped me old.agreement.gates.items d m mark f.before f.behind sound adds marks f.there f.law g)

@@ -43,7 +43,6 @@ module _ {V : Type 0} where
   pub same_tables : (me : Identity V) (r new : Replica V) (d : History) → new.agreement ≡ r.agreement → new.keeper ≡ r.keeper → Represents me r d → Represents me new d
   same_tables me r new d agreement keeper rep = record {
     who = record {
-      built = rep.who.built;
       shape = rep.who.shape ∙ sym (ap (λ (a : Agreement). a.shape) agreement);
       host = rep.who.host ∙ sym (ap (λ (a : Agreement). a.host) agreement);
       secret = rep.who.secret ∙ sym (ap (λ (a : Agreement). a.usig.secret) agreement);
@@ -107,5 +106,5 @@ module _ {V : Type 0} (is_state : V → Type 0) (after : V → Bytes → V) (res
     history = (transition a.me a.history event).left.history;
     serves = a.serves;
     represents = represents a.me a.history a.serves a.represents a.whole;
-    whole = (transition_sound a.me (ap (λ b. b.order) a.represents.who.built) a.history event a.represents.tables.sound a.whole).1;
+    whole = (transition_sound a.me a.history event a.represents.tables.sound a.whole).1;
   }

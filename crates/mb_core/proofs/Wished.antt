@@ -1,5 +1,5 @@
 -- Wishes: one that is taken, and lost patience.
-use Rattle.std.proofs.Common.{◌≡◌, ℕ, ◌+◌, true, false, ◌∷◌, refl, sym, ap, subst, inl, Some, None}
+use Rattle.std.proofs.Common.{◌≡◌, ℕ, ◌+◌, true, false, ◌∷◌, refl, sym, subst, inl, Some, None}
 use Rattle.std.specs.Prelude.{◌==◌}
 use Rattle.mb_base.specs.declared.shape.Shape.{Shape}
 use Rattle.mb_msg.specs.declared.change.ReqViewChange.{ReqViewChange}
@@ -13,7 +13,7 @@ use Rattle.mb_model.specs.Given.{Answer, answer, give_wish}
 use Rattle.mb_model.specs.HostStep.{on_patience, wish_onward}
 use Rattle.mb_model.specs.Sending.{Progress, write}
 use Rattle.mb_model.specs.PlainChecks.{wish_refusal}
-use Rattle.mb_model.proofs.EarlyHistories.{shape_fits}
+use Rattle.mb_model.proofs.ShapesFit.{shape_fits}
 use Rattle.mb_model.proofs.StepPassed.{passes_wish}
 use Rattle.mb_change.specs.Searches.{with_wish}
 use Rattle.mb_change.specs.Represents.{StandsWith}
@@ -81,5 +81,5 @@ module _ {V : Type 0} (me : Identity V) (old new : Replica V) (d : History) (rep
       me = me;
       history = LostPatience ∷ d;
       represents = now;
-      fits = patience_sent me (shape_fits me.shape) (host_there me old d rep) (ap (λ b. b.order) rep.tables.whole) d now.tables.sound now.fit;
+      fits = patience_sent me (shape_fits me.shape) (host_there me old d rep) d now.tables.sound now.fit;
     }

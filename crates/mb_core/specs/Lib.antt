@@ -10,5 +10,6 @@ pub mod Due
 pub mod Serving
 pub mod Installing
 pub mod Halting
+pub mod Lengths
 pub mod Beginning
 pub mod Carrying

@@ -5,7 +5,6 @@ use Rattle.mb_msg.specs.declared.event.Placed.{Placed}
 use Rattle.mb_msg.specs.declared.event.Sent.{Sent}
 use Rattle.mb_msg.specs.declared.event.Step.{Step}
 use Rattle.mb_msg.specs.Spelling.{spelling}
-use Rattle.mb_model.specs.Built.{everything}
 use Rattle.mb_model.specs.Histories.{History, Identity}
 use Rattle.mb_model.specs.CarriedOut.{just_served}
 use Rattle.mb_model.specs.Sending.{Letter, Progress}
@@ -52,7 +51,6 @@ module _ {V : Type 0} where
 
   -- which host it is
   pub record IsHost (me : Identity V) (r : Replica V) : Type 0 where
-    pub built : me.built ≡ everything
     pub shape : me.shape ≡ r.agreement.shape
     pub host : me.host ≡ r.agreement.host
     pub secret : me.secret ≡ r.agreement.usig.secret

@@ -18,9 +18,8 @@ module _ {V : Type 0} where
   -- Of the batch at a position these requests are served, and these are left.
   pub record ServesOn (me : Identity V) (r : Replica V) (done : Done) (pos : ℕ) (more : List Request) (served : List Placed) (x : Progress) : Type 0 where
     pub stands : StandsServing me r done served x
-    pub orders : me.built.order ≡ true
     pub batch : Batch
-    pub serving : IsServing me orders pos batch more x.history
+    pub serving : IsServing me pos batch more x.history
 
   module _ (is_state : V → Type 0) (after : V → Bytes → V) (result : V → Bytes → Bytes) (part : V → ℕ → Bytes) (restored : List Bytes → Result V (ℕ × ℕ)) (r : Replica V) (done : Done) (pos : ℕ) where
     -- There is a step so, of a host with this service.

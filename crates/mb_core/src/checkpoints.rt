@@ -71,7 +71,7 @@ impl<V: Service + Drop> Replica<V> {
             body: Body::Whole(Floors { floors }),
             ui: NO_UI,
         };
-        let signed = self.sign(alloc, Stamped::Checkpoint(checkpoint), done)?;
+        let signed = self.sign(alloc, Stamped::Checkpoint(checkpoint))?;
         let Stamped::Checkpoint(own) = &signed.message else {
             return Ok(());
         };

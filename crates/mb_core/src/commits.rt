@@ -148,7 +148,7 @@ impl<V: Service + Drop> Replica<V> {
             body: Body::Whole(copy),
             ui: NO_UI,
         };
-        let signed = self.sign(alloc, Stamped::Commit(commit), done)?;
+        let signed = self.sign(alloc, Stamped::Commit(commit))?;
         self.count_vote(pos, self.agreement.host, counter, signed.body);
         self.publish(alloc, signed.message, signed.body, done)
     }

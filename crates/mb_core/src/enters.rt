@@ -48,7 +48,7 @@ impl<V: Service + Drop> Replica<V> {
             plan: new_view.plan,
             ui: NO_UI,
         };
-        let signed = self.sign(alloc, Stamped::Enter(enter), done)?;
+        let signed = self.sign(alloc, Stamped::Enter(enter))?;
         self.hold_enter(Enter {
             ui: signed.ui,
             ..enter

@@ -52,7 +52,7 @@ impl<V: Service + Drop> Replica<V> {
             stable,
             ui: NO_UI,
         };
-        let signed = self.sign(alloc, Stamped::Join(join), done)?;
+        let signed = self.sign(alloc, Stamped::Join(join))?;
         self.publish(alloc, signed.message, signed.body, done)
     }
 

@@ -128,7 +128,7 @@ impl<V: Service + Drop> Replica<V> {
             return Ok(());
         };
         let message = self.new_view(changes, &plan);
-        let signed = self.sign(alloc, message, done)?;
+        let signed = self.sign(alloc, message)?;
         self.hold_own(alloc, &signed.message)?;
         self.hold_plan(alloc, view, plan)?;
         self.count_opens(view);

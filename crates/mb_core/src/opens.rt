@@ -135,7 +135,7 @@ impl<V: Service + Drop> Replica<V> {
         let Some(message) = opening else {
             return Ok(());
         };
-        let signed = self.sign(alloc, message, done)?;
+        let signed = self.sign(alloc, message)?;
         self.carry_on(alloc, view, &evidence)?;
         self.hold_own_evidence(evidence);
         self.publish(alloc, signed.message, signed.body, done)

@@ -53,7 +53,7 @@ impl<V: Service + Drop> Replica<V> {
             body: Body::Whole(batch),
             ui: NO_UI,
         };
-        let signed = self.sign(alloc, Stamped::Prepare(prepare), done)?;
+        let signed = self.sign(alloc, Stamped::Prepare(prepare))?;
         self.put_slot(pos, &signed.ui, signed.body, Some(kept));
         self.count_vote(pos, self.agreement.host, signed.ui.counter, signed.body);
         self.publish(alloc, signed.message, signed.body, done)

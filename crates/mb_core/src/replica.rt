@@ -9,11 +9,12 @@ ghost use Rattle.mb_model.specs.Positions.{exec_of};
 ghost use Rattle.mb_model.specs.HostStep.{transition};
 ghost use Rattle.mb_model.proofs.StepArises.{IsWhole};
 ghost use Rattle.mb_core.specs.Halting.{Halts};
+ghost use Rattle.mb_core.specs.Lengths.{AreMessageLong};
 ghost use Rattle.mb_core.specs.Represents.{Represents, Serves, IsHost, IsAtRest, IsStep};
 
 use crate::agreement::Agreement;
 use crate::sending::Done;
-use mb_base::{Host, Items, Key, NoMemory, Pos, Shape};
+use mb_base::{Host, Key, NoMemory, Pos, Shape};
 use mb_keeper::Keeper;
 use mb_msg::{Event, Floor, Step};
 use mb_service::Service;
@@ -33,8 +34,6 @@ pub enum Stop {
 pub struct Replica<V: Service> {
     pub(crate) agreement: Agreement,
     pub(crate) keeper: Keeper<V>,
-    /// The bare bytes of what this host stamped in its last step, oldest first.
-    said: Vec<Items<u8>>,
     halted: bool,
 }
 
@@ -57,18 +56,18 @@ impl<V: Service + Drop> Replica<V> {
         Ok(Replica {
             agreement: Agreement::make(alloc, shape, host, secret)?,
             keeper: Keeper::make(alloc, shape, service)?,
-            said: Vec::new(alloc),
             halted: false,
         })
     }
 
-    /// One event at this host: its outcome, and what it sent, executed and took over.
+    /// One event at this host: its outcome, and what it sent, executed and took over. Each message that it sent has the length of one.
     ///
     /// After `NoMemory` every later call is `Halted`, and only then.
     pub fn step(&mut self, alloc: Global, event: &Event) -> Result<Step, Stop>
         requires { self.old.halted ≡ false → IsAtRest V.is_state V.after V.answer V.part_of V.restored self.old }
         ensures stands { (me : Identity V) (d : History) → Serves V.is_state V.after V.answer V.part_of V.restored me → Represents me self.old d → IsWhole d
             → IfOk result (λ s. IsStep s (transition me d event.now) × (Represents me self.new (transition me d event.now).left.history × IsWhole (transition me d event.now).left.history)) }
+        ensures lengths { IfOk result (λ s. AreMessageLong s.sent) }
         ensures rests { self.new.halted ≡ false → IsAtRest V.is_state V.after V.answer V.part_of V.restored self.new }
         ensures halts { Halts self.old result self.new }
     {
@@ -78,10 +77,8 @@ impl<V: Service + Drop> Replica<V> {
         let mut done = Done::new(alloc);
         match self.on_event(alloc, event, &mut done) {
             Ok(outcome) => {
-                let (step, said) = done.into_step(outcome);
-                self.said = said;
                 self.halted = false;
-                Ok(step)
+                Ok(done.into_step(outcome))
             }
             Err(NoMemory) => {
                 self.halted = true;
@@ -139,13 +136,6 @@ impl<V: Service + Drop> Replica<V> {
         ensures { (me : Identity V) (d : History) → Represents me self.now d → result ≡ log_longest me d }
     {
         self.agreement.log.longest()
-    }
-
-    /// The bare bytes of what this host stamped in its last step that ended, oldest first.
-    pub fn said(&self) -> &[Items<u8>]
-        ensures { result.now ≡ self.now.said.items }
-    {
-        self.said.as_slice()
     }
 
     /// Whether an earlier step ran out of memory.

@@ -1,4 +1,6 @@
-//! What a step has sent, executed, installed and stamped so far.
+//! What a step has sent, executed and installed so far.
+
+ghost use Rattle.mb_core.specs.Lengths.{AreMessageLong};
 
 use crate::replica::Replica;
 use mb_base::{Items, NoMemory, Pos};
@@ -13,51 +15,47 @@ pub(crate) struct Done {
     pub(crate) executed: Items<Slot>,
     /// The position of the state that it installed.
     pub(crate) installed: Option<Pos>,
-    /// The bare bytes of what it stamped.
-    pub(crate) said: Vec<Items<u8>>,
+    ghost lengths: { AreMessageLong sent },
 }
 
 impl Done {
-    ghost use Rattle.std.specs.Prelude.{[], ◌∷◌, ◌++◌, ◌≡◌, None, OnOk};
+    ghost use Rattle.std.specs.Prelude.{[], ◌∷◌, ◌++◌, ◌≡◌, ◌≤◌, length, None, OnOk};
+    ghost use Rattle.mb_base.specs.declared.limits.TheConstants.{MESSAGE_LIMIT};
 
     /// Nothing yet.
     pub(crate) fn new(alloc: Global) -> Done
         ensures sent { result.sent ≡ [] }
         ensures executed { result.executed ≡ [] }
         ensures installed { result.installed ≡ None }
-        ensures said { result.said.items ≡ [] }
     {
         Done {
             sent: Items::new(alloc),
             executed: Items::new(alloc),
             installed: None,
-            said: Vec::new(alloc),
         }
     }
 
-    /// The whole step, with its outcome; and the bare bytes of what it stamped.
-    pub(crate) fn into_step(self, outcome: Outcome) -> (Step, Vec<Items<u8>>)
-        ensures step { result.0 ≡ record { outcome = outcome; sent = self.sent; executed = self.executed; adopted = self.installed } }
-        ensures said { result.1 ≡ self.said }
+    /// The whole step, with its outcome.
+    pub(crate) fn into_step(self, outcome: Outcome) -> Step
+        ensures lengths { AreMessageLong result.sent }
+        ensures step { result ≡ record { outcome = outcome; sent = self.sent; executed = self.executed; adopted = self.installed } }
     {
         let Done {
             sent,
             executed,
             installed,
-            said,
         } = self;
-        let step = Step {
+        Step {
             outcome,
             sent,
             executed,
             adopted: installed,
-        };
-        (step, said)
+        }
     }
 
     fn push(&mut self, to: To, bytes: Vec<u8>) -> Result<(), NoMemory>
+        requires length { (1 ≤ length bytes.items) × (length bytes.items ≤ MESSAGE_LIMIT) }
         ensures kept { (self.new.executed ≡ self.old.executed) × (self.new.installed ≡ self.old.installed) }
-        ensures said { self.new.said ≡ self.old.said }
         ensures sent { OnOk result (self.new.sent ≡ self.old.sent ++ (record { to = to; bytes = bytes.items }) ∷ []) }
     {
         self.sent.push(Sent {
@@ -73,7 +71,7 @@ impl<V: Service + Drop> Replica<V> {
     ghost use Rattle.mb_core.specs.Represents.{as_sent, StandsServing};
     ghost use Rattle.std.specs.Prelude.{List};
     ghost use Rattle.mb_msg.specs.declared.event.Placed.{Placed};
-    ghost use Rattle.mb_msg.specs.Fits.{Fits, FitsStamped};
+    ghost use Rattle.mb_msg.specs.Fits.{Fits};
     ghost use Rattle.mb_msg.specs.Stamps.{as_message};
     ghost use Rattle.mb_model.specs.Histories.{Identity};
     ghost use Rattle.mb_model.specs.Sending.{Progress, send, to_all};
@@ -99,9 +97,8 @@ impl<V: Service + Drop> Replica<V> {
         message: &Stamped,
         done: &mut Done,
     ) -> Result<(), NoMemory>
-        requires { FitsStamped self.now.agreement.shape message.now }
+        requires { Fits self.now.agreement.shape (as_message message.now) }
         ensures kept { (done.new.executed ≡ done.old.executed) × (done.new.installed ≡ done.old.installed) }
-        ensures said { done.new.said ≡ done.old.said }
         ensures sent { OnOk result (done.new.sent ≡ done.old.sent ++ as_sent (to_all (as_message message.now)) ∷ []) }
     {
         done.push(

@@ -2,7 +2,7 @@
 
 use crate::replica::Replica;
 use crate::sending::Done;
-use mb_base::{Counter, Digest, Items, NoMemory, Ui};
+use mb_base::{Counter, Digest, NoMemory, Ui};
 use mb_msg::Stamped;
 use mb_service::Service;
 use std::alloc::Global;
@@ -31,11 +31,10 @@ pub(crate) struct Signed {
 impl<V: Service + Drop> Replica<V> {
     ghost use Rattle.std.specs.Prelude.{◌≡◌, IfOk, ◌<◌, ◌+◌, ◌-◌, ◌^◌, ◌++◌, ◌∷◌, [], true, OnOk};
     ghost use Rattle.mb_usig.specs.Trusted.{ui_at};
-    ghost use Rattle.mb_parts.specs.Bares.{bare_bytes};
     ghost use Rattle.mb_model.specs.Histories.{Identity, History, Stamped as StampedEntry, counter_of};
     ghost use Rattle.mb_model.specs.OwnLog.{is_unspent, has_room, has_other_room};
-    ghost use Rattle.mb_msg.specs.Fits.{FitsStamped};
-    ghost use Rattle.mb_msg.specs.Stamps.{as_message, bare_of};
+    ghost use Rattle.mb_msg.specs.Fits.{Fits, FitsStamped};
+    ghost use Rattle.mb_msg.specs.Stamps.{as_message};
     ghost use Rattle.mb_msg.specs.Spelling.{stamped_kind};
     ghost use Rattle.mb_msg.specs.AsStamped.{stamped_digest};
     ghost use Rattle.mb_log.specs.Logs.{has_room_for, appended};
@@ -45,7 +44,7 @@ impl<V: Service + Drop> Replica<V> {
     ghost use Rattle.mb_standing.specs.Stands.{GatesStand};
     ghost use Rattle.mb_core.specs.Represents.{IsHost, as_sent, Represents};
     ghost use Rattle.mb_core.specs.Between.{WritesCounter, WritesStamp};
-    ghost use Rattle.mb_core.specs.Signed.{IsSigned, SaysMore};
+    ghost use Rattle.mb_core.specs.Signed.{IsSigned};
 
     // ---- room
 
@@ -73,23 +72,15 @@ impl<V: Service + Drop> Replica<V> {
     // ---- stamping
 
     /// Binds the next counter to a message. There is one.
-    pub(crate) fn sign(
-        &mut self,
-        alloc: Global,
-        message: Stamped,
-        done: &mut Done,
-    ) -> Result<Signed, NoMemory>
+    pub(crate) fn sign(&mut self, alloc: Global, message: Stamped) -> Result<Signed, NoMemory>
         requires fits { FitsStamped self.old.agreement.shape message }
         requires unspent { self.old.agreement.usig.counter < 2 ^ 64 - 1 }
         ensures signed { (me : Identity V) (d : History) → IsHost me self.old → self.old.agreement.usig.counter ≡ counter_of d → IfOk result (λ s. IsSigned (signed me d message) s) }
         ensures writes { OnOk result (WritesCounter self.old self.new) }
-        ensures done { SaysMore done.old done.new }
-        ensures said { OnOk result (done.new.said.items ≡ done.old.said.items ++ bare_bytes (bare_of message) ∷ []) }
     {
         let body = message.body_digest(alloc, &self.agreement.shape)?;
         let bare = message.bare_with(alloc, &self.agreement.shape, &body)?;
         let ui = self.next_ui(bare.as_slice());
-        done.said.push(Items::from_vec(bare))?;
         Ok(Signed {
             message: message.with_ui(ui),
             ui,
@@ -118,11 +109,10 @@ impl<V: Service + Drop> Replica<V> {
         done: &mut Done,
     ) -> Result<(), NoMemory>
         requires room { has_room_for self.old.agreement.log (stamped_kind message) ≡ true }
-        requires fits { FitsStamped self.old.agreement.shape message }
+        requires fits { Fits self.old.agreement.shape (as_message message) }
         requires body { body ≡ stamped_digest message }
         ensures sent { OnOk result (done.new.sent ≡ done.old.sent ++ as_sent (to_all (as_message message)) ∷ []) }
         ensures kept { (done.new.executed ≡ done.old.executed) × (done.new.installed ≡ done.old.installed) }
-        ensures said { done.new.said ≡ done.old.said }
         ensures log { OnOk result (self.new.agreement.log ≡ appended message self.old.agreement.log) }
         ensures gates { (me : Identity V) (d : History) → IsHost me self.old → IsSound me d → Adds me d (StampedEntry message) → GatesStand me self.old.agreement.gates.items d → OnOk result (GatesStand me self.new.agreement.gates.items (StampedEntry message ∷ d)) }
         ensures writes { OnOk result (WritesStamp self.old self.new) }

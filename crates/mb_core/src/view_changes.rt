@@ -87,7 +87,7 @@ impl<V: Service + Drop> Replica<V> {
         ensures { (me : Identity V) (x : Progress) → StandsAt me self.old done.old x → next_rule me x.history ≡ Some (rules.ChangeView view) → OnOk result (StandsAt me self.new done.new (carry_out me (rules.ChangeView view) x)) }
     {
         let message = self.view_change(alloc, view)?;
-        let signed = self.sign(alloc, message, done)?;
+        let signed = self.sign(alloc, message)?;
         self.wish_own(view);
         self.store_own(alloc, &signed.message)?;
         self.clear_votes();

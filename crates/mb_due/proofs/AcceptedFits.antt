@@ -18,7 +18,7 @@ use Rattle.mb_model.specs.Execution.{state_of, pending, if_fresh}
 use Rattle.mb_model.specs.Sending.{Progress}
 use Rattle.mb_model.specs.HostStep.{transition}
 use Rattle.mb_model.specs.EnabledRules.{greatest_in_slots, window, unordered_of, unordered}
-use Rattle.mb_model.proofs.EarlyHistories.{shape_fits}
+use Rattle.mb_model.proofs.ShapesFit.{shape_fits}
 use Rattle.mb_model.proofs.Options.{if_some}
 use Rattle.mb_model.proofs.StepPlanBases.{all_found}
 use Rattle.mb_theory.specs.World.{System, self_of}

@@ -22,7 +22,6 @@ use Rattle.mb_msg.specs.declared.event.Outcome.TheVariants as outcome
 use Rattle.mb_model.specs.declared.known.Vote.{Vote}
 use Rattle.mb_model.specs.declared.known.KnownSlot.{KnownSlot}
 use Rattle.mb_model.specs.Votes.{is_vote}
-use Rattle.mb_model.specs.Built.{Built, everything}
 use Rattle.mb_model.specs.Histories.{Entry, Accepted, Closed, History, Identity, view_of}
 use Rattle.mb_model.specs.Positions.{is_behind, slot_in, slot_vote, vote_of}
 use Rattle.mb_model.specs.Sending.{Progress, begin, write, note}
@@ -33,7 +32,7 @@ use Rattle.mb_model.specs.CarriedOut.{run_rules, enough}
 use Rattle.mb_model.specs.Given.{closing, offer_prepare, named_prepare, casts_vote, give_stamped, give}
 use Rattle.mb_model.specs.HostStep.{is_taken, rules_follow, asks_on, low_rose, with_fetch, transition}
 use Rattle.mb_model.proofs.Options.{option_cases}
-use Rattle.mb_model.proofs.EarlyHistories.{shape_fits}
+use Rattle.mb_model.proofs.ShapesFit.{shape_fits}
 use Rattle.mb_model.proofs.StepArises.{ArisesWhole}
 use Rattle.mb_model.proofs.StepGivenArise.{give_arises}
 use Rattle.mb_model.proofs.StepEventsArise.{transition_arises}
@@ -94,17 +93,16 @@ module _ {S : Type 0} (self : Identity S) where
     | inr not_so ↦ rw not_so refl
   ]
 
-  given_left : self.built ≡ everything → (d : History) (bytes : Bytes) (m : Message) → message_of self.shape bytes ≡ Ok m → rules_follow self (give self m (begin d)).outcome m ≡ true
+  given_left : (d : History) (bytes : Bytes) (m : Message) → message_of self.shape bytes ≡ Ok m → rules_follow self (give self m (begin d)).outcome m ≡ true
       → (transition self d (event.Given bytes)).left.history ≡ (run_rules self enough (give self m (begin d)).left).history
   unfolding transition
-  given_left all d bytes m is follow =
-      let kinds : self.built.kinds (kind_of m) ≡ true = ap (λ (b : Built). b.kinds (kind_of m)) all in
-      rw (is, kinds, follow) (fetch_same (asks_on self m) d (run_rules self enough (give self m (begin d)).left))
+  given_left d bytes m is follow =
+      rw (is, follow) (fetch_same (asks_on self m) d (run_rules self enough (give self m (begin d)).left))
 
-  step_executes : IsShape self.shape → self.built ≡ everything → (d : History) → IsQuiescent self d → ArisesWhole self d → (bytes : Bytes) (m : Message) → message_of self.shape bytes ≡ Ok m
+  step_executes : IsShape self.shape → (d : History) → IsQuiescent self d → ArisesWhole self d → (bytes : Bytes) (m : Message) → message_of self.shape bytes ≡ Ok m
       → rules_follow self (give self m (begin d)).outcome m ≡ true → (pos : ℕ) (k : KnownSlot) (b : Batch) → Waits self pos k b (give self m (begin d)).left.history → Executes self d bytes pos b
-  step_executes shape all d quiet arises bytes m is follow pos k b w =
-      let left = given_left all d bytes m is follow in
+  step_executes shape d quiet arises bytes m is follow pos k b w =
+      let left = given_left d bytes m is follow in
       let ends = subst (λ (h : History). IsQuiescent self h) left (stays_quiescent self shape d (event.Given bytes) quiet) in
       let done = run_executes self enough (give self m (begin d)).left pos k b w.0 w.1 (give_arises self m (begin d) arises) ends in
       let there = subst (λ (h : History). IsDone h pos b) (sym left) done in
@@ -130,8 +128,8 @@ module _ {S : Type 0} (self : Identity S) where
       ap (λ (o : Option Vote). is_vote o (slot_vote k)) now ∙ (ap (λ (y : Vote). is_vote (Some y) (slot_vote k)) same ∙ same_vote (slot_vote k)) in
       completes self e d m.ui.host m.pos (slot_vote k) view host lacks.first new lacks.others
 
-  pub executes_with_commit : IsShape self.shape → self.built ≡ everything → (d : History) → IsQuiescent self d → ArisesWhole self d → ExecutesWithCommit self d
-  executes_with_commit shape all d quiet arises bytes m k b is passes n slot counter digest lacks =
+  pub executes_with_commit : IsShape self.shape → (d : History) → IsQuiescent self d → ArisesWhole self d → ExecutesWithCommit self d
+  executes_with_commit shape d quiet arises bytes m k b is passes n slot counter digest lacks =
       let e : Entry = Accepted (message.Commit m) in
       let s : Stays self d (e ∷ d) = takes_commit self d m n.current n.within.above in
       let fits = read_fits self.shape shape bytes (message.Commit m) is in
@@ -142,7 +140,7 @@ module _ {S : Type 0} (self : Identity S) where
         votes = commit_votes d m k fits.ui.host n counter digest lacks s.view;
       } in
       let w = commit_waits d m k b none (n.current ∙ sym s.view) (calm_still self d (e ∷ d) m.pos s (calm_before d m.view m.pos quiet n), voted) in
-      step_executes shape all d quiet arises bytes (message.Commit m) is (ap (is_taken self) (taken_so d (stamped.Commit m) none)) m.pos k b w
+      step_executes shape d quiet arises bytes (message.Commit m) is (ap (is_taken self) (taken_so d (stamped.Commit m) none)) m.pos k b w
 
   -- ---- by the PREPARE itself
 
@@ -157,8 +155,8 @@ module _ {S : Type 0} (self : Identity S) where
       let new : has_vote self (e ∷ d) m.pos x m.ui.host ≡ true = ap (λ (o : Option Vote). is_vote o x) now ∙ same_vote x in
       completes self e d m.ui.host m.pos x view host lacks.first new lacks.others
 
-  pub executes_with_prepare : IsShape self.shape → self.built ≡ everything → (d : History) → IsQuiescent self d → ArisesWhole self d → ExecutesWithPrepare self d
-  executes_with_prepare shape all d quiet arises bytes m b is passes n no_slot body lacks =
+  pub executes_with_prepare : IsShape self.shape → (d : History) → IsQuiescent self d → ArisesWhole self d → ExecutesWithPrepare self d
+  executes_with_prepare shape d quiet arises bytes m b is passes n no_slot body lacks =
       let e : Entry = Accepted (message.Prepare m) in
       let k : KnownSlot = slot_of self d m in
       let s : Stays self d (e ∷ d) = takes_prepare self d m n.current n.within.above in
@@ -172,11 +170,11 @@ module _ {S : Type 0} (self : Identity S) where
         votes = prepare_votes d m fits.ui.host n lacks_it s.view;
       } in
       let w = prepare_waits d m k b none (calm_still self d (e ∷ d) m.pos s (calm_before d m.view m.pos quiet n), voted) in
-      step_executes shape all d quiet arises bytes (message.Prepare m) is (ap (is_taken self) (taken_so d (stamped.Prepare m) none)) m.pos k b w
+      step_executes shape d quiet arises bytes (message.Prepare m) is (ap (is_taken self) (taken_so d (stamped.Prepare m) none)) m.pos k b w
 
 -- ---- in each world
 
-module _ {S : Type 0} (system : System S) (all : system.built ≡ everything) (k h : ℕ) where
+module _ {S : Type 0} (system : System S) (k h : ℕ) where
   quiescent : IsQuiescent (self_of system h) ((world system k).histories h)
   quiescent = world_keeps system (λ g d. IsQuiescent (self_of system g) d) (λ g. begins_quiescent (self_of system g))
       (λ g d e q. stays_quiescent (self_of system g) (shape_fits system.schedule.shape) d e q) k h
@@ -186,8 +184,8 @@ module _ {S : Type 0} (system : System S) (all : system.built ≡ everything) (k
 
   -- Each host executes with the COMMIT that completes f+1.
   pub hosts_execute_with_commit : ExecutesWithCommit (self_of system h) ((world system k).histories h)
-  hosts_execute_with_commit = executes_with_commit (self_of system h) (shape_fits system.schedule.shape) all ((world system k).histories h) quiescent arisen
+  hosts_execute_with_commit = executes_with_commit (self_of system h) (shape_fits system.schedule.shape) ((world system k).histories h) quiescent arisen
 
   -- and with the PREPARE that does
   pub hosts_execute_with_prepare : ExecutesWithPrepare (self_of system h) ((world system k).histories h)
-  hosts_execute_with_prepare = executes_with_prepare (self_of system h) (shape_fits system.schedule.shape) all ((world system k).histories h) quiescent arisen
+  hosts_execute_with_prepare = executes_with_prepare (self_of system h) (shape_fits system.schedule.shape) ((world system k).histories h) quiescent arisen

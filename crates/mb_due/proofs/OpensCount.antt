@@ -93,30 +93,30 @@ module _ {S : Type 0} (self : Identity S) where
   plan_same x d e = refl
 
   -- A VIEW_CHANGE that was accepted is another's.
-  others_change : self.built.order ≡ true → (m : ViewChange) (d : History) → Arises self (Accepted (message.ViewChange m) ∷ d) → (m.ui.host == self.host) ≡ false
-  others_change on m d a = own_passed self d (stamped.ViewChange m) (steady self on d a.1).list.own a.0.gate
+  others_change : (m : ViewChange) (d : History) → Arises self (Accepted (message.ViewChange m) ∷ d) → (m.ui.host == self.host) ≡ false
+  others_change m d a = own_passed self d (stamped.ViewChange m) (steady self d a.1).list.own a.0.gate
 
-  view_same : self.built.order ≡ true → (x : Entry) (d : History) → Arises self (x ∷ d) → counts_opens x ≡ false → view_of self (x ∷ d) ≡ view_of self d
+  view_same : (x : Entry) (d : History) → Arises self (x ∷ d) → counts_opens x ≡ false → view_of self (x ∷ d) ≡ view_of self d
   unfolding origin taken_of IsNoChange
-  view_same on (Accepted (message.Prepare m)) d a e = same_view (origin d self.host) (taken_of d self.host) self.host (stamped.Prepare m) tt
-  view_same on (Accepted (message.Commit m)) d a e = same_view (origin d self.host) (taken_of d self.host) self.host (stamped.Commit m) tt
-  view_same on (Accepted (message.Checkpoint m)) d a e = same_view (origin d self.host) (taken_of d self.host) self.host (stamped.Checkpoint m) tt
-  view_same on (Accepted (message.Enter m)) d a e = same_view (origin d self.host) (taken_of d self.host) self.host (stamped.Enter m) tt
-  view_same on (Accepted (message.Join m)) d a e = same_view (origin d self.host) (taken_of d self.host) self.host (stamped.Join m) tt
-  view_same on (Accepted (message.ViewChange m)) d a e = rw (others_change on m d a) refl
-  view_same on (Accepted (message.NewView m)) d a e = absurd cc
-  view_same on (Accepted (message.Open m)) d a e = absurd cc
-  view_same on (Accepted m) d a e = refl
-  view_same on (Stamped (stamped.ViewChange m)) d a e = absurd cc
-  view_same on (Stamped (stamped.NewView m)) d a e = absurd cc
-  view_same on (Stamped (stamped.Prepare m)) d a e = same_view (origin d self.host) (taken_of d self.host) self.host (stamped.Prepare m) tt
-  view_same on (Stamped (stamped.Commit m)) d a e = same_view (origin d self.host) (taken_of d self.host) self.host (stamped.Commit m) tt
-  view_same on (Stamped (stamped.Checkpoint m)) d a e = same_view (origin d self.host) (taken_of d self.host) self.host (stamped.Checkpoint m) tt
-  view_same on (Stamped (stamped.Enter m)) d a e = same_view (origin d self.host) (taken_of d self.host) self.host (stamped.Enter m) tt
-  view_same on (Stamped (stamped.Open m)) d a e = same_view (origin d self.host) (taken_of d self.host) self.host (stamped.Open m) tt
-  view_same on (Stamped (stamped.Join m)) d a e = same_view (origin d self.host) (taken_of d self.host) self.host (stamped.Join m) tt
-  view_same on (Jumped g floor) d a e = rw a.0 refl
-  view_same on x d a e = refl
+  view_same (Accepted (message.Prepare m)) d a e = same_view (origin d self.host) (taken_of d self.host) self.host (stamped.Prepare m) tt
+  view_same (Accepted (message.Commit m)) d a e = same_view (origin d self.host) (taken_of d self.host) self.host (stamped.Commit m) tt
+  view_same (Accepted (message.Checkpoint m)) d a e = same_view (origin d self.host) (taken_of d self.host) self.host (stamped.Checkpoint m) tt
+  view_same (Accepted (message.Enter m)) d a e = same_view (origin d self.host) (taken_of d self.host) self.host (stamped.Enter m) tt
+  view_same (Accepted (message.Join m)) d a e = same_view (origin d self.host) (taken_of d self.host) self.host (stamped.Join m) tt
+  view_same (Accepted (message.ViewChange m)) d a e = rw (others_change m d a) refl
+  view_same (Accepted (message.NewView m)) d a e = absurd cc
+  view_same (Accepted (message.Open m)) d a e = absurd cc
+  view_same (Accepted m) d a e = refl
+  view_same (Stamped (stamped.ViewChange m)) d a e = absurd cc
+  view_same (Stamped (stamped.NewView m)) d a e = absurd cc
+  view_same (Stamped (stamped.Prepare m)) d a e = same_view (origin d self.host) (taken_of d self.host) self.host (stamped.Prepare m) tt
+  view_same (Stamped (stamped.Commit m)) d a e = same_view (origin d self.host) (taken_of d self.host) self.host (stamped.Commit m) tt
+  view_same (Stamped (stamped.Checkpoint m)) d a e = same_view (origin d self.host) (taken_of d self.host) self.host (stamped.Checkpoint m) tt
+  view_same (Stamped (stamped.Enter m)) d a e = same_view (origin d self.host) (taken_of d self.host) self.host (stamped.Enter m) tt
+  view_same (Stamped (stamped.Open m)) d a e = same_view (origin d self.host) (taken_of d self.host) self.host (stamped.Open m) tt
+  view_same (Stamped (stamped.Join m)) d a e = same_view (origin d self.host) (taken_of d self.host) self.host (stamped.Join m) tt
+  view_same (Jumped g floor) d a e = rw a.0 refl
+  view_same x d a e = refl
 
   vote_stays : (x : Entry) (d : History) (g v p : ℕ) → is_some (vote_of self d g v p) ≡ true → is_some (vote_of self (x ∷ d) g v p) ≡ true
   unfolding vote_of
@@ -184,24 +184,24 @@ module _ {S : Type 0} (self : Identity S) where
         let below : plan.base.pos ≤ low_of self d = base_below self d (v, plan) held in
         record { above = above; near = omega (arith, near, short, below); allowed = allowed }
 
-    counted : self.built.order ≡ true → (d : History) → Arises self d → Values d → opened_by d g ≡ Some e → view_of self d ≡ v → plan_held self d ≡ Some (v, plan) → low_of self d < pos
+    counted : (d : History) → Arises self d → Values d → opened_by d g ≡ Some e → view_of self d ≡ v → plan_held self d ≡ Some (v, plan) → low_of self d < pos
         → is_some (vote_of self d g v pos) ≡ true
     unfolding opened_by
-    counted on [] arises a opened current held above = absurd cc
-    counted on (x ∷ d) arises a opened current held above = elim (cases_Bool (counts_opens x)) [
+    counted [] arises a opened current held above = absurd cc
+    counted (x ∷ d) arises a opened current held above = elim (cases_Bool (counts_opens x)) [
       | inl counts ↦
           let there : counts_at self (x ∷ d) v pos ≡ true = and_from _ _ (eq-eqb (view_of self (x ∷ d)) v current) (window_is self (x ∷ d) pos (within (x ∷ d) a held above)) in
           vote_now self x d g v pos (record { counter = e.counter; request = batch_digest b }) counts there (vote_is self (x ∷ d) g v pos e plan b opened held of_view digest at)
       | inr none ↦
-          let before : is_some (vote_of self d g v pos) ≡ true = counted on d arises.1 a.1 (sym (opened_same x d g none) ∙ opened)
-          (sym (view_same self on x d arises none) ∙ current) (sym (plan_same self x d none) ∙ held) (omega (arith, above, grown_low self d x)) in
+          let before : is_some (vote_of self d g v pos) ≡ true = counted d arises.1 a.1 (sym (opened_same x d g none) ∙ opened)
+          (sym (view_same self x d arises none) ∙ current) (sym (plan_same self x d none) ∙ held) (omega (arith, above, grown_low self d x)) in
           vote_stays self x d g v pos before
     ]
 
-  counts_opens_in : self.built.order ≡ true → (d : History) → Arises self d → Values d → CountsOpens self d
-  counts_opens_in on d arises a g pos e plan b lt opened view held digest inside at =
-      counted g pos (view_of self d) e plan b view digest inside.allowed at on d arises a opened refl held inside.above
+  counts_opens_in : (d : History) → Arises self d → Values d → CountsOpens self d
+  counts_opens_in d arises a g pos e plan b lt opened view held digest inside at =
+      counted g pos (view_of self d) e plan b view digest inside.allowed at d arises a opened refl held inside.above
 
 -- In each world, whoever is faulty and whatever is forged, where the order of each sender's messages is checked.
-pub counts_opens_of : {S : Type 0} (system : System S) → system.built.order ≡ true → (k h : ℕ) → CountsOpens (self_of system h) ((world system k).histories h)
-counts_opens_of system on k h = counts_opens_in (self_of system h) on ((world system k).histories h) (world_arises system k h) (values_in_worlds system k h)
+pub counts_opens_of : {S : Type 0} (system : System S) → (k h : ℕ) → CountsOpens (self_of system h) ((world system k).histories h)
+counts_opens_of system k h = counts_opens_in (self_of system h) ((world system k).histories h) (world_arises system k h) (values_in_worlds system k h)

@@ -26,7 +26,6 @@ use Rattle.mb_msg.specs.declared.event.Event.TheVariants as event
 use Rattle.mb_msg.specs.declared.event.Outcome.{Outcome}
 use Rattle.mb_msg.specs.declared.event.Outcome.TheVariants as outcome
 use Rattle.mb_model.specs.UsableLogs.{Fault}
-use Rattle.mb_model.specs.Built.{Built, everything}
 use Rattle.mb_model.specs.Histories.{Accepted, History, Identity, gate}
 use Rattle.mb_model.specs.Held.{wish_of}
 use Rattle.mb_model.specs.Execution.{missing}
@@ -91,10 +90,6 @@ passes_not : (t : Bool) → t ≡ true → not t ≡ false
 passes_not true e = refl
 passes_not false e = absurd cc
 
-none_broken : (gates permitted : Bool) → (gates ≡ true → permitted ≡ true) → (gates && not permitted) ≡ false
-none_broken true permitted f = passes_not permitted (f refl)
-none_broken false permitted f = refl
-
 both_false : (a b : Bool) → a ≡ false → b ≡ false → (a || b) ≡ false
 both_false false b x y = y
 both_false true b x y = absurd cc
@@ -123,7 +118,7 @@ module _ {S : Type 0} (self : Identity S) where
       let stale : is_stale self d u ≡ false = lt-leb u.counter (gate d u.host).counter (omega (arith, next)) in
       let ahead : is_ahead self d u ≡ false = le-ltb ((gate d u.host).counter + 1) u.counter (omega (arith, next)) in
       or_both _ _ (none_where _ _ (passes_not _ p.certified)) (or_both _ _ (none_where _ _ p.not_future) (or_both _ _ (ap (λ (x : Option ℕ). option_map outcome.Convicted x) p.not_convicted)
-      (or_both _ _ (none_where _ _ stale) (or_both _ _ (none_where _ _ ahead) (none_where _ _ (none_broken self.built.order (is_permitted self d m) p.permitted))))))
+      (or_both _ _ (none_where _ _ stale) (or_both _ _ (none_where _ _ ahead) (none_where _ _ (passes_not (is_permitted self d m) p.permitted))))))
 
   body_passed : (d : History) (pos : ℕ) (b : Body Batch) → PassesBody self d pos b → body_refusal self d pos b ≡ None
   body_passed d pos (Whole b) p = none_where _ _ p
@@ -314,19 +309,18 @@ module _ {S : Type 0} (self : Identity S) where
   finished_outcome false asks d a = refl
 
   -- The outcome of bytes is that of the message in them.
-  given_outcome : self.built ≡ everything → (d : History) (bytes : Bytes) (m : Message) → message_of self.shape bytes ≡ Ok m → (transition self d (event.Given bytes)).outcome ≡ (give self m (begin d)).outcome
+  given_outcome : (d : History) (bytes : Bytes) (m : Message) → message_of self.shape bytes ≡ Ok m → (transition self d (event.Given bytes)).outcome ≡ (give self m (begin d)).outcome
   unfolding transition
-  given_outcome all d bytes m is =
-      let kinds : self.built.kinds (kind_of m) ≡ true = ap (λ (b : Built). b.kinds (kind_of m)) all in
-      rw (is, kinds) (finished_outcome (rules_follow self (give self m (begin d)).outcome m) (asks_on self m) d (give self m (begin d)))
+  given_outcome d bytes m is =
+      rw is (finished_outcome (rules_follow self (give self m (begin d)).outcome m) (asks_on self m) d (give self m (begin d)))
 
   -- A message is taken exactly where it passes.
-  pub takes_what_passes : self.built ≡ everything → (d : History) → TakesWhatPasses self d
-  takes_what_passes all d bytes m is no_log =
-      let same = given_outcome all d bytes m is in
+  pub takes_what_passes : (d : History) → TakesWhatPasses self d
+  takes_what_passes d bytes m is no_log =
+      let same = given_outcome d bytes m is in
       let t = given_exactly d m no_log in
       (λ e. t.0 (sym same ∙ e), λ p. same ∙ t.1 p)
 
 -- In each world each host takes exactly what passes.
-pub hosts_take_what_passes : {S : Type 0} (system : System S) → system.built ≡ everything → (k h : ℕ) → TakesWhatPasses (self_of system h) ((world system k).histories h)
-hosts_take_what_passes system all k h = takes_what_passes (self_of system h) all ((world system k).histories h)
+pub hosts_take_what_passes : {S : Type 0} (system : System S) → (k h : ℕ) → TakesWhatPasses (self_of system h) ((world system k).histories h)
+hosts_take_what_passes system k h = takes_what_passes (self_of system h) ((world system k).histories h)

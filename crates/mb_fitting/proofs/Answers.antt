@@ -82,16 +82,15 @@ module _ {S : Type 0} (self : Identity S) (shape : IsShape self.shape) (there : 
   unfolding wish_of
   patience_wishes d = rw (eq-eqb self.host self.host refl) (omega arith)
 
-  module _ (on : self.built.order ≡ true) where
-    -- where patience was just lost
-    pub patience_sent : (d : History) → IsSound self (LostPatience ∷ d) → AreFit self (LostPatience ∷ d) → Fits self.shape (wish self (LostPatience ∷ d))
-    patience_sent d s f = wish_sent self shape there on (LostPatience ∷ d) s f (patience_wishes d)
+  -- where patience was just lost
+  pub patience_sent : (d : History) → IsSound self (LostPatience ∷ d) → AreFit self (LostPatience ∷ d) → Fits self.shape (wish self (LostPatience ∷ d))
+  patience_sent d s f = wish_sent self shape there (LostPatience ∷ d) s f (patience_wishes d)
 
-    -- where the wish isn't fulfilled
-    pub wish_again_sent : (d : History) → nat_lt (view_of self d) (wish_of self d self.host) ≡ true → IsSound self d → AreFit self d → Fits self.shape (wish self d)
-    wish_again_sent d more s f = let lt = ltb-true (view_of self d) (wish_of self d self.host) more in wish_sent self shape there on d s f (omega (arith, lt))
+  -- where the wish isn't fulfilled
+  pub wish_again_sent : (d : History) → nat_lt (view_of self d) (wish_of self d self.host) ≡ true → IsSound self d → AreFit self d → Fits self.shape (wish self d)
+  wish_again_sent d more s f = let lt = ltb-true (view_of self d) (wish_of self d self.host) more in wish_sent self shape there d s f (omega (arith, lt))
 
-    -- ---- a host that is behind
+  -- ---- a host that is behind
 
-    pub behind_sent : (d : History) → is_behind self d ≡ true → IsSound self d → AreFit self d → Fits self.shape (fetch self d)
-    behind_sent d behind s f = let lt = ltb-true (exec_of d) (low_of self d) behind in fetch_sent self shape there on d s f (omega (arith, lt))
+  pub behind_sent : (d : History) → is_behind self d ≡ true → IsSound self d → AreFit self d → Fits self.shape (fetch self d)
+  behind_sent d behind s f = let lt = ltb-true (exec_of d) (low_of self d) behind in fetch_sent self shape there d s f (omega (arith, lt))

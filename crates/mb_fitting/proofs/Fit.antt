@@ -19,7 +19,7 @@ use Rattle.mb_model.specs.HostStep.{transition}
 use Rattle.mb_model.specs.Making.{prepare, commit, view_change, new_view, enter, opening, join, checkpoint}
 use Rattle.mb_model.specs.OwnLog.{has_room}
 use Rattle.mb_model.specs.Sending.{Progress, signed}
-use Rattle.mb_model.proofs.EarlyHistories.{shape_fits}
+use Rattle.mb_model.proofs.ShapesFit.{shape_fits}
 use Rattle.mb_model.proofs.Options.{option_cases}
 use Rattle.mb_model.proofs.StepArises.{JustExecuted, Makes, IsWhole, Adds, Arises}
 use Rattle.mb_model.proofs.StepGivenArise.{give_arises}
@@ -98,20 +98,20 @@ module _ {S : Type 0} (self : Identity S) where
   pub begins_fit : AreFit self []
   begins_fit = record { read = tt; values = tt; room = tt }
 
-  module _ (on : self.built.order ≡ true) (there : self.host < host_count self.shape) where
+  module _ (there : self.host < host_count self.shape) where
     -- all that is known of a fit history
     pub fit_known : (d : History) → Arises self d → AreFit self d → AllKnown self d
-    fit_known d a f = all_known self on there d a (room_now self d f.room).counter f.read
+    fit_known d a f = all_known self there d a (room_now self d f.room).counter f.read
 
     values_of : (d : History) → Arises self d → AllKnown self d → KeepsRoom self d → Each (HasValues self) d
     values_of [] a k r = tt
     values_of (e ∷ d) a k r =
         let before : Each (HasValues self) d = values_of d a.1 k.1 r.1 in
-        (entry_fits self on e d a.0 k.0 k.1 before (room_now self d r.1), before)
+        (entry_fits self e d a.0 k.0 k.1 before (room_now self d r.1), before)
 
     -- What came of messages that were read, and left room, has the values of the grammar.
     pub fit : (d : History) → Arises self d → OfRead d → KeepsRoom self d → AreFit self d
-    fit d a read room = record { read = read; values = values_of d a (all_known self on there d a (room_now self d room).counter read) room; room = room }
+    fit d a read room = record { read = read; values = values_of d a (all_known self there d a (room_now self d room).counter read) room; room = room }
 
     -- one entry more
     pub stays_fit : (e : Entry) (d : History) → Adds self d e → ComesOfRead self e d → HasRoom self (e ∷ d) → IsSound self d → AreFit self d → AreFit self (e ∷ d)
@@ -140,7 +140,7 @@ module _ {S : Type 0} (self : Identity S) where
         (give_keeps self (KeepsRoom self) (more_room self) m x f.room)
 
     pub rule_fit : (r : Rule) (x : Progress) → next_rule self x.history ≡ Some r → IsSound self x.history → IsWhole x.history → AreFit self x.history → AreFit self (carry_out self r x).history
-    rule_fit r x some s w f = fit (carry_out self r x).history (rule_sound self on r x some s w).0.arises (rule_read r x some f.read) (rule_room r x (room_for self x.history r some) f.room)
+    rule_fit r x some s w f = fit (carry_out self r x).history (rule_sound self r x some s w).0.arises (rule_read r x some f.read) (rule_room r x (room_for self x.history r some) f.room)
 
     -- what a rule stamps, where it stamps before anything else
     abbrev pub stamped_by : Rule → History → Option StampedMessage
@@ -169,15 +169,15 @@ module _ {S : Type 0} (self : Identity S) where
     rule_stamps r x some s w f m e = first_stamp r x (rule_fit r x some s w f) m e
 
     pub rules_fit : (n : ℕ) (x : Progress) → IsSound self x.history → IsWhole x.history → AreFit self x.history → AreFit self (run_rules self n x).history
-    rules_fit n x s w f = fit (run_rules self n x).history (rules_sound self on n x s w).0.arises (settled (run_rules self n x) (run_rests self Read AnyBytes AnyMessage n x (rested x f.read))) (rules_room n x f.room)
+    rules_fit n x s w f = fit (run_rules self n x).history (rules_sound self n x s w).0.arises (settled (run_rules self n x) (run_rests self Read AnyBytes AnyMessage n x (rested x f.read))) (rules_room n x f.room)
 
     pub transition_fit : (d : History) (e : Event) → IsSound self d → IsWhole d → AreFit self d → AreFit self (transition self d e).left.history
-    transition_fit d e s w f = fit (transition self d e).left.history (transition_sound self on d e s w).0.arises (event_read d e f.read) (event_keeps self (KeepsRoom self) (room_kept self) d e f.room)
+    transition_fit d e s w f = fit (transition self d e).left.history (transition_sound self d e s w).0.arises (event_read d e f.read) (event_keeps self (KeepsRoom self) (room_kept self) d e f.room)
 
     -- ---- within a batch
 
-    pub served_fit : (p : ℕ) (b : Batch) (r : Request) (more : List Request) (d : History) → IsServing self on p b (r ∷ more) d → AreFit self d → AreFit self (Served p (placed_in self d r) ∷ d)
-    served_fit p b r more d s f = fit (Served p (placed_in self d r) ∷ d) (serving_goes_on self on p b r more d s).sound.arises (tt, f.read) (more_room self (Served p (placed_in self d r)) d refl f.room)
+    pub served_fit : (p : ℕ) (b : Batch) (r : Request) (more : List Request) (d : History) → IsServing self p b (r ∷ more) d → AreFit self d → AreFit self (Served p (placed_in self d r) ∷ d)
+    served_fit p b r more d s f = fit (Served p (placed_in self d r) ∷ d) (serving_goes_on self p b r more d s).sound.arises (tt, f.read) (more_room self (Served p (placed_in self d r)) d refl f.room)
 
-    pub executed_fit : (p : ℕ) (b : Batch) (d : History) → IsServing self on p b [] d → AreFit self d → AreFit self (Executed (slot_for self d p) ∷ d)
-    executed_fit p b d s f = fit (Executed (slot_for self d p) ∷ d) (serving_ends self on p b d s).arises (tt, f.read) (more_room self (Executed (slot_for self d p)) d refl f.room)
+    pub executed_fit : (p : ℕ) (b : Batch) (d : History) → IsServing self p b [] d → AreFit self d → AreFit self (Executed (slot_for self d p) ∷ d)
+    executed_fit p b d s f = fit (Executed (slot_for self d p) ∷ d) (serving_ends self p b d s).arises (tt, f.read) (more_room self (Executed (slot_for self d p)) d refl f.room)

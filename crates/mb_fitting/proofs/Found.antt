@@ -152,7 +152,7 @@ if_there : {A : Type 0} (P : A → Type 0) (o : Option A) → ((x : A) → o ≡
 if_there P None f = tt
 if_there P (Some x) f = f x refl
 
-module _ {S : Type 0} (self : Identity S) (on : self.built.order ≡ true) (there : self.host < host_count self.shape) where
+module _ {S : Type 0} (self : Identity S) (there : self.host < host_count self.shape) where
   known_place : (d : History) → Arises self d → AllKnown self d → Each (HasValues self) d → IsPlace (exec_of d)
   unfolding exec_of
   known_place [] a k f = omega arith
@@ -162,7 +162,7 @@ module _ {S : Type 0} (self : Identity S) (on : self.built.order ≡ true) (ther
 
   module _ (d : History) (s : IsSound self d) (f : AreFit self d) where
     known : AllKnown self d
-    known = fit_known self on there d s.arises f
+    known = fit_known self there d s.arises f
 
     pub stable_fits : FitsStable self.shape (stable_of self d)
     stable_fits = (stable_good self AnyClaim AnyText d known).fits
@@ -171,10 +171,10 @@ module _ {S : Type 0} (self : Identity S) (on : self.built.order ≡ true) (ther
     log_floor_fits = if_there (FitsFloorCert self.shape) (log_floor self d) (λ c e. (floor_good self AnyClaim AnyText d known c e).fits)
 
     pub evidence_fits : IfSome (evidence_of self d) (FitsEvidence self.shape)
-    evidence_fits = if_there (FitsEvidence self.shape) (evidence_of self d) (λ e is. (evidence_good self AnyClaim AnyText on d known e is).fits)
+    evidence_fits = if_there (FitsEvidence self.shape) (evidence_of self d) (λ e is. (evidence_good self AnyClaim AnyText d known e is).fits)
 
     pub evidence_for_fits : (v : ℕ) → IfSome (evidence_for self d v) (FitsEvidence self.shape)
-    evidence_for_fits v = if_there (FitsEvidence self.shape) (evidence_for self d v) (λ e is. (evidence_for_good self AnyClaim AnyText on d s.arises known v e is).fits)
+    evidence_for_fits v = if_there (FitsEvidence self.shape) (evidence_for self d v) (λ e is. (evidence_for_good self AnyClaim AnyText d s.arises known v e is).fits)
 
     -- what a VIEW_CHANGE shows
     pub shown_fits : FitsChangeBody self.shape (proof_of self d)
@@ -182,7 +182,7 @@ module _ {S : Type 0} (self : Identity S) (on : self.built.order ≡ true) (ther
 
     -- what a CHECKPOINT shows
     pub floors_under_fit : (pos : ℕ) → FitsFloors self.shape (floors_under self d pos)
-    floors_under_fit pos = floors_fit self AnyClaim AnyText on d s.arises known pos
+    floors_under_fit pos = floors_fit self AnyClaim AnyText d s.arises known pos
 
     -- ---- plans
 
@@ -204,7 +204,7 @@ module _ {S : Type 0} (self : Identity S) (on : self.built.order ≡ true) (ther
     exec_place = known_place d s.arises known f.values
 
     pub view_place : IsPlace (view_of self d)
-    view_place = view_low self AnyClaim AnyText on d s.arises known
+    view_place = view_low self AnyClaim AnyText d s.arises known
 
     pub counter_low : counter_of d < 2 ^ 64
     counter_low = (room_now self d f.room).counter

@@ -115,7 +115,7 @@ module _ (s : Shape) where
   ui_fits (stamped.Open m) f = f.ui
   ui_fits (stamped.Join m) f = f.ui
 
-module _ {S : Type 0} (self : Identity S) (on : self.built.order ≡ true) where
+module _ {S : Type 0} (self : Identity S) where
   -- It is the next one of its sender.
   abbrev IsNext : History → StampedMessage → Type 0
   IsNext d x = (ui_of x).counter ≡ (gate d (ui_of x).host).counter + 1
@@ -135,7 +135,7 @@ module _ {S : Type 0} (self : Identity S) (on : self.built.order ≡ true) where
   said_next d (Accepted m) a x e = passed_next d m a.0 x e
   said_next d (Stamped m) a x e =
       let counter = own_stamp_counter self d m a.0 in
-      let stands = own_counter self d (steady self on d a.1).list.own in
+      let stands = own_counter self d (steady self d a.1).list.own in
       let same : (gate d (ui_of m).host).counter ≡ (gate d self.host).counter = ap (λ (h : ℕ). (gate d h).counter) (own_sender self d m a.0) in
       let next : (ui_of m).counter ≡ (gate d (ui_of m).host).counter + 1 = omega (arith, counter, stands, same) in
       subst (IsNext d) (some_is m x e) next

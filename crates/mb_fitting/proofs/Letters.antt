@@ -159,9 +159,9 @@ module _ {S : Type 0} (self : Identity S) (shape : IsShape self.shape) (there : 
   state_sent pos first parts p le many a =
       state_parts self.shape shape _ (state_message_fits self there pos first parts p le many (all_more (λ (p : Bytes). length p ≤ part_limit) FitsStatePart (λ x le. omega (arith, le)) parts a)) (first_parts_short (drop first parts) (dropped first parts a))
 
-  module _ (on : self.built.order ≡ true) (d : History) (s : IsSound self d) (f : AreFit self d) where
+  module _ (d : History) (s : IsSound self d) (f : AreFit self d) where
     short : Each StampsShort d
-    short = stamps_short self shape d s.arises (fit_known self on there d s.arises f) f.values f.room
+    short = stamps_short self shape d s.arises (fit_known self there d s.arises f) f.values f.room
 
     sent_each : (e : History) → Each (HasValues self) e → Each StampsShort e → AllByRecursion (λ (m : StampedMessage). Fits self.shape (as_message m)) (all_stamped e)
     unfolding all_stamped
@@ -194,13 +194,13 @@ module _ {S : Type 0} (self : Identity S) (shape : IsShape self.shape) (there : 
         first_short (reverse l) (all_reverse IsLettered l (all_taken IsLettered (count_from self d from) (log_kept self d) kept_short))
 
     pub log_sent : (m : Resend) → Fits self.shape (log_for self d m)
-    log_sent m = log_message self.shape shape _ (log_for_fits self there on d s f m) (since_short (expected self m))
+    log_sent m = log_message self.shape shape _ (log_for_fits self there d s f m) (since_short (expected self m))
 
     pub wish_sent : 1 ≤ wish_of self d self.host → Fits self.shape (wish self d)
-    wish_sent some = wish_message self.shape shape _ (wish_fits self there on d s f some)
+    wish_sent some = wish_message self.shape shape _ (wish_fits self there d s f some)
 
     pub resend_sent : Fits self.shape (resend self d)
-    resend_sent = resend_message self.shape shape _ (resend_fits self there on d s f)
+    resend_sent = resend_message self.shape shape _ (resend_fits self there d s f)
 
     pub fetch_sent : 1 ≤ low_of self d → Fits self.shape (fetch self d)
-    fetch_sent some = fetch_message self.shape shape _ (fetch_fits self there on d s f some)
+    fetch_sent some = fetch_message self.shape shape _ (fetch_fits self there d s f some)

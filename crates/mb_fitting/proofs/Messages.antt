@@ -160,9 +160,9 @@ module _ {S : Type 0} (self : Identity S) (there : self.host < host_count self.s
 
   -- ---- in a history that is sound and fit
 
-  module _ (on : self.built.order ≡ true) (d : History) (s : IsSound self d) (f : AreFit self d) where
+  module _ (d : History) (s : IsSound self d) (f : AreFit self d) where
     pub wish_fits : 1 ≤ wish_of self d self.host → FitsFields self.shape (wish self d)
-    wish_fits some = wish_for_fits (wish_of self d self.host) (some, wish_low self AnyClaim AnyText on d s.arises (fit_known self on there d s.arises f) self.host)
+    wish_fits some = wish_for_fits (wish_of self d self.host) (some, wish_low self AnyClaim AnyText d s.arises (fit_known self there d s.arises f) self.host)
 
     nexts_fit : (l : List ℕ) → AllByRecursion IsCounter (map (next_of d) l)
     nexts_fit [] = tt
@@ -171,7 +171,7 @@ module _ {S : Type 0} (self : Identity S) (there : self.host < host_count self.s
     pub resend_fits : FitsFields self.shape (resend self d)
     resend_fits = record {
       host = there;
-      low = (low_place self on there d s f).0;
+      low = (low_place self there d s f).0;
       count = length-map (range_with_len 0 (host_count self.shape)) (next_of d) ∙ length-range_with_len 0 (host_count self.shape);
       nexts = nexts_fit (range_with_len 0 (host_count self.shape));
     }
@@ -179,9 +179,9 @@ module _ {S : Type 0} (self : Identity S) (there : self.host < host_count self.s
     pub log_for_fits : (m : Resend) → FitsFields self.shape (log_for self d m)
     log_for_fits m = let since = since_fits self d f.values (expected self m) in record {
       host = there;
-      floor = fits_where (FitsFloorCert self.shape) (nat_le (expected self m) (log_start self d)) (log_floor self d) (log_floor_fits self on there d s f);
-      stable = stable_fits self on there d s f;
-      evidence = evidence_there (FitsEvidence self.shape) (view_of self d) (evidence_of self d) (evidence_fits self on there d s f);
+      floor = fits_where (FitsFloorCert self.shape) (nat_le (expected self m) (log_start self d)) (log_floor self d) (log_floor_fits self there d s f);
+      stable = stable_fits self there d s f;
+      evidence = evidence_there (FitsEvidence self.shape) (view_of self d) (evidence_of self d) (evidence_fits self there d s f);
       count = since.0;
       entries = since.1;
     }
@@ -191,6 +191,6 @@ module _ {S : Type 0} (self : Identity S) (there : self.host < host_count self.s
     fetch_fits some = let first = found_below (λ i. is_none (part_held self d i)) 0 part_count in record {
       host = there;
       asked = asked_there d;
-      pos = (some, low_place self on there d s f);
+      pos = (some, low_place self there d s f);
       first = omega (arith, first);
     }

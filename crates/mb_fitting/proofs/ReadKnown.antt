@@ -58,11 +58,11 @@ module _ {S : Type 0} (self : Identity S) where
   abbrev pub AllKnown : History → Type 0
   AllKnown d = Each (Known self AnyClaim AnyText) d
 
-  module _ (on : self.built.order ≡ true) (there : self.host < host_count self.shape) where
+  module _ (there : self.host < host_count self.shape) where
     accepted_known : (m : Message) (d : History) → ComesOfRead self (Accepted m) d → KnownMessage self AnyClaim AnyText m
     accepted_known m d r = record { fits = part_fits self r.0.0 m r.0.2 r.0.1; claims = λ c i. tt; texts = λ b i. tt }
 
-    any_text : (m : StampedMessage) → HasText self AnyClaim AnyText on m
+    any_text : (m : StampedMessage) → HasText self AnyClaim AnyText m
     any_text (stamped.Checkpoint m) = λ b is. tt
     any_text m = tt
 
@@ -72,7 +72,7 @@ module _ {S : Type 0} (self : Identity S) where
     all_known (Accepted m ∷ d) a low r = (accepted_known m d r.0, all_known d a.1 low r.1)
     all_known (Stamped m ∷ d) a low r =
         let before : AllKnown d = all_known d a.1 (omega (arith, low)) r.1 in
-        (stamp_known self AnyClaim AnyText on d m a before there (omega (arith, low)) (any_text m) (λ fits. tt), before)
+        (stamp_known self AnyClaim AnyText d m a before there (omega (arith, low)) (any_text m) (λ fits. tt), before)
     all_known (Jumped g f ∷ d) a low r =
         let l : FitsLog self.shape r.0.0 = r.0.2 in
         let cert : FitsFloorCert self.shape r.0.1 = subst (λ (o : Option FloorCert). IfSome o (FitsFloorCert self.shape)) r.0.4 l.floor in
@@ -82,7 +82,7 @@ module _ {S : Type 0} (self : Identity S) where
     all_known (Executed slot ∷ d) a low r =
         let x : IsExecution self d slot = execution self d slot a.0 in
         let t = if_some (in_window self d slot.pos) (slot_in self d (view_of self d) slot.pos) x.known x.there in
-        (windowed self AnyClaim AnyText on d slot.pos t.0, all_known d a.1 low r.1)
+        (windowed self AnyClaim AnyText d slot.pos t.0, all_known d a.1 low r.1)
     all_known (Installed pos parts ∷ d) a low r = (tt, all_known d a.1 low r.1)
     all_known (DroppedParts ∷ d) a low r = (tt, all_known d a.1 low r.1)
     all_known (LostPatience ∷ d) a low r = (r.0, all_known d a.1 low r.1)

@@ -48,7 +48,7 @@ use Rattle.mb_fitting.proofs.Batches.{slot_fits, next_batch_fits}
 use Rattle.mb_fitting.proofs.Changes.{FitsPlan, chosen_fit, held_plan_fits}
 use Rattle.mb_fitting.proofs.Logs.{proof_fits}
 
-module _ {S : Type 0} (self : Identity S) (on : self.built.order ≡ true) where
+module _ {S : Type 0} (self : Identity S) where
   abbrev Values : History → Type 0
   Values d = Each (HasValues self) d
 
@@ -139,7 +139,7 @@ module _ {S : Type 0} (self : Identity S) (on : self.built.order ≡ true) where
   pub execution_fits : (d : History) → Values d → (pos : ℕ) (b : Batch) → MayExecute self d pos b → FitsExecution pos b
   execution_fits d a pos b x =
       let t = if_some (in_window self d pos) (slot_in self d (view_of self d) pos) x.known x.there in
-      record { place = windowed self AnyClaim AnyText on d pos t.0; batch = slot_fits self d a (view_of self d) pos x.known t.1 b x.shown }
+      record { place = windowed self AnyClaim AnyText d pos t.0; batch = slot_fits self d a (view_of self d) pos x.known t.1 b x.shown }
 
   served_fits : (d : History) → Values d → (pos : ℕ) (placed : Placed) → Serves self d pos placed → IsPosition pos × FitsRequest self.shape placed.request
   served_fits d a pos placed s =

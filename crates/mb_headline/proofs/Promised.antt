@@ -18,7 +18,7 @@ use Rattle.mb_due.proofs.Completing.{hosts_execute_with_commit, hosts_execute_wi
 
 -- Nothing that is due is left undone, whoever is faulty and whatever is forged.
 pub nothing_left : (S : Type 0) → HostsLeaveNothing S
-nothing_left S system built k h =
+nothing_left S system k h =
     let c : HasCarriedOut (self_of system h) ((world system k).histories h) = hosts_carry_out S system k h in
     record {
       orders = c.orders;
@@ -34,25 +34,25 @@ nothing_left S system built k h =
       joins_behind = c.joins_behind;
       joins_past = c.joins_past;
       installs = c.installs;
-      takes = hosts_take_what_passes system built k h;
+      takes = hosts_take_what_passes system k h;
       keeps_slots = c.keeps_slots;
       counts_prepares = c.counts_prepares;
       counts_commits = c.counts_commits;
-      counts_opens = counts_opens_of system (ap (λ b. b.order) built) k h;
-      executes_with_commit = hosts_execute_with_commit system built k h;
-      executes_with_prepare = hosts_execute_with_prepare system built k h;
+      counts_opens = counts_opens_of system k h;
+      executes_with_commit = hosts_execute_with_commit system k h;
+      executes_with_prepare = hosts_execute_with_prepare system k h;
     }
 
 pub all_stay_one : (S : Type 0) → HostsStayOne S
-all_stay_one S system built service fits k le none apart =
-    let line : HasOneList system (world system k) = worlds_have_one_list S system built service fits k le none apart in
-    let held : HoldsOfTheCorrect system (world system k) = worlds_are_justified S system built fits k le none apart in
+all_stay_one S system service fits k le none apart =
+    let line : HasOneList system (world system k) = worlds_have_one_list S system service fits k le none apart in
+    let held : HoldsOfTheCorrect system (world system k) = worlds_are_justified S system fits k le none apart in
     record {
-      agrees = worlds_agree S system built fits k le none apart;
+      agrees = worlds_agree S system fits k le none apart;
       safe = line.safe;
       results = line.results;
       justified = held.justified;
-      done = λ h correct. nothing_left S system built k h;
+      done = λ h correct. nothing_left S system k h;
       bounded = held.bounded;
       blameless = held.blameless;
     }

@@ -16,9 +16,9 @@ use Rattle.mb_justified.proofs.JustifiedIn.{justified_in}
 use Rattle.mb_justified.proofs.Blameless.{bounded_in, blameless_in}
 
 pub worlds_are_justified : (S : Type 0) → WorldsAreJustified S
-worlds_are_justified S system built fits k le none apart =
+worlds_are_justified S system fits k le none apart =
     let w : World = world system k in
-    let facts : (k : ℕ) → IsUnstopped system k → HashesApart (world system k).hashed → Facts system (world system k) = facts_in system built fits in
+    let facts : (k : ℕ) → IsUnstopped system k → HashesApart (world system k).hashed → Facts system (world system k) = facts_in system fits in
     let f : Facts system w = facts k none apart in
     let jumps : (h : ℕ) → IsCorrect system.schedule h → Each (JumpsLed system w f) (w.histories h) = jumps_led system facts k none apart in
     record {

@@ -91,7 +91,7 @@ module _ {S : Type 0} (system : System S) (w : World) (f : Facts system w) (jump
   opened_then : (d : History) → IsPast d (w.histories h) → is_open self d ≡ true → is_opened initial_floor (said d) (view_of self d) ≡ true
   opened_then d past e =
       let a = arises_by self past.later d (subst (λ (y : History). Arises self y) (sym past.is) (f.arises h)) in
-      let stands : here self d ≡ floor_after initial_floor (said d) = stands_here self d (steady self f.order d a).list.own in
+      let stands : here self d ≡ floor_after initial_floor (said d) = stands_here self d (steady self d a).list.own in
       let open_there : phase_is_open (floor_after initial_floor (said d)).phase ≡ true = subst (λ (o : Floor). phase_is_open o.phase ≡ true) stands e in
       subst (λ (o : Floor). is_opened initial_floor (said d) o.view ≡ true) (sym stands) (sym (open_from _ _) ∙ open_there)
 

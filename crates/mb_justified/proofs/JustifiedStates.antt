@@ -87,7 +87,7 @@ module _ {S : Type 0} (system : System S) (w : World) (f : Facts system w) (h : 
       let c : IsCertified system w f h d pos parts = certified system w f h pos parts d at.1 in
       let s : StableCert = stable_of self d in
       let place : pos ≡ s.pos = c.place in
-      let m : HasMembers s = has_members s (stable_checks self f.order d a) (omega (arith, place, c.above)) in
+      let m : HasMembers s = has_members s (stable_checks self d a) (omega (arith, place, c.above)) in
       let says : (n : StableMember) → bare.Checkpoint s.pos s.state n.floors ≡ bare.Checkpoint pos (state_digest parts pos) n.floors = λ n. says_is s.pos pos s.state (state_digest parts pos) n.floors (sym place) (sym c.state) in
       let member : (n : StableMember) → In s.members n → (n.host < host_count system.schedule.shape) × ((counter : ℕ) × (floors : Bytes) × IsKnown system.schedule w h n.host counter (bare.Checkpoint pos (state_digest parts pos) floors)) =
       λ n i.

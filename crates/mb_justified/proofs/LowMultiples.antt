@@ -140,7 +140,7 @@ module _ {S : Type 0} (system : System S) (w : World) (f : Facts system w) (h : 
   accepted_placed : (d : History) (m : Checkpoint) → Adds self d (Accepted (message.Checkpoint m)) → IsPlaced d m
   unfolding permits
   accepted_placed d m a =
-      let allowed = a.gate.permitted f.order in
+      let allowed = a.gate.permitted in
       let parts = and_parts (m.pos % k == 0) (nat_lt (last_checkpoint (origin d m.ui.host) (taken_of d m.ui.host)) m.pos) allowed in
       record { multiple = eqb-true (m.pos % k) 0 parts.0; within = ltb-false (low_of self d + span system.schedule.shape) m.pos a.kind }
 

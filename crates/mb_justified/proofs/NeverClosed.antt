@@ -75,7 +75,7 @@ module _ {S : Type 0} (system : System S) (w : World) (f : Facts system w) (jump
   ] where
     own : IsFollowing system w f g (origin d g) (taken_of d g)
     own =
-        let o = (steady (self_of system g) f.order d (arises_then system w f g correct (jumps g correct) d p)).list.own in
+        let o = (steady (self_of system g) d (arises_then system w f g correct (jumps g correct) d p)).list.own in
         let b = past_said p.later d in
         record {
           hidden = [];
@@ -95,7 +95,7 @@ module _ {S : Type 0} (system : System S) (w : World) (f : Facts system w) (jump
       let ordered : is_ordered initial_floor system.schedule.shape h inner (m ∷ whole) ≡ true =
       ordered_before initial_floor system.schedule.shape h inner s.later (m ∷ whole)
       (subst (λ (y : List Bare). is_ordered initial_floor system.schedule.shape h inner (s.later ++ y) ≡ true) same
-      (subst (λ (y : List Bare). is_ordered initial_floor system.schedule.shape h inner y ≡ true) (sym s.is) (steady (self_of system h) f.order (w.histories h) (f.arises h)).list.ordered)) in
+      (subst (λ (y : List Bare). is_ordered initial_floor system.schedule.shape h inner y ≡ true) (sym s.is) (steady (self_of system h) (w.histories h) (f.arises h)).list.ordered)) in
       let rest = tail initial_floor system.schedule.shape h inner m whole ordered in
       let c : GoesOn initial_floor system.schedule.shape h inner x.hidden l = parts initial_floor system.schedule.shape h inner x.hidden l rest in
       subst (λ (y : Floor). permits y system.schedule.shape h inner l m ≡ true) x.leads

@@ -95,7 +95,7 @@ module _ {S : Type 0} (system : System S) (w : World) (f : Facts system w) (jump
   -- The log goes on from its floor, and leads to where the host stands.
   log_goes_on : (d : History) → IsPast d (w.histories h) → (p : Part d) → (is_ordered p.floor system.schedule.shape h inner (map bare_of (own_log self d)) ≡ true) × (current_view p.floor (map bare_of (own_log self d)) ≡ view_of self d)
   log_goes_on d past p =
-      let list = (steady self f.order d (arises_back system w f h correct d past)).list in
+      let list = (steady self d (arises_back system w f h correct d past)).list in
       let both : map bare_of (own_log self d) ++ map bare_of p.hidden ≡ said d = sym (map_append bare_of (own_log self d) p.hidden) ∙ ap (map bare_of) p.parts in
       let ordered : is_ordered initial_floor system.schedule.shape h inner (map bare_of (own_log self d) ++ map bare_of p.hidden) ≡ true = subst (λ (l : List Bare). is_ordered initial_floor system.schedule.shape h inner l ≡ true) (sym both) list.ordered in
       let g : GoesOn initial_floor system.schedule.shape h inner (map bare_of p.hidden) (map bare_of (own_log self d)) = parts initial_floor system.schedule.shape h inner (map bare_of p.hidden) (map bare_of (own_log self d)) ordered in (
@@ -117,7 +117,7 @@ module _ {S : Type 0} (system : System S) (w : World) (f : Facts system w) (jump
   -- ---- what is asked before and behind them
 
   well_founded : (d : History) → IsPast d (w.histories h) → is_ill_founded system.schedule.shape system.schedule.secret (valid self) (proof_of self d) ≡ false
-  well_founded d past = rw (stable_checks self f.order d (arises_back system w f h correct d past)) (not_above (low_of self d) (floor_position (log_floor self d)) (position (log_floor self d) refl)) where
+  well_founded d past = rw (stable_checks self d (arises_back system w f h correct d past)) (not_above (low_of self d) (floor_position (log_floor self d)) (position (log_floor self d) refl)) where
     position : (o : Option FloorCert) → log_floor self d ≡ o → floor_position o ≤ low_of self d
     position None is = omega arith
     position (Some c) is = (low_floor system w f h correct d c past is).low

@@ -110,9 +110,9 @@ module _ {S : Type 0} (self : Identity S) where
   passed_tagged d pos (Short x) p r e = absurd cc
 
   -- An accepted PREPARE is of another host, so the host stays in its view.
-  view_stays : self.built.order ≡ true → (d : History) (m : PrepareMessage) → Arises self (Accepted (message.Prepare m) ∷ d) → view_of self (Accepted (message.Prepare m) ∷ d) ≡ view_of self d
+  view_stays : (d : History) (m : PrepareMessage) → Arises self (Accepted (message.Prepare m) ∷ d) → view_of self (Accepted (message.Prepare m) ∷ d) ≡ view_of self d
   unfolding origin taken_of
-  view_stays on d m a = rw (own_passed self d (stamped.Prepare m) (steady self on d a.1).list.own a.0.gate) refl
+  view_stays d m a = rw (own_passed self d (stamped.Prepare m) (steady self d a.1).list.own a.0.gate) refl
 
 module _ {S : Type 0} (system : System S) (w : World) (f : Facts system w) (h : ℕ) (correct : IsCorrect system.schedule h) where
   abbrev self : Identity S
@@ -130,7 +130,7 @@ module _ {S : Type 0} (system : System S) (w : World) (f : Facts system w) (h : 
 
   new_slot : (x : Entry) (d : History) (v p : ℕ) (k : KnownSlot) → IsPast d (w.histories h) → Arises self (x ∷ d) → view_of self (x ∷ d) ≡ v → slot_by x v p ≡ Some k → IsSoundSlot self k
   new_slot (Accepted (message.Prepare m)) d v p k past a now e = prepare_slot self m v p k
-      (λ same. passed_tagged self d m.pos m.body (a.0.kind.shown (eq-eqb (view_of self d) m.view (sym (view_stays self f.order d m a) ∙ now ∙ sym same)))) e
+      (λ same. passed_tagged self d m.pos m.body (a.0.kind.shown (eq-eqb (view_of self d) m.view (sym (view_stays self d m a) ∙ now ∙ sym same)))) e
   new_slot (Stamped (stamped.Prepare m)) d v p k past a now e =
       let s : SeenPrepare self d m = seen_prepare self d m a.0 in
       prepare_slot self m v p k (λ same r is. subst (AreTagged self) (whole_is s.batch r (sym s.body ∙ is)) (first_tagged self d a.1 s.batch s.first)) e where

@@ -1,6 +1,5 @@
 -- What correct hosts did is justified and within its limits, and they are never blamed, in each world of a schedule.
 use Rattle.std.specs.Prelude.{◌≡◌, ℕ, ◌≤◌, length}
-use Rattle.mb_model.specs.Built.{everything}
 use Rattle.mb_theory.specs.Hashed.{HashesApart}
 use Rattle.mb_sched.specs.Limits.{IsSchedule}
 use Rattle.mb_theory.specs.World.{World, System}
@@ -15,8 +14,8 @@ pub record HoldsOfTheCorrect {S : Type 0} (system : System S) (w : World) : Type
   pub bounded : AreBounded system w
   pub blameless : IsBlameless system w
 
--- For every service and every schedule with at most f faulty hosts, where the whole protocol is built: after each event, while nothing was
+-- For every service and every schedule with at most f faulty hosts: after each event, while nothing was
 -- forged or refused by the world and no two of the strings hashed so far share a digest.
 abbrev pub WorldsAreJustified : Type 0 → Type 0
-WorldsAreJustified S = (system : System S) → system.built ≡ everything → IsSchedule system.schedule
+WorldsAreJustified S = (system : System S) → IsSchedule system.schedule
     → (k : ℕ) → k ≤ length system.schedule.events → IsUnstopped system k → HashesApart (world system k).hashed → HoldsOfTheCorrect system (world system k)

@@ -75,7 +75,7 @@ module _ (s : Shape) where
   unfolding certified_floor
   given_fits valid owner c x f e = first_fits owner c.members x.members.1.1 f (if_some (agree_on_floor s valid owner c) (first_floor owner c.members) f e).1
 
-module _ {S : Type 0} (system : System S) (w : World) (shape : IsShape system.schedule.shape) (order : system.built.order ≡ true) (s : Standing system w)
+module _ {S : Type 0} (system : System S) (w : World) (shape : IsShape system.schedule.shape) (s : Standing system w)
     (numbered : (h : ℕ) → AreNumbered (self_of system h) (all_stamped (w.histories h))) (read : (h : ℕ) (m : Message) → IsGivenTo system.schedule w h m → FitsFields system.schedule.shape m)
     (low : (h : ℕ) → counter_of (w.histories h) < 2 ^ 64) where
   -- ---- what a correct host stamped was issued, where it fits
@@ -124,7 +124,7 @@ module _ {S : Type 0} (system : System S) (w : World) (shape : IsShape system.sc
   unfolding bodies_in
   body_there m b is = rw is (inl refl)
 
-  stamped_text : (h : ℕ) (m : StampedMessage) → HasStrings system.schedule w (as_message m) → HasText (self_of system h) IsGood IsText order m
+  stamped_text : (h : ℕ) (m : StampedMessage) → HasStrings system.schedule w (as_message m) → HasText (self_of system h) IsGood IsText m
   stamped_text h (stamped.Checkpoint m) a = λ b is. string_hashed h (message.Checkpoint m) a (floors_body_bytes b) (body_there m b is)
   stamped_text h m a = tt
 
@@ -133,7 +133,7 @@ module _ {S : Type 0} (system : System S) (w : World) (shape : IsShape system.sc
   all_known h correct (Accepted m ∷ d) p a r = (accepted_known h m d r.0, all_known h correct d (past_tail (Accepted m) d (w.histories h) p) a.1 r.1)
   all_known h correct (Stamped m ∷ d) p a r =
       let before : KnownIn h d = all_known h correct d (past_tail (Stamped m) d (w.histories h) p) a.1 r.1 in
-      (stamp_known (self_of system h) IsGood IsText order d m a before correct.0 (stamp_low m d (w.histories h) p (low h)) (stamped_text h m r.0.0) (λ fits v. issued_own h m d correct p fits), before)
+      (stamp_known (self_of system h) IsGood IsText d m a before correct.0 (stamp_low m d (w.histories h) p (low h)) (stamped_text h m r.0.0) (λ fits v. issued_own h m d correct p fits), before)
   all_known h correct (Jumped g f ∷ d) p a r =
       let l : FitsLog system.schedule.shape r.0.0 = read h (message.Log r.0.0) r.0.2 in
       let cert : FitsFloorCert system.schedule.shape r.0.1 = subst (λ (o : Option FloorCert). IfSome o (FitsFloorCert system.schedule.shape)) r.0.4 l.floor in
@@ -143,7 +143,7 @@ module _ {S : Type 0} (system : System S) (w : World) (shape : IsShape system.sc
   all_known h correct (Executed slot ∷ d) p a r =
       let x : IsExecution (self_of system h) d slot = execution (self_of system h) d slot a.0 in
       let t = if_some (in_window (self_of system h) d slot.pos) (slot_in (self_of system h) d (view_of (self_of system h) d) slot.pos) x.known x.there in
-      (windowed (self_of system h) IsGood IsText order d slot.pos t.0, all_known h correct d (past_tail (Executed slot) d (w.histories h) p) a.1 r.1)
+      (windowed (self_of system h) IsGood IsText d slot.pos t.0, all_known h correct d (past_tail (Executed slot) d (w.histories h) p) a.1 r.1)
   all_known h correct (Installed pos parts ∷ d) p a r = (tt, all_known h correct d (past_tail (Installed pos parts) d (w.histories h) p) a.1 r.1)
   all_known h correct (DroppedParts ∷ d) p a r = (tt, all_known h correct d (past_tail DroppedParts d (w.histories h) p) a.1 r.1)
   all_known h correct (LostPatience ∷ d) p a r = (r.0, all_known h correct d (past_tail LostPatience d (w.histories h) p) a.1 r.1)

@@ -44,7 +44,6 @@ pub record IsKnownBody (s : Schedule) (w : World) (host : ℕ) (b : ChangeBody) 
 module _ {S : Type 0} (system : System S) (w : World) where
   pub record Facts : Type 0 where
     pub shape : IsShape system.schedule.shape
-    pub order : system.built.order ≡ true
     pub few : tally (is_faulty system.schedule) (host_count system.schedule.shape) ≤ max_faults system.schedule.shape
     pub apart : HashesApart w.hashed
     pub standing : Standing system w

@@ -6,11 +6,10 @@ use Rattle.mb_msg.specs.declared.message.Message.{Message}
 use Rattle.mb_msg.specs.declared.event.Event.{Event}
 use Rattle.mb_msg.specs.Reading.{message_of}
 use Rattle.mb_msg.specs.Fits.{FitsFields}
-use Rattle.mb_model.specs.Built.{everything}
 use Rattle.mb_model.specs.Histories.{History, stamped}
 use Rattle.mb_model.specs.OwnLists.{AreNumbered}
 use Rattle.mb_model.specs.HostStep.{transition, after as after_events}
-use Rattle.mb_model.proofs.EarlyHistories.{shape_fits}
+use Rattle.mb_model.proofs.ShapesFit.{shape_fits}
 use Rattle.mb_model.proofs.StepArises.{Arises}
 use Rattle.mb_model.proofs.StepEventsArise.{after_arises}
 use Rattle.mb_model.proofs.OwnListsOrdered.{own_lists}
@@ -59,19 +58,14 @@ module _ {S : Type 0} (system : System S) where
   read_in : (w : World) (h : ℕ) (m : Message) → IsGivenTo system.schedule w h m → FitsFields system.schedule.shape m
   read_in w h m x = read_fits system.schedule.shape (shape_fits system.schedule.shape) x.bytes m (read_is (message_of system.schedule.shape x.bytes) m x.reads)
 
-  built_order : system.built ≡ everything → system.built.order ≡ true
-  built_order e = ap (λ b. b.order) e
-
   -- So the facts hold.
-  pub facts_in : system.built ≡ everything → IsSchedule system.schedule → (k : ℕ) → IsUnstopped system k → HashesApart (world system k).hashed → Facts system (world system k)
-  facts_in built fits k none apart =
+  pub facts_in : IsSchedule system.schedule → (k : ℕ) → IsUnstopped system k → HashesApart (world system k).hashed → Facts system (world system k)
+  facts_in fits k none apart =
       let w : World = world system k in
       let s : Standing system w = standing system k none in
       let shape : IsShape system.schedule.shape = shape_fits system.schedule.shape in
-      let order = built_order built in
       record {
         shape = shape;
-        order = order;
         few = fits.few;
         apart = apart;
         standing = s;
@@ -79,8 +73,8 @@ module _ {S : Type 0} (system : System S) where
         nobody = nobody_there system fits k;
         numbered = numbered_in k;
         read = read_in w;
-        fits = own_fits system w shape order s (numbered_in k) (read_in w) (unspent_in system k) (arises_in k);
-        knows = own_knows system w shape order s (numbered_in k) (read_in w) (unspent_in system k) (arises_in k);
-        floors = own_floors system w shape order s (numbered_in k) (read_in w) (unspent_in system k) (arises_in k);
-        changes = own_changes system w shape order s (numbered_in k) (read_in w) (unspent_in system k) (arises_in k);
+        fits = own_fits system w shape s (numbered_in k) (read_in w) (unspent_in system k) (arises_in k);
+        knows = own_knows system w shape s (numbered_in k) (read_in w) (unspent_in system k) (arises_in k);
+        floors = own_floors system w shape s (numbered_in k) (read_in w) (unspent_in system k) (arises_in k);
+        changes = own_changes system w shape s (numbered_in k) (read_in w) (unspent_in system k) (arises_in k);
       }

@@ -53,7 +53,7 @@ pub digest_fits : {B : Type 0} (bytes : B → Bytes) (P : B → Type 0) (b : Bod
 digest_fits bytes P (Whole b) f = length-sha256 (bytes b)
 digest_fits bytes P (Short d) f = f
 
-module _ {S : Type 0} (self : Identity S) (Good : Claim → Type 0) (Text : Bytes → Type 0) (on : self.built.order ≡ true) where
+module _ {S : Type 0} (self : Identity S) (Good : Claim → Type 0) (Text : Bytes → Type 0) where
   abbrev AllKnown : History → Type 0
   AllKnown d = Each (Known self Good Text) d
 
@@ -171,7 +171,7 @@ module _ {S : Type 0} (self : Identity S) (Good : Claim → Type 0) (Text : Byte
   enters_rise : (d : History) → Arises self d → AllKnown d → (n : NewView) → RiseFrom host_of (Answers n) 0 (take (max_faults self.shape) (enters_for self d n))
   enters_rise d a k n = rise_take host_of (Answers n) (max_faults self.shape) 0 (enters_for self d n) (answering n 0 (enters_for self d n)
       (rise_passed host_of (λ m. GoodEnter m × (eqb m.ui.host (primary self.shape m.view) ≡ false)) (answers n) 0 (filter_map (enter_of d) (range_with_len 0 (host_count self.shape)))
-      (rise_found host_of (λ m. GoodEnter m × (eqb m.ui.host (primary self.shape m.view) ≡ false)) (enter_of d) (λ h m e. let c = enter_checks self on d a h m e in (c.sender, (enter_good d k h m e, c.backup))) 0 (host_count self.shape))))
+      (rise_found host_of (λ m. GoodEnter m × (eqb m.ui.host (primary self.shape m.view) ≡ false)) (enter_of d) (λ h m e. let c = enter_checks self d a h m e in (c.sender, (enter_good d k h m e, c.backup))) 0 (host_count self.shape))))
 
   rises : (n : NewView) (l : ℕ) (ms : List EnterMessage) → RiseFrom host_of (Answers n) l ms → Rises l (map (λ (x : EvidenceMember). x.host) (map as_member ms))
   rises n l [] r = tt
@@ -230,5 +230,5 @@ module _ {S : Type 0} (self : Identity S) (Good : Claim → Type 0) (Text : Byte
     | inr made ↦
         let t = then_some_of (λ (n : NewView). evidence_with self n (enters_for self d n)) (new_view_in_view v (new_view_of self d)) e made in
         let held : new_view_of self d ≡ Some t.0 = in_view v (new_view_of self d) t.0 t.1 in
-        evidence_made d a k t.0 (new_view_good d k t.0 held) (new_view_checks self on d a t.0 held).leads e t.2
+        evidence_made d a k t.0 (new_view_good d k t.0 held) (new_view_checks self d a t.0 held).leads e t.2
   ]

@@ -108,7 +108,7 @@ module _ {S : Type 0} (self : Identity S) where
     leads_low : (l : List Bare) → AllFit l → Placed (floor_after o l)
     leads_low l a = record { view = view_low l a; last = last_low l (current_view o l) a; top = top_low l a; point = point_low l a }
 
-  module _ (Good : Claim → Type 0) (Text : Bytes → Type 0) (on : self.built.order ≡ true) where
+  module _ (Good : Claim → Type 0) (Text : Bytes → Type 0) where
     abbrev AllKnown : History → Type 0
     AllKnown d = Each (Known self Good Text) d
 
@@ -153,7 +153,7 @@ module _ {S : Type 0} (self : Identity S) where
     stamped_enters : (d : History) (m : StampedMessage) → Arises self (Stamped m ∷ d) → KnownStamp self Good Text m → Enters d m
     stamped_enters d m a k =
         let u = own_ui d m a.0 in
-        let stands : (gate d self.host).counter ≡ 0 + length (said d) = ap (λ f. f.counter) (stands_here self d (steady self on d a.1).list.own) in
+        let stands : (gate d self.host).counter ≡ 0 + length (said d) = ap (λ f. f.counter) (stands_here self d (steady self d a.1).list.own) in
         let many : length (said d) ≡ counter_of d = length-map (all_stamped d) bare_of in
         let same : (gate d (ui_of m).host).counter ≡ (gate d self.host).counter = ap (λ (h : ℕ). (gate d h).counter) u.host in
         let next : (ui_of m).counter ≡ (gate d (ui_of m).host).counter + 1 = omega (arith, same, stands, many, u.counter) in

@@ -49,7 +49,7 @@ use Rattle.mb_known.proofs.OwnSlots.{GoodSlot, IsBehind, slot_good}
 use Rattle.mb_known.proofs.OwnLogs.{shown_good}
 use Rattle.mb_known.proofs.OwnPlanGood.{chosen_base, plan_short, plan_low}
 
-module _ {S : Type 0} (self : Identity S) (Good : Claim → Type 0) (Text : Bytes → Type 0) (on : self.built.order ≡ true) where
+module _ {S : Type 0} (self : Identity S) (Good : Claim → Type 0) (Text : Bytes → Type 0) where
   abbrev AllKnown : History → Type 0
   AllKnown d = Each (Known self Good Text) d
 
@@ -73,12 +73,12 @@ module _ {S : Type 0} (self : Identity S) (Good : Claim → Type 0) (Text : Byte
 
   -- the last position of the host's view
   last_is : (d : History) → Arises self d → (here self d).last ≡ last_position initial_floor (said d) (view_of self d)
-  last_is d a = ap (λ f. f.last) (stands_here self d (steady self on d a).list.own) ∙ ap (last_position initial_floor (said d)) (sym (view_is self Good Text on d a))
+  last_is d a = ap (λ f. f.last) (stands_here self d (steady self d a).list.own) ∙ ap (last_position initial_floor (said d)) (sym (view_is self Good Text d a))
 
   open_zero : (d : History) → Arises self d → view_of self d ≡ 0 → is_open self d ≡ true
   open_zero d a e =
-      let v : current_view initial_floor (said d) ≡ 0 = sym (view_is self Good Text on d a) ∙ e in
-      ap (λ f. phase_is_open f.phase) (stands_here self d (steady self on d a).list.own) ∙ from_true (is_opened initial_floor (said d) (current_view initial_floor (said d))) (entered_in initial_floor (said d) (current_view initial_floor (said d)))
+      let v : current_view initial_floor (said d) ≡ 0 = sym (view_is self Good Text d a) ∙ e in
+      ap (λ f. phase_is_open f.phase) (stands_here self d (steady self d a).list.own) ∙ from_true (is_opened initial_floor (said d) (current_view initial_floor (said d))) (entered_in initial_floor (said d) (current_view initial_floor (said d)))
       (subst (λ (u : ℕ). is_opened initial_floor (said d) u ≡ true) (sym v) (opened_zero (said d)))
 
   later : (d : History) → Arises self d → is_open self d ≡ false → 1 ≤ view_of self d
@@ -95,7 +95,7 @@ module _ {S : Type 0} (self : Identity S) (Good : Claim → Type 0) (Text : Byte
       let t = if_some (nat_lt (view_of self d) (target self d) && has_other_room self d) (Some (ChangeView (target self d))) (ChangeView view) e in
       let above : view_of self d < target self d = ltb-true (view_of self d) (target self d) (and_parts (nat_lt (view_of self d) (target self d)) (has_other_room self d) t.0).0 in
       let same : target self d ≡ view = cc (t.1) in
-      let low = target_low self Good Text on d a k in
+      let low = target_low self Good Text d a k in
       record {
         bare = ((omega (arith, above, same), subst (λ (v : ℕ). v < 2 ^ 63) same low), length-sha256 _);
         inner = tt;
@@ -113,7 +113,7 @@ module _ {S : Type 0} (self : Identity S) (Good : Claim → Type 0) (Text : Byte
       let shut : is_open self d ≡ false = not-true (is_open self d) (and_parts (not (is_open self d)) (not (is_entered self d)) b.0).0 in
       let base : GoodStable self Good Text (plan_from self changes).base = chosen_base self Good Text d k (view_of self d) changes seen.1 in
       record {
-        bare = ((later d a shut, view_low self Good Text on d a k), (base.fits.pos, ((omega arith, (plan_short self Good Text changes, plan_low self Good Text d k (view_of self d) changes seen.1)), (length-sha256 _, length-sha256 _))));
+        bare = ((later d a shut, view_low self Good Text d a k), (base.fits.pos, ((omega arith, (plan_short self Good Text changes, plan_low self Good Text d k (view_of self d) changes seen.1)), (length-sha256 _, length-sha256 _))));
         inner = tt;
         body = λ b is. subst (λ (l : NewViewBody). GoodStable self Good Text (plan_from self l.changes).base) (same_whole (record { changes = changes }) b is) base;
       }
@@ -127,7 +127,7 @@ module _ {S : Type 0} (self : Identity S) (Good : Claim → Type 0) (Text : Byte
       let m = map_some Enter (new_view_in_view (view_of self d) (new_view_of self d)) (Enter n) t.1 in
       let same : m.0 ≡ n = cc (m.2) in
       let held : new_view_of self d ≡ Some n = in_view (view_of self d) (new_view_of self d) m.0 m.1 ∙ ap (λ (y : NewView). Some y) same in
-      let g = new_view_good self Good Text on d k n held in
+      let g = new_view_good self Good Text d k n held in
       record { bare = (g.view, (g.ui.counter, g.plan)); inner = tt; body = tt }
 
   -- ---- OPEN
@@ -142,7 +142,7 @@ module _ {S : Type 0} (self : Identity S) (Good : Claim → Type 0) (Text : Byte
       let seen = open_seen self d e plan o in
       let t = if_some (may_open self d && has_other_room self d) (open_with (evidence_for self d (view_of self d)) (plan_at self d (view_of self d))) (Open e plan) o in
       let at : plan_at self d (view_of self d) ≡ Some plan = opened_plan (evidence_for self d (view_of self d)) (plan_at self d (view_of self d)) e plan t.1 in
-      let g : GoodEvidence self Good Text e = evidence_for_good self Good Text on d a k (view_of self d) e seen.0 in
+      let g : GoodEvidence self Good Text e = evidence_for_good self Good Text d a k (view_of self d) e seen.0 in
       let base : GoodStable self Good Text plan.base = held_base d k (view_of self d) plan (plan_held self d) refl at in
       let c = and_parts (e.base == plan.base.pos) (e.end == plan_end plan && same_bytes e.plan (plan_digest plan)) seen.1 in
       let f = and_parts (e.end == plan_end plan) (same_bytes e.plan (plan_digest plan)) c.1 in
@@ -187,8 +187,8 @@ module _ {S : Type 0} (self : Identity S) (Good : Claim → Type 0) (Text : Byte
       let b = and_parts (lags_behind self d || is_past_plan self d) (has_evidence self d && (nat_le (low_of self d) _ && has_other_room self d)) t.0 in
       let has = (and_parts (has_evidence self d) _ b.1).0 in
       let stable = stable_good self Good Text d k in
-      let j = joined (view_of self d) (evidence_of self d) (λ e is. evidence_good self Good Text on d k e is) has (stable_of self d) stable in
-      record { bare = (view_low self Good Text on d a k, (j.0, (stable.fits, join_above d b.0))); inner = j.1; body = tt }
+      let j = joined (view_of self d) (evidence_of self d) (λ e is. evidence_good self Good Text d k e is) has (stable_of self d) stable in
+      record { bare = (view_low self Good Text d a k, (j.0, (stable.fits, join_above d b.0))); inner = j.1; body = tt }
 
   -- ---- COMMIT, PREPARE
 
@@ -204,14 +204,14 @@ module _ {S : Type 0} (self : Identity S) (Good : Claim → Type 0) (Text : Byte
       let t = if_some (is_open self d && (not (is_primary self d) && has_room self d)) (with_batch (Commit (next_position self d)) (slot_at self d (next_position self d))) (Commit p s r) e in
       let m = commit_shape (next_position self d) (slot_at self d (next_position self d)) p s r t.1 in
       let w = if_some (in_window self d (next_position self d)) (slot_in self d (view_of self d) (next_position self d)) s m.1 in
-      let g : GoodSlot self Good Text on (said d) (view_of self d) p s = slot_good self Good Text on d a k (view_of self d) p s (subst (λ (q : ℕ). slot_in self d (view_of self d) q ≡ Some s) m.0 w.1) in
+      let g : GoodSlot self Good Text (said d) (view_of self d) p s = slot_good self Good Text d a k (view_of self d) p s (subst (λ (q : ℕ). slot_in self d (view_of self d) q ≡ Some s) m.0 w.1) in
       let named : s.digest ≡ batch_digest r = sym (g.named r m.2) in
       record {
-        bare = (view_low self Good Text on d a k, (subst IsPosition m.0 (windowed d (next_position self d) w.0), (g.counter, (g.cert, length-sha256 _))));
+        bare = (view_low self Good Text d a k, (subst IsPosition m.0 (windowed d (next_position self d) w.0), (g.counter, (g.cert, length-sha256 _))));
         inner = (subst (λ (x : Bytes). Good (prepare_claim self.shape (view_of self d) p s.counter s.cert x)) named (ahead g.from m.0), tt);
         body = tt;
       } where
-        ahead : Good (prepare_claim self.shape (view_of self d) p s.counter s.cert s.digest) ⊎ IsBehind self Good Text on (said d) (view_of self d) p → next_position self d ≡ p → Good (prepare_claim self.shape (view_of self d) p s.counter s.cert s.digest)
+        ahead : Good (prepare_claim self.shape (view_of self d) p s.counter s.cert s.digest) ⊎ IsBehind self Good Text (said d) (view_of self d) p → next_position self d ≡ p → Good (prepare_claim self.shape (view_of self d) p s.counter s.cert s.digest)
         ahead (inl good) next = good
         ahead (inr b) next = absurd (omega (arith, next, b.1, last_is d a))
 
@@ -224,4 +224,4 @@ module _ {S : Type 0} (self : Identity S) (Good : Claim → Type 0) (Text : Byte
       let f = and_parts (in_window self d (next_position self d)) _ c.1 in
       let m = map_some (Prepare (next_position self d)) (first_batch (unordered self d)) (Prepare p r) t.1 in
       let place : next_position self d ≡ p = cc (m.2) in
-      record { bare = (view_low self Good Text on d a k, (subst IsPosition place (windowed d (next_position self d) f.0), length-sha256 _)); inner = tt; body = tt }
+      record { bare = (view_low self Good Text d a k, (subst IsPosition place (windowed d (next_position self d) f.0), length-sha256 _)); inner = tt; body = tt }

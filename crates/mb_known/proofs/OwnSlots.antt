@@ -86,7 +86,7 @@ module _ {S : Type 0} (self : Identity S) where
   last_more (bare.Enter w c q) l v p o = omega arith
   last_more (bare.Checkpoint q t d) l v p o = omega arith
 
-module _ {S : Type 0} (self : Identity S) (Good : Claim → Type 0) (Text : Bytes → Type 0) (on : self.built.order ≡ true) where
+module _ {S : Type 0} (self : Identity S) (Good : Claim → Type 0) (Text : Bytes → Type 0) where
   abbrev AllKnown : History → Type 0
   AllKnown d = Each (Known self Good Text) d
 
@@ -121,7 +121,7 @@ module _ {S : Type 0} (self : Identity S) (Good : Claim → Type 0) (Text : Byte
   grows : (d : History) (x : Entry) → Arises self (x ∷ d) → (v p : ℕ) (k : KnownSlot) → GoodSlot (said d) v p k → GoodSlot (said (x ∷ d)) v p k
   unfolding all_stamped
   grows d (Stamped m) a v p k g =
-      let h : IsPermitted self (said d) (bare_of m) = head initial_floor self.shape self.host (inner self) (bare_of m) (said d) (steady self on (Stamped m ∷ d) a).list.ordered in
+      let h : IsPermitted self (said d) (bare_of m) = head initial_floor self.shape self.host (inner self) (bare_of m) (said d) (steady self (Stamped m ∷ d) a).list.ordered in
       record {
         counter = g.counter;
         cert = g.cert;
@@ -161,10 +161,10 @@ module _ {S : Type 0} (self : Identity S) (Good : Claim → Type 0) (Text : Byte
   new_slot d (Accepted (message.Prepare m)) a f v p k e =
       let t : FitsPrepare self.shape m = f.fits in
       prepare_good (said (Accepted (message.Prepare m) ∷ d)) m v p k e t.ui.counter t.ui.cert
-      (prepare_by_primary (origin d m.ui.host) self.shape m.ui.host _ (taken_of d m.ui.host) m.view m.pos _ (a.0.gate.permitted on))
+      (prepare_by_primary (origin d m.ui.host) self.shape m.ui.host _ (taken_of d m.ui.host) m.view m.pos _ a.0.gate.permitted)
       (f.claims (stamp_claim (stamped.Prepare m)) (own_claim_in self.shape (stamped.Prepare m)))
   new_slot d (Stamped (stamped.Prepare m)) a f v p k e =
-      let h : IsPermitted self (said d) (bare_of (stamped.Prepare m)) = head initial_floor self.shape self.host (inner self) (bare_of (stamped.Prepare m)) (said d) (steady self on (Stamped (stamped.Prepare m) ∷ d) a).list.ordered in
+      let h : IsPermitted self (said d) (bare_of (stamped.Prepare m)) = head initial_floor self.shape self.host (inner self) (bare_of (stamped.Prepare m)) (said d) (steady self (Stamped (stamped.Prepare m) ∷ d) a).list.ordered in
       let leads : self.host ≡ primary self.shape m.view = prepare_by_primary initial_floor self.shape self.host (inner self) (said d) m.view m.pos (body_digest batch_bytes m.body) h in
       prepare_good (said (Stamped (stamped.Prepare m) ∷ d)) m v p k e f.ui.counter f.ui.cert (mine (a.0) ∙ leads) f.claim where
         mine : Makes self d (stamped.Prepare m) → m.ui.host ≡ self.host

@@ -27,12 +27,12 @@ use Rattle.mb_known.proofs.OwnKnown.{AllGood, GoodBody, KnownStamp, Known}
 use Rattle.mb_known.proofs.OwnGates.{own_ui, floors_fit}
 use Rattle.mb_known.proofs.OwnMade.{Made, made_change, made_announce, made_enter, made_open, made_join, made_commit, made_prepare}
 
-module _ {S : Type 0} (self : Identity S) (Good : Claim → Type 0) (Text : Bytes → Type 0) (on : self.built.order ≡ true) where
+module _ {S : Type 0} (self : Identity S) (Good : Claim → Type 0) (Text : Bytes → Type 0) where
   abbrev AllKnown : History → Type 0
   AllKnown d = Each (Known self Good Text) d
 
   abbrev IsMade : StampedMessage → Type 0
-  IsMade x = Made self Good Text on x
+  IsMade x = Made self Good Text x
 
   executed_place : (d : History) (p : ℕ) → AllKnown d → JustExecuted self d p → IsPosition p
   executed_place (Executed slot ∷ d) p k j = subst IsPosition j k.0
@@ -42,7 +42,7 @@ module _ {S : Type 0} (self : Identity S) (Good : Claim → Type 0) (Text : Byte
   made_checkpoint d a k p j text = record {
     bare = (executed_place d p k j, (length-sha256 _, length-sha256 _));
     inner = tt;
-    body = (floors_fit self Good Text on d a k p, λ b is. subst (λ (f : Floors). Text (floors_body_bytes f)) (whole_floors (record { floors = floors_under self d p }) b is) text);
+    body = (floors_fit self Good Text d a k p, λ b is. subst (λ (f : Floors). Text (floors_body_bytes f)) (whole_floors (record { floors = floors_under self d p }) b is) text);
   } where
     whole_floors : (x y : Floors) → Whole x ≡ Whole y → x ≡ y
     whole_floors x y e = cc
@@ -58,13 +58,13 @@ module _ {S : Type 0} (self : Identity S) (Good : Claim → Type 0) (Text : Byte
     good : IsMade made
 
   by_rule : (d : History) (m : StampedMessage) → Makes self d m → Arises self d → AllKnown d → HasText m → FromRule d m
-  by_rule d (stamped.ViewChange m) (view, e, is) a k t = record { made = view_change self d view; is = is; good = made_change self Good Text on d a k view e }
-  by_rule d (stamped.NewView m) (changes, e, is) a k t = record { made = new_view self d changes; is = is; good = made_announce self Good Text on d a k changes e }
-  by_rule d (stamped.Enter m) (n, e, is) a k t = record { made = enter n; is = is; good = made_enter self Good Text on d k n e }
-  by_rule d (stamped.Open m) (e, plan, o, is) a k t = record { made = opening e plan; is = is; good = made_open self Good Text on d a k e plan o }
-  by_rule d (stamped.Join m) (e, is) a k t = record { made = join self d; is = is; good = made_join self Good Text on d a k e }
-  by_rule d (stamped.Commit m) (p, s, r, e, is) a k t = record { made = commit self d p s r; is = is; good = made_commit self Good Text on d a k p s r e }
-  by_rule d (stamped.Prepare m) (p, r, e, is) a k t = record { made = prepare self d p r; is = is; good = made_prepare self Good Text on d a k p r e }
+  by_rule d (stamped.ViewChange m) (view, e, is) a k t = record { made = view_change self d view; is = is; good = made_change self Good Text d a k view e }
+  by_rule d (stamped.NewView m) (changes, e, is) a k t = record { made = new_view self d changes; is = is; good = made_announce self Good Text d a k changes e }
+  by_rule d (stamped.Enter m) (n, e, is) a k t = record { made = enter n; is = is; good = made_enter self Good Text d k n e }
+  by_rule d (stamped.Open m) (e, plan, o, is) a k t = record { made = opening e plan; is = is; good = made_open self Good Text d a k e plan o }
+  by_rule d (stamped.Join m) (e, is) a k t = record { made = join self d; is = is; good = made_join self Good Text d a k e }
+  by_rule d (stamped.Commit m) (p, s, r, e, is) a k t = record { made = commit self d p s r; is = is; good = made_commit self Good Text d a k p s r e }
+  by_rule d (stamped.Prepare m) (p, r, e, is) a k t = record { made = prepare self d p r; is = is; good = made_prepare self Good Text d a k p r e }
   by_rule d (stamped.Checkpoint m) (p, j, whole, is) a k t =
       let body : Body Floors = Whole (record { floors = floors_under self d p }) in
       let made : Checkpoint = record { pos = p; state = state_digest (present_parts self d) p; body = body; ui = next_ui self d (bare_of (checkpoint self d p)) } in
@@ -88,7 +88,7 @@ module _ {S : Type 0} (self : Identity S) (Good : Claim → Type 0) (Text : Byte
       let r = by_rule d m a.0 a.1 k text in
       let x : StampedMessage = r.made in
       let u : Ui = next_ui self d (bare_of x) in
-      let own = own_ui self Good Text on d m a.0 in
+      let own = own_ui self Good Text d m a.0 in
       let bare : FitsBare self.shape (bare_of m) = subst (λ (y : StampedMessage). FitsBare self.shape (bare_of y)) r.is (subst (FitsBare self.shape) (sym (bare_under u x)) r.good.bare) in
       let ui : ui_of m ≡ u = ap ui_of (sym r.is) ∙ ui_under u x in
       record {

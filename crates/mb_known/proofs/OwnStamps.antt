@@ -38,20 +38,20 @@ use Rattle.mb_known.proofs.PlanFits.{OfBody, OfEntry}
 use Rattle.mb_known.proofs.OwnKnown.{GoodStable, GoodFloor, GoodChange, KnownStamp}
 use Rattle.mb_known.proofs.AllKnown.{IsGood, IsText, KnownIn, all_known}
 
-module _ {S : Type 0} (system : System S) (w : World) (shape : IsShape system.schedule.shape) (order : system.built.order ≡ true) (s : Standing system w)
+module _ {S : Type 0} (system : System S) (w : World) (shape : IsShape system.schedule.shape) (s : Standing system w)
     (numbered : (h : ℕ) → AreNumbered (self_of system h) (stamped (w.histories h))) (read : (h : ℕ) (m : Message) → IsGivenTo system.schedule w h m → FitsFields system.schedule.shape m)
     (low : (h : ℕ) → counter_of (w.histories h) < 2 ^ 64) (arises : (h : ℕ) → Arises (self_of system h) (w.histories h)) where
   abbrev Good : Claim → Type 0
-  Good c = IsGood system w shape order s numbered read low c
+  Good c = IsGood system w shape s numbered read low c
 
   abbrev Text : Bytes → Type 0
-  Text b = IsText system w shape order s numbered read low b
+  Text b = IsText system w shape s numbered read low b
 
   abbrev KnownHere : ℕ → History → Type 0
-  KnownHere h d = KnownIn system w shape order s numbered read low h d
+  KnownHere h d = KnownIn system w shape s numbered read low h d
 
   known : (h : ℕ) → IsCorrect system.schedule h → KnownHere h (w.histories h)
-  known h correct = all_known system w shape order s numbered read low h correct (w.histories h) (record { later = []; is = refl }) (arises h) (s.rests h)
+  known h correct = all_known system w shape s numbered read low h correct (w.histories h) (record { later = []; is = refl }) (arises h) (s.rests h)
 
   carries : (l : List Claim) → AllByRecursion Good l → Carries (verifies system.schedule.secret) (issued system.schedule w) l
   carries [] a = tt

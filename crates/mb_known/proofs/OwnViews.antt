@@ -20,13 +20,13 @@ use Rattle.mb_known.proofs.Rests.{Each}
 use Rattle.mb_known.proofs.OwnKnown.{Known}
 use Rattle.mb_known.proofs.HeldViews.{new_view_good, evidence_good}
 
-module _ {S : Type 0} (self : Identity S) (Good : Claim → Type 0) (Text : Bytes → Type 0) (on : self.built.order ≡ true) where
+module _ {S : Type 0} (self : Identity S) (Good : Claim → Type 0) (Text : Bytes → Type 0) where
   abbrev AllKnown : History → Type 0
   AllKnown d = Each (Known self Good Text) d
 
   -- the host stands where its list leads
   pub view_is : (d : History) → Arises self d → view_of self d ≡ current_view initial_floor (said d)
-  view_is d a = ap (λ f. f.view) (stands_here self d (steady self on d a).list.own)
+  view_is d a = ap (λ f. f.view) (stands_here self d (steady self d a).list.own)
 
   abbrev Low : ℕ → Type 0
   Low v = v < 2 ^ 63
@@ -78,13 +78,13 @@ module _ {S : Type 0} (self : Identity S) (Good : Claim → Type 0) (Text : Byte
   held_low d k = go (new_view_of self d) refl where
     go : (o : Option NewView) → new_view_of self d ≡ o → Low (new_view_number o)
     go None e = omega arith
-    go (Some n) e = (new_view_good self Good Text on d k n e).view.1
+    go (Some n) e = (new_view_good self Good Text d k n e).view.1
 
   shown_low : (d : History) → AllKnown d → Low (evidence_view (evidence_of self d))
   shown_low d k = go (evidence_of self d) refl where
     go : (o : Option Evidence) → evidence_of self d ≡ o → Low (evidence_view o)
     go None e = omega arith
-    go (Some x) e = (evidence_good self Good Text on d k x e).fits.view.1
+    go (Some x) e = (evidence_good self Good Text d k x e).fits.view.1
 
   -- So is the view to which the host goes.
   pub target_low : (d : History) → Arises self d → AllKnown d → Low (target self d)

@@ -14,8 +14,7 @@ use Rattle.mb_model.specs.Sending.{Progress, begin, send, write, to_all}
 use Rattle.mb_model.specs.Making.{wish, resend}
 use Rattle.mb_model.specs.CarriedOut.{run_rules, enough}
 use Rattle.mb_model.specs.Given.{Answer, give}
-use Rattle.mb_model.specs.HostStep.{on_patience, on_nudge, on_message, on_bytes, if_built, low_rose, with_fetch, finished_where, transition}
-use Rattle.mb_model.proofs.Options.{of_both}
+use Rattle.mb_model.specs.HostStep.{on_patience, on_nudge, on_message, on_bytes, low_rose, with_fetch, finished_where, transition}
 use Rattle.mb_known.proofs.Rests.{Each, each_more, Rests, rests_more}
 use Rattle.mb_known.proofs.RestsGiven.{HashedIn, SentIn, Rested, sends_rest, give_rests}
 use Rattle.mb_known.proofs.RestsRules.{run_rests}
@@ -56,17 +55,11 @@ module _ {S : Type 0} (self : Identity S) (given : Message → Type 0) (old : By
   begins d a = each_more _ _ (rests_more self given given old (HashedIn self given old done (begin d)) done (SentIn self given old done (begin d)) (λ m g. g) (λ s h. inl h) (λ m s. inl s)) d a
 
   message_rests : (d : History) (m : Message) → given m → Each (Rests self given old done) d → R (on_message self d m).left
-  message_rests d m g a = elim (cases_Bool (self.built.kinds (kind_of m))) [
-    | inl acts ↦ rw acts (finish_rests _ _ d (give self m (begin d)) (give_rests self given old done m (begin d) g (begins d a)))
-    | inr unbuilt ↦ rw unbuilt (begins d a)
-  ]
+  message_rests d m g a = finish_rests _ _ d (give self m (begin d)) (give_rests self given old done m (begin d) g (begins d a))
 
   bytes_rest : (d : History) (r : Result Message ℕ) → ((m : Message) → r ≡ Ok m → given m) → Each (Rests self given old done) d → R (on_bytes self r d).left
   bytes_rest d (Ok m) g a = message_rests d m (g m refl) a
   bytes_rest d (Err at) g a = begins d a
-
-  signal_rests : (d : History) (o : Answer) → Each (Rests self given old done) d → R o.left → R (if_built self d o).left
-  signal_rests d o a rests = of_both (λ (o : Answer). R o.left) self.built.signals o _ rests (begins d a)
 
   -- where the message of the event, if it is one, counts as given
   pub given_rests : (d : History) (bytes : Bytes) → ((m : Message) → message_of self.shape bytes ≡ Ok m → given m) → Each (Rests self given old done) d → R (transition self d (event.Given bytes)).left
@@ -75,8 +68,8 @@ module _ {S : Type 0} (self : Identity S) (given : Message → Type 0) (old : By
 
   pub patience_event : (d : History) → Each (Rests self given old done) d → R (transition self d event.Patience).left
   unfolding transition
-  patience_event d a = signal_rests d _ a (finish_rests _ false d (on_patience self (begin d)) (patience_rests (begin d) (begins d a)))
+  patience_event d a = finish_rests _ false d (on_patience self (begin d)) (patience_rests (begin d) (begins d a))
 
   pub nudge_event : (d : History) → Each (Rests self given old done) d → R (transition self d event.Nudge).left
   unfolding transition
-  nudge_event d a = signal_rests d _ a (finish_rests true true d (on_nudge self (begin d)) (nudge_rests (begin d) (begins d a)))
+  nudge_event d a = finish_rests true true d (on_nudge self (begin d)) (nudge_rests (begin d) (begins d a))

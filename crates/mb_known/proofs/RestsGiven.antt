@@ -121,14 +121,14 @@ module _ {S : Type 0} (self : Identity S) where
   unfolding stamped_refusal identifier_refusal gate_refusal
   convicts d m r e =
       let u : Ui = ui_of m in
-      let t = refused_last (is_bad_ui self m) (is_own_future self d u) (is_stale self d u) (is_ahead self d u) (self.built.order && not (is_permitted self d m)) (conviction self d u) (kind_refusal self d m)
+      let t = refused_last (is_bad_ui self m) (is_own_future self d u) (is_stale self d u) (is_ahead self d u) (not (is_permitted self d m)) (conviction self d u) (kind_refusal self d m)
       (next_of d u.host) (rule_of (bare_of m)) r (kind_other d m) e in
       record {
         sender = refl;
         place = refl;
         certified = not_false (valid self (stamp_claim m)) t.0;
         next = next_counter (gate d u.host).counter u.counter t.1 t.2;
-        refused = not_true (is_permitted self d m) (and_parts self.built.order (not (is_permitted self d m)) t.3).1;
+        refused = not_true (is_permitted self d m) t.3;
       }
 
 -- ---- the walk; `given` has the messages that were given, `old` and `done` what was hashed and sent before the step

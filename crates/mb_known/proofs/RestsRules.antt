@@ -54,7 +54,7 @@ module _ {S : Type 0} (self : Identity S) (given : Message → Type 0) (old : By
   -- ---- executing
 
   interval_rests : (p : ℕ) (x : Progress) → R x → R (at_interval self p x)
-  interval_rests p x a = elim (cases_Bool (self.built.checkpoints && p % interval self.shape == 0)) [
+  interval_rests p x a = elim (cases_Bool (p % interval self.shape == 0)) [
     | inr between ↦ rw between a
     | inl whole ↦
         let strings : List Bytes = state_strings self x.history p in

@@ -18,7 +18,7 @@ use Rattle.mb_msg.specs.Spelling.{spelling}
 use Rattle.mb_msg.specs.Stamps.{as_stamped}
 use Rattle.mb_model.specs.Clients.{asks, is_right, takes}
 use Rattle.mb_model.proofs.Options.{or_none}
-use Rattle.mb_model.proofs.EarlyHistories.{shape_fits}
+use Rattle.mb_model.proofs.ShapesFit.{shape_fits}
 use Rattle.mb_model.proofs.Members.{In, any_in}
 use Rattle.mb_sched.specs.declared.schedule.Name.TheVariants as name
 use Rattle.mb_sched.specs.declared.schedule.WorldEvent.{WorldEvent}

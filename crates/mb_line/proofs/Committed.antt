@@ -111,7 +111,7 @@ module _ {S : Type 0} (system : System S) (w : World) (f : Facts system w) (jump
   entry_slot : (e : Entry) (d : History) → IsPast (e ∷ d) (w.histories h) → (v p : ℕ) (k : KnownSlot) → slot_by e v p ≡ Some k → IsLedSlot v k
   entry_slot (Accepted (message.Prepare m)) d past v p k e =
       let a : PassesStamped self d (stamped.Prepare m) = (arises_then system w f h correct (jumps h correct) (Accepted (message.Prepare m) ∷ d) past).0 in
-      let by : m.ui.host ≡ primary system.schedule.shape m.view = prepare_by_primary (origin d m.ui.host) self.shape m.ui.host (inner_valid self.shape (valid self)) (taken_of d m.ui.host) m.view m.pos (body_digest batch_bytes m.body) (a.gate.permitted f.order) in
+      let by : m.ui.host ≡ primary system.schedule.shape m.view = prepare_by_primary (origin d m.ui.host) self.shape m.ui.host (inner_valid self.shape (valid self)) (taken_of d m.ui.host) m.view m.pos (body_digest batch_bytes m.body) a.gate.permitted in
       let at : at_counter (prefix system.schedule w (primary system.schedule.shape m.view)) m.ui.counter ≡ Some (bare.Prepare m.view m.pos (body_digest batch_bytes m.body)) =
       subst (λ (i : ℕ). at_counter (prefix system.schedule w i) m.ui.counter ≡ Some (bare.Prepare m.view m.pos (body_digest batch_bytes m.body))) by (accepted_there system w f jumps h correct (stamped.Prepare m) d past) in
       prepare_slot m v p k e (λ same. leads_by_prepare v m.ui.counter m.view m.pos (body_digest batch_bytes m.body) same at)

@@ -80,7 +80,7 @@ module _ {S : Type 0} (system : System S) (w : World) (f : Facts system w) (jump
     pub other_sender : (m : StampedMessage) (d : History) → IsPast (Accepted (as_message m) ∷ d) (w.histories h) → (ui_of m).host ≡ h → ⊥
     other_sender m d past =
         let before : IsPast d (w.histories h) = past_tail (Accepted (as_message m)) d (w.histories h) past in
-        let own = (steady self f.order d (arises_then system w f h correct (jumps h correct) d before)).list.own in
+        let own = (steady self d (arises_then system w f h correct (jumps h correct) d before)).list.own in
         eqb-false (ui_of m).host h (own_passed self d m own (passes_as self d m (arises_then system w f h correct (jumps h correct) (Accepted (as_message m) ∷ d) past).0).gate)
 
     -- what was accepted stands in its sender's prefix

@@ -10,6 +10,6 @@ use Rattle.mb_line.proofs.SafeWorlds.{safe_from}
 use Rattle.mb_line.proofs.ServedWorlds.{results_from}
 
 pub worlds_have_one_list : (S : Type 0) → WorldsHaveOneList S
-worlds_have_one_list S system built service fits k le none apart =
-    let facts : (k : ℕ) → IsUnstopped system k → HashesApart (world system k).hashed → Facts system (world system k) = facts_in system built fits in
+worlds_have_one_list S system service fits k le none apart =
+    let facts : (k : ℕ) → IsUnstopped system k → HashesApart (world system k).hashed → Facts system (world system k) = facts_in system fits in
     record { safe = safe_from system facts fits service k none apart; results = results_from system facts fits service k none apart }

@@ -113,7 +113,7 @@ module _ {S : Type 0} (system : System S) (w : World) (f : Facts system w) (jump
   stable_once h d correct past above =
       let self : Identity S = self_of system h in
       let c : StableCert = stable_of self d in
-      let verified = stable_checks self f.order d (arises_then system w f h correct (jumps h correct) d past) in
+      let verified = stable_checks self d (arises_then system w f h correct (jumps h correct) d past) in
       let was : is_stable system.schedule.shape (issued system.schedule w) c ≡ true =
       (certificate_laws.carries system.schedule.shape (verifies system.schedule.secret) (issued system.schedule w)).stable c (stable_issued system w f h d correct past) verified in
       elim (or_cases (c.pos == 0 && length c.members == 0) _ was) [

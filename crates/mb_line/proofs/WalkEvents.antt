@@ -21,8 +21,8 @@ use Rattle.mb_model.specs.EnabledRules as rule
 use Rattle.mb_model.specs.CarriedOut.{serve_all, close_slot, state_strings, with_checkpoint, at_interval, execute, carry_out, run_rules, enough, compared_in_own}
 use Rattle.mb_model.specs.Given.{Answer, give}
 use Rattle.mb_model.specs.Positions.{is_behind}
-use Rattle.mb_model.specs.HostStep.{on_patience, on_nudge, wish_again, with_fetch, low_rose, finished_where, on_message, on_bytes, if_built, transition}
-use Rattle.mb_model.proofs.Options.{of_both, option_cases}
+use Rattle.mb_model.specs.HostStep.{on_patience, on_nudge, wish_again, with_fetch, low_rose, finished_where, on_message, on_bytes, transition}
+use Rattle.mb_model.proofs.Options.{option_cases}
 use Rattle.mb_line.proofs.Walks.{IsWalked, stamps_keep, give_keeps}
 
 module _ {S : Type 0} (self : Identity S) (Q : Progress → Type 0) (kept : IsWalked self Q) where
@@ -38,7 +38,7 @@ module _ {S : Type 0} (self : Identity S) (Q : Progress → Type 0) (kept : IsWa
     ]
 
     interval_keeps : (y : Progress) → Q y → Q (at_interval self pos y)
-    interval_keeps y p = elim (cases_Bool (self.built.checkpoints && pos % interval self.shape == 0)) [
+    interval_keeps y p = elim (cases_Bool (pos % interval self.shape == 0)) [
       | inl at ↦ rw at (checkpoint_keeps (note (state_strings self y.history pos) y) (kept.noted (state_strings self y.history pos) y p))
       | inr between ↦ rw between p
     ]
@@ -92,20 +92,14 @@ module _ {S : Type 0} (self : Identity S) (Q : Progress → Type 0) (kept : IsWa
   nudge_keeps x q = again_keeps (send (to_all (resend self x.history)) (write Nudged x)) (kept.sent (to_all (resend self x.history)) (write Nudged x) refl (kept.quiet Nudged x refl q))
 
   message_keeps : (d : History) (m : Message) → Q (begin d) → Q (on_message self d m).left
-  message_keeps d m q = elim (cases_Bool (self.built.kinds (kind_of m))) [
-    | inl acts ↦ rw acts (finished_keeps _ _ d (give self m (begin d)) (give_keeps self Q kept m (begin d) q))
-    | inr unbuilt ↦ rw unbuilt q
-  ]
+  message_keeps d m q = finished_keeps _ _ d (give self m (begin d)) (give_keeps self Q kept m (begin d) q)
 
   bytes_keep : (d : History) (r : Result Message ℕ) → Q (begin d) → Q (on_bytes self r d).left
   bytes_keep d (Ok m) q = message_keeps d m q
   bytes_keep d (Err at) q = q
 
-  signal_keeps : (d : History) (a : Answer) → Q (begin d) → Q a.left → Q (if_built self d a).left
-  signal_keeps d a before after = of_both (λ (o : Answer). Q o.left) self.built.signals a _ after before
-
   pub walked : (d : History) (e : Event) → Q (begin d) → Q (transition self d e).left
   unfolding transition
   walked d (event.Given bytes) q = bytes_keep d (message_of self.shape bytes) q
-  walked d event.Patience q = signal_keeps d _ q (finished_keeps _ false d (on_patience self (begin d)) (patience_keeps (begin d) q))
-  walked d event.Nudge q = signal_keeps d _ q (finished_keeps true true d (on_nudge self (begin d)) (nudge_keeps (begin d) q))
+  walked d event.Patience q = finished_keeps _ false d (on_patience self (begin d)) (patience_keeps (begin d) q)
+  walked d event.Nudge q = finished_keeps true true d (on_nudge self (begin d)) (nudge_keeps (begin d) q)

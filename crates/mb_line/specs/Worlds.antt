@@ -1,6 +1,5 @@
 -- What correct hosts executed and what clients accepted, in each world of a schedule.
 use Rattle.std.specs.Prelude.{◌≡◌, ℕ, ◌≤◌, length}
-use Rattle.mb_model.specs.Built.{everything}
 use Rattle.mb_theory.specs.Headline.{IsService}
 use Rattle.mb_theory.specs.Hashed.{HashesApart}
 use Rattle.mb_sched.specs.Limits.{IsSchedule}
@@ -14,8 +13,8 @@ pub record HasOneList {S : Type 0} (system : System S) (w : World) : Type 0 wher
   pub safe : IsSafe system w
   pub results : AreServedResults system w
 
--- For every service that can be replicated and every schedule with at most f faulty hosts, where the whole protocol is built: after each event,
+-- For every service that can be replicated and every schedule with at most f faulty hosts: after each event,
 -- while nothing was forged or refused by the world and no two of the strings hashed so far share a digest.
 abbrev pub WorldsHaveOneList : Type 0 → Type 0
-WorldsHaveOneList S = (system : System S) → system.built ≡ everything → IsService system.machine system.snapshots system.initial → IsSchedule system.schedule
+WorldsHaveOneList S = (system : System S) → IsService system.machine system.snapshots system.initial → IsSchedule system.schedule
     → (k : ℕ) → k ≤ length system.schedule.events → IsUnstopped system k → HashesApart (world system k).hashed → HasOneList system (world system k)

@@ -38,6 +38,4 @@ pub mod StepOwnFloor
 pub mod StepOwnSteady
 pub mod StepOwnStamped
 pub mod OwnListsOrdered
-pub mod EarlyHistories
-pub mod EarlyRules
-pub mod EarlyRefusals
+pub mod ShapesFit

@@ -35,3 +35,7 @@ map_some f (Some x) z e = (x, refl, cc)
 pub of_both : {A : Type 0} (P : A → Type 0) (t : Bool) (x y : A) → P x → P y → P (if t then x else y)
 of_both P true x y p q = p
 of_both P false x y p q = q
+
+pub or_nothing : {A : Type 0} (o : Option A) → option_or o None ≡ o
+or_nothing None = refl
+or_nothing (Some x) = refl

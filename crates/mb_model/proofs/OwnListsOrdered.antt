@@ -39,12 +39,12 @@ module _ {S : Type 0} (self : Identity S) where
   arises_numbered (Stamped m ∷ d) a = (made_next d m a.0, arises_numbered d a.1)
   arises_numbered (_ ∷ d) a = arises_numbered d a.1
 
-  list_after : self.built.order ≡ true → (events : List Event) → IsOwnList self (after self events)
-  list_after on events = (steady self on (after self events) (after_arises self events)).list
+  list_after : (events : List Event) → IsOwnList self (after self events)
+  list_after events = (steady self (after self events) (after_arises self events)).list
 
 pub own_lists : (S : Type 0) → OwnLists S
 own_lists S = record {
-  gate = λ self on events. stands_here self (after self events) (list_after self on events).own;
-  list = λ self on events. list_after self on events;
+  gate = λ self events. stands_here self (after self events) (list_after self events).own;
+  list = λ self events. list_after self events;
   numbered = λ self events. arises_numbered self (after self events) (after_arises self events);
 }

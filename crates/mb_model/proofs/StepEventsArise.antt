@@ -13,11 +13,10 @@ use Rattle.mb_model.specs.Sending.{Progress, begin}
 use Rattle.mb_model.specs.CarriedOut.{run_rules, enough}
 use Rattle.mb_model.specs.Given.{Answer, give}
 use Rattle.mb_model.specs.Positions.{is_behind}
-use Rattle.mb_model.specs.HostStep.{on_patience, on_nudge, on_message, on_bytes, if_built, low_rose, with_fetch, finished_where, transition, after}
+use Rattle.mb_model.specs.HostStep.{on_patience, on_nudge, on_message, on_bytes, low_rose, with_fetch, finished_where, transition, after}
 use Rattle.mb_model.proofs.StepArises.{Arises, IsWhole, ArisesWhole, Arisen}
 use Rattle.mb_model.proofs.StepGivenArise.{give_arises}
 use Rattle.mb_model.proofs.StepRulesArise.{run_arises}
-use Rattle.mb_model.proofs.Options.{of_both}
 
 module _ {S : Type 0} (self : Identity S) where
   -- ---- whole events
@@ -47,23 +46,17 @@ module _ {S : Type 0} (self : Identity S) where
   ]
 
   message_arises : (d : History) (m : Message) → ArisesWhole self d → ArisesWhole self (on_message self d m).left.history
-  message_arises d m a = elim (cases_Bool (self.built.kinds (kind_of m))) [
-    | inl acts ↦ rw acts (finish_arises _ _ d (give self m (begin d)) (give_arises self m (begin d) a))
-    | inr unbuilt ↦ rw unbuilt a
-  ]
+  message_arises d m a = finish_arises _ _ d (give self m (begin d)) (give_arises self m (begin d) a)
 
   bytes_arise : (d : History) (r : Result Message ℕ) → ArisesWhole self d → ArisesWhole self (on_bytes self r d).left.history
   bytes_arise d (Ok m) a = message_arises d m a
   bytes_arise d (Err at) a = a
 
-  signal_arises : (d : History) (o : Answer) → ArisesWhole self d → Arisen self o.left → ArisesWhole self (if_built self d o).left.history
-  signal_arises d o a arisen = of_both (λ (o : Answer). ArisesWhole self o.left.history) self.built.signals o _ arisen a
-
   pub transition_arises : (d : History) (e : Event) → ArisesWhole self d → ArisesWhole self (transition self d e).left.history
   unfolding transition
   transition_arises d (event.Given bytes) a = bytes_arise d (message_of self.shape bytes) a
-  transition_arises d event.Patience a = signal_arises d _ a (finish_arises _ false d (on_patience self (begin d)) (patience_arises (begin d) a))
-  transition_arises d event.Nudge a = signal_arises d _ a (finish_arises true true d (on_nudge self (begin d)) (nudge_arises (begin d) a))
+  transition_arises d event.Patience a = finish_arises _ false d (on_patience self (begin d)) (patience_arises (begin d) a)
+  transition_arises d event.Nudge a = finish_arises true true d (on_nudge self (begin d)) (nudge_arises (begin d) a)
 
   arises_after : (events : List Event) → ArisesWhole self (after self events)
   unfolding after

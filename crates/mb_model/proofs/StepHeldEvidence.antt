@@ -133,28 +133,28 @@ module _ {S : Type 0} (self : Identity S) where
       let same : made ≡ m = cc is in
       subst (λ (y : EnterMessage). EnterChecks self.host y) same (record { sender = refl; backup = rw s.1 s.0; claim = own_claim d (enter n) })
 
-  enter_passed : self.built.order ≡ true → (d : History) (m : EnterMessage) → PassesStamped self d (stamped.Enter m) → EnterChecks m.ui.host m
-  enter_passed on d m p = record { sender = refl; backup = enter_by_backup (origin d m.ui.host) self.shape m.ui.host _ (taken_of d m.ui.host) m.view m.counter m.plan (p.gate.permitted on); claim = p.gate.certified }
+  enter_passed : (d : History) (m : EnterMessage) → PassesStamped self d (stamped.Enter m) → EnterChecks m.ui.host m
+  enter_passed d m p = record { sender = refl; backup = enter_by_backup (origin d m.ui.host) self.shape m.ui.host _ (taken_of d m.ui.host) m.view m.counter m.plan p.gate.permitted; claim = p.gate.certified }
 
-  pub enter_checks : self.built.order ≡ true → (d : History) → Arises self d → (h : ℕ) (m : EnterMessage) → enter_of d h ≡ Some m → EnterChecks h m
+  pub enter_checks : (d : History) → Arises self d → (h : ℕ) (m : EnterMessage) → enter_of d h ≡ Some m → EnterChecks h m
   unfolding enter_of
-  enter_checks on [] a h m e = absurd cc
-  enter_checks on (Accepted (message.Enter n) ∷ d) a h m e = elim (cases_Bool (n.ui.host == h)) [
+  enter_checks [] a h m e = absurd cc
+  enter_checks (Accepted (message.Enter n) ∷ d) a h m e = elim (cases_Bool (n.ui.host == h)) [
     | inl here ↦
         let same : n ≡ m = some_is n m (rw here at e) in
         subst (λ (k : ℕ). EnterChecks k m) (ap (λ (y : EnterMessage). y.ui.host) (sym same) ∙ eqb-true n.ui.host h here)
-        (subst (λ (y : EnterMessage). EnterChecks y.ui.host y) same (enter_passed on d n a.0))
-    | inr other ↦ enter_checks on d a.1 h m (rw other at e)
+        (subst (λ (y : EnterMessage). EnterChecks y.ui.host y) same (enter_passed d n a.0))
+    | inr other ↦ enter_checks d a.1 h m (rw other at e)
   ]
-  enter_checks on (Stamped (stamped.Enter n) ∷ d) a h m e = elim (cases_Bool (n.ui.host == h)) [
+  enter_checks (Stamped (stamped.Enter n) ∷ d) a h m e = elim (cases_Bool (n.ui.host == h)) [
     | inl here ↦
         let same : n ≡ m = some_is n m (rw here at e) in
         let c : EnterChecks self.host n = own_enter d a.0.0 a.0.1 n a.0.2 in
         let mine : self.host ≡ h = sym c.sender ∙ eqb-true n.ui.host h here in
         subst (λ (k : ℕ). EnterChecks k m) mine (subst (λ (y : EnterMessage). EnterChecks self.host y) same c)
-    | inr other ↦ enter_checks on d a.1 h m (rw other at e)
+    | inr other ↦ enter_checks d a.1 h m (rw other at e)
   ]
-  enter_checks on (_ ∷ d) a h m e = enter_checks on d a.1 h m e
+  enter_checks (_ ∷ d) a h m e = enter_checks d a.1 h m e
 
   -- ---- the NEW_VIEW
 
@@ -180,22 +180,22 @@ module _ {S : Type 0} (self : Identity S) where
       let same : made ≡ m = cc is in
       subst (λ (y : NewView). NewViewChecks y) same (record { leads = eqb-true self.host (primary self.shape (view_of self d)) s.0; claim = own_claim d (new_view self d changes) })
 
-  new_view_passed : self.built.order ≡ true → (d : History) (m : NewView) → PassesStamped self d (stamped.NewView m) → NewViewChecks m
-  new_view_passed on d m p = record { leads = new_view_by_primary (origin d m.ui.host) self.shape m.ui.host _ (taken_of d m.ui.host) m.view m.base m.end m.plan _ (p.gate.permitted on); claim = p.gate.certified }
+  new_view_passed : (d : History) (m : NewView) → PassesStamped self d (stamped.NewView m) → NewViewChecks m
+  new_view_passed d m p = record { leads = new_view_by_primary (origin d m.ui.host) self.shape m.ui.host _ (taken_of d m.ui.host) m.view m.base m.end m.plan _ p.gate.permitted; claim = p.gate.certified }
 
-  new_view_added : self.built.order ≡ true → (d : History) (e : Entry) → Adds self d e → (m : NewView) → new_view_in self d e ≡ Some m → NewViewChecks m
-  new_view_added on d (Accepted (message.NewView n)) a m e =
+  new_view_added : (d : History) (e : Entry) → Adds self d e → (m : NewView) → new_view_in self d e ≡ Some m → NewViewChecks m
+  new_view_added d (Accepted (message.NewView n)) a m e =
       let t = if_some (is_whole n.body && is_current self d n.view) (Some n) m e in
-      subst (λ (y : NewView). NewViewChecks y) (some_is n m t.1) (new_view_passed on d n a)
-  new_view_added on d (Stamped (stamped.NewView n)) a m e = subst (λ (y : NewView). NewViewChecks y) (some_is n m e) (own_new_view d a.0 a.1 n a.2)
-  new_view_added on d e a m is = absurd cc
+      subst (λ (y : NewView). NewViewChecks y) (some_is n m t.1) (new_view_passed d n a)
+  new_view_added d (Stamped (stamped.NewView n)) a m e = subst (λ (y : NewView). NewViewChecks y) (some_is n m e) (own_new_view d a.0 a.1 n a.2)
+  new_view_added d e a m is = absurd cc
 
-  pub new_view_checks : self.built.order ≡ true → (d : History) → Arises self d → (m : NewView) → new_view_of self d ≡ Some m → NewViewChecks m
+  pub new_view_checks : (d : History) → Arises self d → (m : NewView) → new_view_of self d ≡ Some m → NewViewChecks m
   unfolding new_view_of
-  new_view_checks on [] a m e = absurd cc
-  new_view_checks on (x ∷ d) a m e = elim (or_some (new_view_in self d x) (new_view_of self d) m e) [
-    | inl new ↦ new_view_added on d x a.0 m new
-    | inr old ↦ new_view_checks on d a.1 m old
+  new_view_checks [] a m e = absurd cc
+  new_view_checks (x ∷ d) a m e = elim (or_some (new_view_in self d x) (new_view_of self d) m e) [
+    | inl new ↦ new_view_added d x a.0 m new
+    | inr old ↦ new_view_checks d a.1 m old
   ]
 
   -- ---- the evidence that is made of them
@@ -207,11 +207,11 @@ module _ {S : Type 0} (self : Identity S) where
   abbrev sender_of : EnterMessage → ℕ
   sender_of m = m.ui.host
 
-  enters_rise : self.built.order ≡ true → (d : History) → Arises self d → (n : NewView) → RiseFrom sender_of (Answers n) 0 (enters_for self d n)
-  enters_rise on d a n = rise_passed sender_of (λ m. EnterChecks m.ui.host m) (answers n) 0 _
+  enters_rise : (d : History) → Arises self d → (n : NewView) → RiseFrom sender_of (Answers n) 0 (enters_for self d n)
+  enters_rise d a n = rise_passed sender_of (λ m. EnterChecks m.ui.host m) (answers n) 0 _
       (rise_found sender_of (λ m. EnterChecks m.ui.host m) (enter_of d) found 0 (host_count self.shape)) where
         found : (h : ℕ) (m : EnterMessage) → enter_of d h ≡ Some m → (m.ui.host ≡ h) × EnterChecks m.ui.host m
-        found h m e = let c = enter_checks on d a h m e in (c.sender, subst (λ (k : ℕ). EnterChecks k m) (sym c.sender) c)
+        found h m e = let c = enter_checks d a h m e in (c.sender, subst (λ (k : ℕ). EnterChecks k m) (sym c.sender) c)
 
   enter_claims : (n : NewView) (m : EnterMessage) → Answers n m
       → (valid self (record { host = m.ui.host; counter = m.ui.counter; says = bare.Enter n.view n.ui.counter n.plan; cert = m.ui.cert }) ≡ true) × (not (eqb m.ui.host (primary self.shape n.view)) ≡ true)
@@ -238,13 +238,13 @@ module _ {S : Type 0} (self : Identity S) where
   abbrev answer_claim : NewView → EvidenceMember → Claim
   answer_claim n m = record { host = m.host; counter = m.counter; says = bare.Enter n.view n.ui.counter n.plan; cert = m.cert }
 
-  made_checks : self.built.order ≡ true → (d : History) → Arises self d → (n : NewView) → NewViewChecks n → (e : Evidence) → evidence_with self n (enters_for self d n) ≡ Some e → is_evidence self.shape (valid self) e ≡ true
+  made_checks : (d : History) → Arises self d → (n : NewView) → NewViewChecks n → (e : Evidence) → evidence_with self n (enters_for self d n) ≡ Some e → is_evidence self.shape (valid self) e ≡ true
   unfolding is_evidence
-  made_checks on d a n c e is =
+  made_checks d a n c e is =
       let f : ℕ = max_faults self.shape in
       let enters : List EnterMessage = enters_for self d n in
       let t = if_some (nat_le f (length enters)) (Some (made n enters)) e is in
-      let rise : RiseFrom sender_of (Answers n) 0 (take f enters) = rise_take sender_of (Answers n) f 0 enters (enters_rise on d a n) in
+      let rise : RiseFrom sender_of (Answers n) 0 (take f enters) = rise_take sender_of (Answers n) f 0 enters (enters_rise d a n) in
       let many : length (map as_member (take f enters)) ≡ f = length-map (take f enters) as_member ∙ length-take-le f enters (leb-true f (length enters) t.0) in
       let first : valid self (new_view_claim self.shape (made n enters)) ≡ true = subst (λ (h : ℕ). valid self (record (stamp_claim (stamped.NewView n)) { host = h }) ≡ true) c.leads c.claim in
       subst (λ (y : Evidence). is_evidence self.shape (valid self) y ≡ true) (some_is (made n enters) e t.1)
@@ -255,16 +255,16 @@ module _ {S : Type 0} (self : Identity S) where
   -- ---- the evidence that is held
 
   -- what a message of another host shows
-  shown_checks : self.built.order ≡ true → (d : History) (x : Entry) → Adds self d x → (e : Evidence) → evidence_shown x ≡ Some e → is_evidence self.shape (valid self) e ≡ true
-  shown_checks on d (Accepted (message.Open m)) a e is = subst (λ (y : Evidence). is_evidence self.shape (valid self) y ≡ true) (some_is m.evidence e is)
-      (open_evidence self.shape (valid self) m.evidence _ (open_inside (origin d m.ui.host) self.shape m.ui.host (inner_valid self.shape (valid self)) (taken_of d m.ui.host) m.evidence _ (a.gate.permitted on)))
-  shown_checks on d (Accepted (message.Join m)) a e is = join_evidence_valid self.shape (valid self) m.view m.evidence m.stable e
-      (join_inside (origin d m.ui.host) self.shape m.ui.host (inner_valid self.shape (valid self)) (taken_of d m.ui.host) m.view m.evidence m.stable (a.gate.permitted on)) is
-  shown_checks on d (Accepted (message.Log m)) a e is = certified m.evidence is a.evidence where
+  shown_checks : (d : History) (x : Entry) → Adds self d x → (e : Evidence) → evidence_shown x ≡ Some e → is_evidence self.shape (valid self) e ≡ true
+  shown_checks d (Accepted (message.Open m)) a e is = subst (λ (y : Evidence). is_evidence self.shape (valid self) y ≡ true) (some_is m.evidence e is)
+      (open_evidence self.shape (valid self) m.evidence _ (open_inside (origin d m.ui.host) self.shape m.ui.host (inner_valid self.shape (valid self)) (taken_of d m.ui.host) m.evidence _ a.gate.permitted))
+  shown_checks d (Accepted (message.Join m)) a e is = join_evidence_valid self.shape (valid self) m.view m.evidence m.stable e
+      (join_inside (origin d m.ui.host) self.shape m.ui.host (inner_valid self.shape (valid self)) (taken_of d m.ui.host) m.view m.evidence m.stable a.gate.permitted) is
+  shown_checks d (Accepted (message.Log m)) a e is = certified m.evidence is a.evidence where
     certified : (x : Option Evidence) → x ≡ Some e → is_certified_evidence self x ≡ true → is_evidence self.shape (valid self) e ≡ true
     certified None is h = absurd cc
     certified (Some y) is h = subst (λ (y : Evidence). is_evidence self.shape (valid self) y ≡ true) (some_is y e is) h
-  shown_checks on d x a e is = absurd cc
+  shown_checks d x a e is = absurd cc
 
   pub news_from : (d : History) (held shown : Option Evidence) (e : Evidence) → with_news self d held shown ≡ Some e → (held ≡ Some e) ⊎ (shown ≡ Some e)
   news_from d held None e is = inl is
@@ -296,28 +296,28 @@ module _ {S : Type 0} (self : Identity S) where
       (ap (λ (z : Evidence). z.view) (sym (some_is y e t.1)) ∙ eqb-true y.view v t.0, t.1)
 
   -- What can be shown for a view is of this view, and checks.
-  pub shows_checked : self.built.order ≡ true → (d : History) → Arises self d → ((e : Evidence) → evidence_of self d ≡ Some e → is_evidence self.shape (valid self) e ≡ true)
+  pub shows_checked : (d : History) → Arises self d → ((e : Evidence) → evidence_of self d ≡ Some e → is_evidence self.shape (valid self) e ≡ true)
       → (v : ℕ) (e : Evidence) → evidence_for self d v ≡ Some e → (e.view ≡ v) × (is_evidence self.shape (valid self) e ≡ true)
-  shows_checked on d a held v e is = elim (or_some (evidence_in v (evidence_of self d)) (option_and_then (λ n. evidence_with self n (enters_for self d n)) (new_view_in_view v (new_view_of self d))) e is) [
+  shows_checked d a held v e is = elim (or_some (evidence_in v (evidence_of self d)) (option_and_then (λ n. evidence_with self n (enters_for self d n)) (new_view_in_view v (new_view_of self d))) e is) [
     | inl there ↦ let t = in_view v (evidence_of self d) e there in (t.0, held e t.1)
     | inr new ↦
         let n = then_some_of (λ n. evidence_with self n (enters_for self d n)) (new_view_in_view v (new_view_of self d)) e new in
         let w = entered_view v (new_view_of self d) n.0 n.1 in
         let t = if_some (nat_le (max_faults self.shape) (length (enters_for self d n.0))) (Some (made n.0 (enters_for self d n.0))) e n.2 in
-        (ap (λ (y : Evidence). y.view) (sym (some_is (made n.0 (enters_for self d n.0)) e t.1)) ∙ w.0, made_checks on d a n.0 (new_view_checks on d a n.0 w.1) e n.2)
+        (ap (λ (y : Evidence). y.view) (sym (some_is (made n.0 (enters_for self d n.0)) e t.1)) ∙ w.0, made_checks d a n.0 (new_view_checks d a n.0 w.1) e n.2)
   ]
 
   own_open : (d : History) (e : Evidence) (plan : Plan) (m : OpenMessage) → signed self d (opening e plan) ≡ stamped.Open m → e ≡ m.evidence
   own_open d e plan m is = cc is
 
-  pub evidence_checks : self.built.order ≡ true → (d : History) → Arises self d → (e : Evidence) → evidence_of self d ≡ Some e → is_evidence self.shape (valid self) e ≡ true
+  pub evidence_checks : (d : History) → Arises self d → (e : Evidence) → evidence_of self d ≡ Some e → is_evidence self.shape (valid self) e ≡ true
   unfolding evidence_of
-  evidence_checks on [] a e is = absurd cc
-  evidence_checks on (Stamped (stamped.Open m) ∷ d) a e is =
+  evidence_checks [] a e is = absurd cc
+  evidence_checks (Stamped (stamped.Open m) ∷ d) a e is =
       let seen = open_seen d a.0.0 a.0.1 a.0.2 in
-      let c = shows_checked on d a.1 (evidence_checks on d a.1) (view_of self d) a.0.0 seen.0 in
+      let c = shows_checked d a.1 (evidence_checks d a.1) (view_of self d) a.0.0 seen.0 in
       subst (λ (y : Evidence). is_evidence self.shape (valid self) y ≡ true) (own_open d a.0.0 a.0.1 m a.0.3 ∙ some_is m.evidence e is) c.1
-  evidence_checks on (x ∷ d) a e is = elim (news_from d (evidence_of self d) (evidence_shown x) e is) [
-    | inl held ↦ evidence_checks on d a.1 e held
-    | inr shown ↦ shown_checks on d x a.0 e shown
+  evidence_checks (x ∷ d) a e is = elim (news_from d (evidence_of self d) (evidence_shown x) e is) [
+    | inl held ↦ evidence_checks d a.1 e held
+    | inr shown ↦ shown_checks d x a.0 e shown
   ]

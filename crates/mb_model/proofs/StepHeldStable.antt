@@ -253,16 +253,16 @@ module _ {S : Type 0} (self : Identity S) where
     go None is e = absurd cc
     go (Some p) is e = subst (λ (y : StableCert). IsStable y) (some_is p.1.base c e) (plan_stable d x a before p is)
 
-  learnt_checks : self.built.order ≡ true → (d : History) (x : Entry) → Arises self (x ∷ d) → (low : ℕ) (c : StableCert) → learnt_in self d low x ≡ Some c → 0 < c.pos → IsStable c
-  learnt_checks on d (Accepted (message.Join m)) a low c e above = subst (λ (y : StableCert). IsStable y) (some_is m.stable c e)
+  learnt_checks : (d : History) (x : Entry) → Arises self (x ∷ d) → (low : ℕ) (c : StableCert) → learnt_in self d low x ≡ Some c → 0 < c.pos → IsStable c
+  learnt_checks d (Accepted (message.Join m)) a low c e above = subst (λ (y : StableCert). IsStable y) (some_is m.stable c e)
       (join_stable_valid self.shape (valid self) m.view m.evidence m.stable
-      (join_inside (origin d m.ui.host) self.shape m.ui.host (inner_valid self.shape (valid self)) (taken_of d m.ui.host) m.view m.evidence m.stable (a.0.gate.permitted on)))
-  learnt_checks on d (Accepted (message.Log m)) a low c e above = subst (λ (y : StableCert). IsStable y) (some_is m.stable c e) a.0.stable
-  learnt_checks on d (Accepted (message.Checkpoint m)) a low c e above =
+      (join_inside (origin d m.ui.host) self.shape m.ui.host (inner_valid self.shape (valid self)) (taken_of d m.ui.host) m.view m.evidence m.stable a.0.gate.permitted))
+  learnt_checks d (Accepted (message.Log m)) a low c e above = subst (λ (y : StableCert). IsStable y) (some_is m.stable c e) a.0.stable
+  learnt_checks d (Accepted (message.Checkpoint m)) a low c e above =
       above_checks (Accepted (message.Checkpoint m) ∷ d) a low c (if_some (nat_le low m.pos) (agreed_above self.shape (Accepted (message.Checkpoint m) ∷ d) low) c e).1 above
-  learnt_checks on d (Stamped (stamped.Checkpoint m)) a low c e above =
+  learnt_checks d (Stamped (stamped.Checkpoint m)) a low c e above =
       above_checks (Stamped (stamped.Checkpoint m) ∷ d) a low c (if_some (nat_le low m.pos) (agreed_above self.shape (Stamped (stamped.Checkpoint m) ∷ d) low) c e).1 above
-  learnt_checks on d x a low c e above = of_plan d x a.0 a.1 c e
+  learnt_checks d x a low c e above = of_plan d x a.0 a.1 c e
 
   further_checks : (old : StableCert) (x : Option StableCert) → IsStable old → ((c : StableCert) → x ≡ Some c → 0 < c.pos → IsStable c) → IsStable (further old x)
   further_checks old None o new = o
@@ -275,7 +275,7 @@ module _ {S : Type 0} (self : Identity S) where
   unfolding is_stable
   none_stable = refl
 
-  pub stable_checks : self.built.order ≡ true → (d : History) → Arises self d → IsStable (stable_of self d)
+  pub stable_checks : (d : History) → Arises self d → IsStable (stable_of self d)
   unfolding stable_of
-  stable_checks on [] a = none_stable
-  stable_checks on (x ∷ d) a = further_checks (stable_of self d) (learnt_in self d (stable_of self d).pos x) (stable_checks on d a.1) (learnt_checks on d x a (stable_of self d).pos)
+  stable_checks [] a = none_stable
+  stable_checks (x ∷ d) a = further_checks (stable_of self d) (learnt_in self d (stable_of self d).pos x) (stable_checks d a.1) (learnt_checks d x a (stable_of self d).pos)

@@ -140,12 +140,12 @@ module _ {S : Type 0} (self : Identity S) where
       let t = if_some (nat_lt base p) (slice_get l (p - base - 1)) b e in
       omega (arith, ltb-true base p t.0, slice_get_within l (p - base - 1) b t.1)
 
-  open_kept : self.built.order ≡ true → (d : History) → Arises self d → (e : Evidence) (plan : Plan) → open_enabled self d ≡ Some (Open e plan) → IsSteady self d
+  open_kept : (d : History) → Arises self d → (e : Evidence) (plan : Plan) → open_enabled self d ≡ Some (Open e plan) → IsSteady self d
       → IsKept self d (opening e plan) (view_of self d) true e.end (here self d).point
   unfolding evidence_of
-  open_kept on d a e plan o k =
+  open_kept d a e plan o k =
       let seen = open_seen self d e plan o in
-      let c = shows_checked self on d a (evidence_checks self on d a) (view_of self d) e seen.0 in
+      let c = shows_checked self d a (evidence_checks self d a) (view_of self d) e seen.0 in
       record {
         permitted = open_permitted self d e plan k.list o c.0 c.1;
         leads = open_leads (here self d) e _ c.0;
@@ -204,12 +204,12 @@ module _ {S : Type 0} (self : Identity S) where
             (omega (arith, shown_within (view_of self d) (evidence_of self d), low), λ o. absurd (both_ways (is_open self d) (not-true _ c.0) o), has)
       ]
 
-  join_kept : self.built.order ≡ true → (d : History) → Arises self d → join_enabled self d ≡ Some Join → IsSteady self d → IsKept self d (join self d) (view_of self d) true (low_of self d) (here self d).point
+  join_kept : (d : History) → Arises self d → join_enabled self d ≡ Some Join → IsSteady self d → IsKept self d (join self d) (view_of self d) true (low_of self d) (here self d).point
   unfolding evidence_of
-  join_kept on d a e k =
+  join_kept d a e k =
       let low = join_low d e k in
       record {
-        permitted = join_permitted self d k.list e (λ o. low.0) (λ o. low.0) (joins_valid (view_of self d) (evidence_of self d) (stable_of self d) (evidence_checks self on d a) (stable_checks self on d a) low.2);
+        permitted = join_permitted self d k.list e (λ o. low.0) (λ o. low.0) (joins_valid (view_of self d) (evidence_of self d) (stable_of self d) (evidence_checks self d a) (stable_checks self d a) low.2);
         leads = join_leads (here self d) (join_evidence self d) (stable_of self d);
         evidence = λ o. held (view_of self d) (evidence_of self d) low.2;
         end = λ o. low.0;
@@ -301,17 +301,17 @@ module _ {S : Type 0} (self : Identity S) where
 
   -- ---- any entry
 
-  stamped_added : self.built.order ≡ true → (d : History) (m : StampedMessage) → Arises self d → Makes self d m → IsSteady self d → IsSteady self (Stamped m ∷ d)
-  stamped_added on d (stamped.ViewChange m) a (view, e, is) k = subst (λ (y : StampedMessage). IsSteady self (Stamped y ∷ d)) is (stamped_steady self d (view_change self d view) _ _ _ _ (change_kept d view e k) k)
-  stamped_added on d (stamped.NewView m) a (changes, e, is) k = subst (λ (y : StampedMessage). IsSteady self (Stamped y ∷ d)) is (stamped_steady self d (new_view self d changes) _ _ _ _ (announce_kept d changes e k) k)
-  stamped_added on d (stamped.Enter m) a (n, e, is) k = subst (λ (y : StampedMessage). IsSteady self (Stamped y ∷ d)) is (stamped_steady self d (enter n) _ _ _ _ (enter_kept d n e k) k)
-  stamped_added on d (stamped.Open m) a (e, plan, o, is) k = subst (λ (y : StampedMessage). IsSteady self (Stamped y ∷ d)) is (stamped_steady self d (opening e plan) _ _ _ _ (open_kept on d a e plan o k) k)
-  stamped_added on d (stamped.Join m) a (e, is) k = subst (λ (y : StampedMessage). IsSteady self (Stamped y ∷ d)) is (stamped_steady self d (join self d) _ _ _ _ (join_kept on d a e k) k)
-  stamped_added on d (stamped.Commit m) a (p, s, b, e, is) k = subst (λ (y : StampedMessage). IsSteady self (Stamped y ∷ d)) is (stamped_steady self d (commit self d p s b) _ _ _ _ (commit_kept d p s b e k) k)
-  stamped_added on d (stamped.Prepare m) a (p, b, e, is) k = subst (λ (y : StampedMessage). IsSteady self (Stamped y ∷ d)) is (stamped_steady self d (prepare self d p b) _ _ _ _ (prepare_kept d p b e k) k)
-  stamped_added on d (stamped.Checkpoint m) a (p, j, whole, is) k = subst (λ (y : StampedMessage). IsSteady self (Stamped y ∷ d)) is (stamped_steady self d (checkpoint self d p) _ _ _ _ (checkpoint_kept d p j whole k) k)
+  stamped_added : (d : History) (m : StampedMessage) → Arises self d → Makes self d m → IsSteady self d → IsSteady self (Stamped m ∷ d)
+  stamped_added d (stamped.ViewChange m) a (view, e, is) k = subst (λ (y : StampedMessage). IsSteady self (Stamped y ∷ d)) is (stamped_steady self d (view_change self d view) _ _ _ _ (change_kept d view e k) k)
+  stamped_added d (stamped.NewView m) a (changes, e, is) k = subst (λ (y : StampedMessage). IsSteady self (Stamped y ∷ d)) is (stamped_steady self d (new_view self d changes) _ _ _ _ (announce_kept d changes e k) k)
+  stamped_added d (stamped.Enter m) a (n, e, is) k = subst (λ (y : StampedMessage). IsSteady self (Stamped y ∷ d)) is (stamped_steady self d (enter n) _ _ _ _ (enter_kept d n e k) k)
+  stamped_added d (stamped.Open m) a (e, plan, o, is) k = subst (λ (y : StampedMessage). IsSteady self (Stamped y ∷ d)) is (stamped_steady self d (opening e plan) _ _ _ _ (open_kept d a e plan o k) k)
+  stamped_added d (stamped.Join m) a (e, is) k = subst (λ (y : StampedMessage). IsSteady self (Stamped y ∷ d)) is (stamped_steady self d (join self d) _ _ _ _ (join_kept d a e k) k)
+  stamped_added d (stamped.Commit m) a (p, s, b, e, is) k = subst (λ (y : StampedMessage). IsSteady self (Stamped y ∷ d)) is (stamped_steady self d (commit self d p s b) _ _ _ _ (commit_kept d p s b e k) k)
+  stamped_added d (stamped.Prepare m) a (p, b, e, is) k = subst (λ (y : StampedMessage). IsSteady self (Stamped y ∷ d)) is (stamped_steady self d (prepare self d p b) _ _ _ _ (prepare_kept d p b e k) k)
+  stamped_added d (stamped.Checkpoint m) a (p, j, whole, is) k = subst (λ (y : StampedMessage). IsSteady self (Stamped y ∷ d)) is (stamped_steady self d (checkpoint self d p) _ _ _ _ (checkpoint_kept d p j whole k) k)
 
-  pub steady : self.built.order ≡ true → (d : History) → Arises self d → IsSteady self d
-  steady on [] a = empty_steady self
-  steady on (Stamped m ∷ d) a = stamped_added on d m a.1 a.0 (steady on d a.1)
-  steady on (x ∷ d) a = other_steady self on d x tt a.0 (steady on d a.1)
+  pub steady : (d : History) → Arises self d → IsSteady self d
+  steady [] a = empty_steady self
+  steady (Stamped m ∷ d) a = stamped_added d m a.1 a.0 (steady d a.1)
+  steady (x ∷ d) a = other_steady self d x tt a.0 (steady d a.1)

@@ -155,11 +155,11 @@ module _ {S : Type 0} (self : Identity S) where
       (subst (λ (w : ℕ). valid self (prepare_claim self.shape w p made.counter made.cert made.digest) ≡ true) view
       (subst (λ (q : ℕ). valid self (prepare_claim self.shape m.view q made.counter made.cert made.digest) ≡ true) pos first))
 
-  other_slot : self.built.order ≡ true → (d : History) (x : Entry) → IsOther x → Adds self d x → (v p : ℕ) (k : KnownSlot) → slot_by x v p ≡ Some k → valid self (prepare_claim self.shape v p k.counter k.cert k.digest) ≡ true
-  other_slot on d (Stamped m) o a v p k e = absurd o
-  other_slot on d (Accepted (message.Prepare m)) o a v p k e =
-      prepare_slot m (prepare_by_primary (origin d m.ui.host) self.shape m.ui.host _ (taken_of d m.ui.host) m.view m.pos _ (a.gate.permitted on)) a.gate.certified v p k e
-  other_slot on d x o a v p k e = absurd cc
+  other_slot : (d : History) (x : Entry) → IsOther x → Adds self d x → (v p : ℕ) (k : KnownSlot) → slot_by x v p ≡ Some k → valid self (prepare_claim self.shape v p k.counter k.cert k.digest) ≡ true
+  other_slot d (Stamped m) o a v p k e = absurd o
+  other_slot d (Accepted (message.Prepare m)) o a v p k e =
+      prepare_slot m (prepare_by_primary (origin d m.ui.host) self.shape m.ui.host _ (taken_of d m.ui.host) m.view m.pos _ a.gate.permitted) a.gate.certified v p k e
+  other_slot d x o a v p k e = absurd cc
 
   pub found_slot : (d : History) (x : Entry) (v p : ℕ) (k : KnownSlot) → slot_in self (x ∷ d) v p ≡ Some k → (slot_in self d v p ≡ Some k) ⊎ (slot_by x v p ≡ Some k)
   unfolding slot_in
@@ -168,8 +168,8 @@ module _ {S : Type 0} (self : Identity S) where
     | inr new ↦ inr (if_some (counts_at self (x ∷ d) v p) (slot_by x v p) k new).1
   ]
 
-  pub other_steady : self.built.order ≡ true → (d : History) (x : Entry) → IsOther x → Adds self d x → IsSteady d → IsSteady (x ∷ d)
-  other_steady on d x o a k =
+  pub other_steady : (d : History) (x : Entry) → IsOther x → Adds self d x → IsSteady d → IsSteady (x ∷ d)
+  other_steady d x o a k =
       let g = other_gate d x o k.list.own a in
       let same : here self (x ∷ d) ≡ here self d = rw (g.from, g.taken) refl in
       let open_before : is_open self (x ∷ d) ≡ true → is_open self d ≡ true = λ e. ap (λ (f : Floor). phase_is_open f.phase) (sym same) ∙ e in
@@ -184,7 +184,7 @@ module _ {S : Type 0} (self : Identity S) where
         ended = λ e. subst (λ (f : Floor). shown_end f.view (evidence_of self (x ∷ d)) ≤ f.last) (sym same) (subst (λ (y : Option Evidence). shown_end (view_of self d) y ≤ (here self d).last) (sym (other_evidence d x o)) (news e).1);
         slots = λ v p s e. subst (λ (f : Floor). IsSlot f v p s) (sym same) (elim (found_slot d x v p s e) [
           | inl before ↦ k.slots v p s before
-          | inr new ↦ inl (other_slot on d x o a v p s new)
+          | inr new ↦ inl (other_slot d x o a v p s new)
         ]);
         point = omega (arith, ap (λ (f : Floor). f.point) same, k.point, other_exec d x a);
         due = λ p j. omega (arith, ap (λ (f : Floor). f.point) same, k.point, other_due d x a p j);

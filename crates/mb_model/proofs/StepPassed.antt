@@ -57,10 +57,6 @@ or_false : (a b : Bool) → (a || b) ≡ false → (a ≡ false) × (b ≡ false
 or_false false b e = (refl, e)
 or_false true b e = absurd cc
 
-permits_where : (gates permitted : Bool) → (gates && not permitted) ≡ false → gates ≡ true → permitted ≡ true
-permits_where true permitted e on = not-false _ e
-permits_where false permitted e on = absurd cc
-
 there_is : {A : Type 0} (o : Option A) → is_none o ≡ false → is_some o ≡ true
 there_is None e = absurd cc
 there_is (Some x) e = refl
@@ -75,7 +71,7 @@ module _ {S : Type 0} (self : Identity S) where
       let convicted : Option Outcome = option_map outcome.Convicted (conviction self d u) in
       let stale : Option Outcome = then_some (is_stale self d u) (outcome.Stale (next_of d u.host)) in
       let ahead : Option Outcome = then_some (is_ahead self d u) (outcome.Ahead (next_of d u.host)) in
-      let illegal : Option Outcome = then_some (self.built.order && not (is_permitted self d m)) (outcome.Illegal (rule_of (bare_of m))) in
+      let illegal : Option Outcome = then_some (not (is_permitted self d m)) (outcome.Illegal (rule_of (bare_of m))) in
       let a = or_none bad_ui (option_or own_future (option_or convicted (option_or stale (option_or ahead illegal)))) e in
       let b = or_none own_future (option_or convicted (option_or stale (option_or ahead illegal))) a.1 in
       let c = or_none convicted (option_or stale (option_or ahead illegal)) b.1 in
@@ -86,7 +82,7 @@ module _ {S : Type 0} (self : Identity S) where
         not_future = then_none (is_own_future self d u) outcome.Idle b.0;
         not_convicted = map_none outcome.Convicted (conviction self d u) c.0;
         next = next_counter (gate d u.host).counter u.counter (then_none (is_stale self d u) _ f.0) (then_none (is_ahead self d u) _ g.0);
-        permitted = permits_where self.built.order (is_permitted self d m) (then_none (self.built.order && not (is_permitted self d m)) _ g.1);
+        permitted = not-false _ (then_none (not (is_permitted self d m)) _ g.1);
       }
 
   passes_body : (d : History) (pos : ℕ) (b : Body Batch) → body_refusal self d pos b ≡ None → PassesBody self d pos b

@@ -388,7 +388,7 @@ module _ {S : Type 0} (self : Identity S) where
       × (((execute self p b x).history ≡ Executed slot ∷ (serve_all self p b.requests x).history)
       ⊎ ((m : Checkpoint) × ((execute self p b x).history ≡ Stamped (signed self (Executed slot ∷ (serve_all self p b.requests x).history) (stamped.Checkpoint m)) ∷ Executed slot ∷ (serve_all self p b.requests x).history)))
   unfolding execute
-  execution_leaves p b x = elim (cases_Bool (self.built.checkpoints && p % interval self.shape == 0)) [
+  execution_leaves p b x = elim (cases_Bool (p % interval self.shape == 0)) [
     | inr between ↦ rw between (slot_for self (serve_all self p b.requests x).history p, refl, inl refl)
     | inl interval ↦ rw interval (slot_for self (serve_all self p b.requests x).history p, refl, checkpoint_leaves p _)
   ]

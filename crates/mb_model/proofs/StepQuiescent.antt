@@ -37,8 +37,8 @@ use Rattle.mb_model.specs.Compared.{compared_in}
 use Rattle.mb_model.specs.EnabledRules.{Rule, Commit, Prepare, rule_where, next_rule, change_enabled, announce_enabled, enter_enabled, open_enabled, join_enabled, commit_enabled, execute_enabled, prepare_enabled, with_batch, next_position, if_committed, unordered_of, unordered, may_order, IsQuiescent}
 use Rattle.mb_model.specs.CarriedOut.{run_rules, enough}
 use Rattle.mb_model.specs.Given.{Answer, closing, give_stamped, give_request, give_wish, give_resend, give_fetch, give_state, give_log, give}
-use Rattle.mb_model.specs.HostStep.{on_message, if_built, on_patience, on_nudge, on_bytes, low_rose, with_fetch, finished, finished_where, transition, rules_follow, is_taken}
-use Rattle.mb_model.proofs.Options.{of_both, option_cases}
+use Rattle.mb_model.specs.HostStep.{on_message, on_patience, on_nudge, on_bytes, low_rose, with_fetch, finished, finished_where, transition, rules_follow, is_taken}
+use Rattle.mb_model.proofs.Options.{option_cases}
 use Rattle.mb_model.proofs.StepRounds.{none_left}
 use Rattle.mb_model.proofs.StepUnchanged.{closed_rules, dropped_rules}
 
@@ -150,24 +150,18 @@ module _ {S : Type 0} (self : Identity S) where
   ]
 
   message_quiet : IsShape self.shape → (d : History) (m : Message) → IsQuiescent self d → IsQuiescent self (on_message self d m).left.history
-  message_quiet k d m q = elim (cases_Bool (self.built.kinds (kind_of m))) [
-    | inl acts ↦ rw acts (finish_quiet k _ _ d (give self m (begin d)) (give_leaves m (begin d) q))
-    | inr unbuilt ↦ rw unbuilt q
-  ]
+  message_quiet k d m q = finish_quiet k _ _ d (give self m (begin d)) (give_leaves m (begin d) q)
 
   bytes_quiet : IsShape self.shape → (d : History) (r : Result Message ℕ) → IsQuiescent self d → IsQuiescent self (on_bytes self r d).left.history
   bytes_quiet k d (Ok m) q = message_quiet k d m q
   bytes_quiet k d (Err at) q = q
 
-  signal_quiet : (d : History) (a : Answer) → IsQuiescent self d → Quiet a.left → IsQuiescent self (if_built self d a).left.history
-  signal_quiet d a q after = of_both (λ (o : Answer). IsQuiescent self o.left.history) self.built.signals a _ after q
-
   -- After each event no rule is left undone, where none was before.
   pub stays_quiescent : IsShape self.shape → (d : History) (e : Event) → IsQuiescent self d → IsQuiescent self (transition self d e).left.history
   unfolding transition
   stays_quiescent k d (event.Given bytes) q = bytes_quiet k d (message_of self.shape bytes) q
-  stays_quiescent k d event.Patience q = signal_quiet d _ q (finish_quiet k _ false d (on_patience self (begin d)) (patience_leaves (begin d) q))
-  stays_quiescent k d event.Nudge q = signal_quiet d _ q (finished_quiet k true d (on_nudge self (begin d)))
+  stays_quiescent k d event.Patience q = finish_quiet k _ false d (on_patience self (begin d)) (patience_leaves (begin d) q)
+  stays_quiescent k d event.Nudge q = finished_quiet k true d (on_nudge self (begin d))
 
   -- ---- the beginning
 

@@ -102,10 +102,10 @@ module _ {S : Type 0} (self : Identity S) where
   -- ---- executing: a CHECKPOINT follows at once, or never
 
   interval_arises : (p : ℕ) (x : Progress) → JustExecuted self x.history p → Arisen self x → Arisen self (at_interval self p x)
-  interval_arises p x just a = elim (cases_Bool (self.built.checkpoints && p % interval self.shape == 0)) [
+  interval_arises p x just a = elim (cases_Bool (p % interval self.shape == 0)) [
     | inr between ↦ rw between a
     | inl whole ↦ rw whole (elim (cases_Bool (has_room self x.history)) [
-      | inl room ↦ rw room (((p, just, (and_parts self.built.checkpoints (p % interval self.shape == 0) whole).1, refl), a.0), tt)
+      | inl room ↦ rw room (((p, just, whole, refl), a.0), tt)
       | inr full ↦ rw full a
     ])
   ]

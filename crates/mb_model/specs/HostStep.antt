@@ -76,7 +76,7 @@ module _ {S : Type 0} (self : Identity S) where
   after_message m d a = finished_where (rules_follow a.outcome m) (asks_on m) d a
 
   abbrev pub on_message : History → Message → Answer
-  on_message d m = if self.built.kinds (kind_of m) then after_message m d (give self m (begin d)) else answer (outcome.Unbuilt (kind_of m)) (begin d)
+  on_message d m = after_message m d (give self m (begin d))
 
   abbrev pub on_bytes : Result Message ℕ → History → Answer
   on_bytes (Err at) d = answer (outcome.Malformed at) (begin d)
@@ -85,13 +85,10 @@ module _ {S : Type 0} (self : Identity S) where
   abbrev pub after_patience : History → Answer → Answer
   after_patience d a = finished_where (is_taken a.outcome) false d a
 
-  abbrev pub if_built : History → Answer → Answer
-  if_built d a = if self.built.signals then a else answer outcome.Idle (begin d)
-
   unfoldable pub transition : History → Event → Answer
   transition d (event.Given bytes) = on_bytes (message_of self.shape bytes) d
-  transition d event.Patience = if_built d (after_patience d (on_patience (begin d)))
-  transition d event.Nudge = if_built d (finished true d (on_nudge (begin d)))
+  transition d event.Patience = after_patience d (on_patience (begin d))
+  transition d event.Nudge = finished true d (on_nudge (begin d))
 
   -- what these events leave, the last of them first
   unfoldable pub after : List Event → History

@@ -9,7 +9,6 @@ pub mod Plans
 pub mod Agreement
 pub mod ViewChangeRecord
 pub mod CarriedLogs
-pub mod Built
 pub mod States
 pub mod Histories
 pub mod Held
@@ -31,4 +30,3 @@ pub mod HostStep
 pub mod Clients
 pub mod NothingUndone
 pub mod OwnLists
-pub mod EarlyHistories

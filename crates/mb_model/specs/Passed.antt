@@ -34,7 +34,7 @@ module _ {S : Type 0} (self : Identity S) where
     pub not_future : is_own_future self d (ui_of m) ≡ false
     pub not_convicted : conviction self d (ui_of m) ≡ None
     pub next : (ui_of m).counter ≡ (gate d (ui_of m).host).counter + 1
-    pub permitted : self.built.order ≡ true → is_permitted self d m ≡ true
+    pub permitted : is_permitted self d m ≡ true
 
   -- A batch came whole, each request with the tag of its client, or its position is executed.
   abbrev pub PassesBody : History → ℕ → Body Batch → Type 0

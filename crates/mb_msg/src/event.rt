@@ -19,8 +19,6 @@ pub enum Event {
 pub enum Outcome {
     /// The bytes are no message. `at` is the offset of the first field that is short or has a value that isn't allowed.
     Malformed { at: usize },
-    /// A message of a kind that hosts don't act on yet, which is told.
-    Unbuilt { kind: u8 },
     /// A stamped message whose certificate does not verify.
     BadUi,
     /// A stamped message of a sender that is shut out since this counter.

@@ -8,7 +8,6 @@ use Rattle.mb_msg.specs.declared.change.ViewChange.{ViewChange}
 use Rattle.mb_msg.specs.declared.change.NewView.{NewView}
 use Rattle.mb_msg.specs.declared.change.NewViewBody.{NewViewBody}
 use Rattle.mb_msg.specs.declared.change.Plan.{Plan}
-use Rattle.mb_model.specs.Built.{everything}
 use Rattle.mb_model.specs.Histories.{Identity}
 use Rattle.mb_model.specs.UsableLogs.{Fault}
 use Rattle.mb_model.specs.Plans.{are_of_plan, plan_of}
@@ -21,7 +20,6 @@ use Rattle.mb_plan.specs.declared.new_view.NewViewFault.TheVariants.{Few, Unusab
 -- A host with this shape and secret. Which one it is, and its service, don't matter to what it finds of a NEW_VIEW.
 abbrev pub checker : Shape → Bytes → Identity (Unit {0})
 checker s secret = record {
-  built = everything;
   shape = s;
   host = 0;
   secret = secret;

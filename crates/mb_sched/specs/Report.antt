@@ -14,7 +14,7 @@ use Rattle.mb_sched.specs.declared.report.LastResult.{LastResult}
 use Rattle.mb_sched.specs.declared.report.RefusedLine.{RefusedLine}
 use Rattle.mb_sched.specs.declared.report.Report.{Report}
 use Rattle.mb_sched.specs.declared.report.Word.{Word}
-use Rattle.mb_sched.specs.declared.report.Word.TheVariants.{Malformed, Unbuilt, BadUi, BadTag, Stale, Ahead, Illegal, Convicted, NeedBody, LaterView, BeyondWindow, Unusable, WrongDigest, BadState, Old, OtherSeq}
+use Rattle.mb_sched.specs.declared.report.Word.TheVariants.{Malformed, BadUi, BadTag, Stale, Ahead, Illegal, Convicted, NeedBody, LaterView, BeyondWindow, Unusable, WrongDigest, BadState, Old, OtherSeq}
 use Rattle.mb_sched.specs.Printing.{client_name, host_name, line_of, hex_word}
 
 -- whether a request changed the state
@@ -25,7 +25,6 @@ fresh_name false = codes "again"
 -- an outcome in lower case
 abbrev pub word_name : Word → Bytes
 word_name Malformed = codes "malformed"
-word_name Unbuilt = codes "unbuilt"
 word_name BadUi = codes "badui"
 word_name BadTag = codes "badtag"
 word_name Stale = codes "stale"

@@ -141,7 +141,6 @@ fn word_name(word: Word) -> &'static str
 {
     match word {
         Word::Malformed => "malformed",
-        Word::Unbuilt => "unbuilt",
         Word::BadUi => "badui",
         Word::BadTag => "badtag",
         Word::Stale => "stale",
@@ -264,7 +263,7 @@ line 2
 slot 2 0 c0 1 again -
 slot 3 0 c0 2 fresh 00
 slot 3 1 c1 1 again -
-refused 3 unbuilt 16
+refused 3 malformed 16
 refused 5 stale 2
 refused 7 needbody 1 5
 host h0 faulty
@@ -366,7 +365,7 @@ end
             pos: 3,
             requests: Items::from_vec(vec![in alloc; fresh, again]?),
         };
-        let unbuilt = refused(alloc, 3, Word::Unbuilt, &[16])?;
+        let malformed = refused(alloc, 3, Word::Malformed, &[16])?;
         let stale = refused(alloc, 5, Word::Stale, &[2])?;
         let need_body = refused(alloc, 7, Word::NeedBody, &[1, 5])?;
         let faulty = HostLine {
@@ -378,7 +377,7 @@ end
             events: 9,
             messages: u64::MAX,
             line: Items::from_vec(vec![in alloc; first, second]?),
-            refused: Items::from_vec(vec![in alloc; unbuilt, stale, need_body]?),
+            refused: Items::from_vec(vec![in alloc; malformed, stale, need_body]?),
             hosts: Items::from_vec(vec![in alloc; faulty]?),
             clients: Items::from_vec(vec![in alloc; client]?),
         })

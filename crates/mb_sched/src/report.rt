@@ -24,7 +24,6 @@ pub struct Report {
 #[derive(Clone, Copy, Debug, PartialEq, Eq)]
 pub enum Word {
     Malformed,
-    Unbuilt,
     BadUi,
     BadTag,
     Stale,

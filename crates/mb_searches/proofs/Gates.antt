@@ -139,16 +139,16 @@ module _ {S : Type 0} (self : Identity S) where
   next_is d h = refl
 
   -- A gate refuses as the history does.
-  pub refuses_as : self.built.order ≡ true → (d : History) (m : StampedMessage)
+  pub refuses_as : (d : History) (m : StampedMessage)
       → gate_refusal self d m ≡ refusal_of (answer (log_of self d (ui_of m).host) (bare_of m) (ui_of m).counter (inner_valid self.shape (valid self) (bare_of m)))
   unfolding gate_refusal
-  refuses_as on d m =
+  refuses_as d m =
       let log : SenderLog = log_of self d (ui_of m).host in
       let may : is_permitted self d m ≡ may_stand log (inner_valid self.shape (valid self) (bare_of m)) (bare_of m) =
       same_test log.from self.shape log.sender (inner_valid self.shape (valid self)) (λ b. inner_valid self.shape (valid self) (bare_of m)) log.taken (bare_of m) refl in
-      rw (on, may) (chain (conviction self d (ui_of m)) (is_stale self d (ui_of m)) (is_ahead self d (ui_of m)) (next_of log) (may_stand log (inner_valid self.shape (valid self) (bare_of m)) (bare_of m)) (rule_of (bare_of m))) where
+      rw may (chain (conviction self d (ui_of m)) (is_stale self d (ui_of m)) (is_ahead self d (ui_of m)) (next_of log) (may_stand log (inner_valid self.shape (valid self) (bare_of m)) (bare_of m)) (rule_of (bare_of m))) where
         chain : (c : Option ℕ) (stale ahead : Bool) (next : ℕ) (stands : Bool) (rule : ℕ)
-            → option_or (option_map outcome.Convicted c) (option_or (then_some stale (outcome.Stale next)) (option_or (then_some ahead (outcome.Ahead next)) (then_some (true && not stands) (outcome.Illegal rule))))
+            → option_or (option_map outcome.Convicted c) (option_or (then_some stale (outcome.Stale next)) (option_or (then_some ahead (outcome.Ahead next)) (then_some (not stands) (outcome.Illegal rule))))
             ≡ refusal_of (convicted_or c (if stale then offer.Stale next else if ahead then offer.Ahead next else if stands then offer.Next else offer.Illegal rule))
         chain (Some x) stale ahead next stands rule = refl
         chain None true ahead next stands rule = refl
@@ -187,7 +187,7 @@ module _ {S : Type 0} (self : Identity S) where
           let at : (gate d (ui_of m).host).counter ≡ counter_of d = ap (λ (h : ℕ). (gate d h).counter) (eqb-true (ui_of m).host self.host mine) ∙ own_counter d own in
           let stale : is_stale self d (ui_of m) ≡ true = le-leb (ui_of m).counter (gate d (ui_of m).host).counter (omega (arith, at, ltb-false (counter_of d) (ui_of m).counter reached)) in
           absurd (passed (is_bad_ui self m) (is_own_future self d (ui_of m)) (conviction self d (ui_of m)) (next_in d (ui_of m).host)
-          (option_or (then_some (is_ahead self d (ui_of m)) (outcome.Ahead (next_in d (ui_of m).host))) (then_some (self.built.order && not (is_permitted self d m)) (outcome.Illegal (rule_of (bare_of m))))) (kind_refusal self d m) (rw stale at e))
+          (option_or (then_some (is_ahead self d (ui_of m)) (outcome.Ahead (next_in d (ui_of m).host))) (then_some (not (is_permitted self d m)) (outcome.Illegal (rule_of (bare_of m))))) (kind_refusal self d m) (rw stale at e))
     ]
   ] where
     idle : (bad : Bool) (rest more : Option Outcome) → option_or (option_or (then_some bad outcome.BadUi) (option_or (then_some true outcome.Idle) rest)) more ≡ Some (outcome.Illegal rule) → ⊥
@@ -217,9 +217,9 @@ module _ {S : Type 0} (self : Identity S) where
   stands_as : (log : SenderLog) (m : Bare) → may_stand log (inner_valid self.shape (valid self) m) m ≡ permits log.from log.shape log.sender (inner_valid self.shape (valid self)) log.taken m
   stands_as log m = same_test log.from log.shape log.sender (λ b. inner_valid self.shape (valid self) m) (inner_valid self.shape (valid self)) log.taken m refl
 
-  pub taken_next : self.built.order ≡ true → (d : History) (m : StampedMessage) → PassesGate self d m
+  pub taken_next : (d : History) (m : StampedMessage) → PassesGate self d m
       → answer (log_of self d (ui_of m).host) (bare_of m) (ui_of m).counter (inner_valid self.shape (valid self) (bare_of m)) ≡ offer.Next
-  taken_next on d m p = next_of_parts (log_of self d (ui_of m).host) (bare_of m) (ui_of m).counter _ p.not_convicted p.next (stands_as (log_of self d (ui_of m).host) (bare_of m) ∙ p.permitted on)
+  taken_next d m p = next_of_parts (log_of self d (ui_of m).host) (bare_of m) (ui_of m).counter _ p.not_convicted p.next (stands_as (log_of self d (ui_of m).host) (bare_of m) ∙ p.permitted)
 
   signed_counter : (d : History) (x m : StampedMessage) → signed self d x ≡ m → (ui_of m).counter ≡ counter_of d + 1
   signed_counter d x m is = ap (λ y. (ui_of y).counter) (sym is) ∙ ap (λ u. u.counter) (ui_under (next_ui self d (bare_of x)) x)
@@ -235,15 +235,15 @@ module _ {S : Type 0} (self : Identity S) where
   own_stamp_counter d (stamped.Prepare m) (p, b, e, is) = signed_counter d (prepare self d p b) (stamped.Prepare m) is
   own_stamp_counter d (stamped.Checkpoint m) (p, j, whole, is) = signed_counter d (checkpoint self d p) (stamped.Checkpoint m) is
 
-  own_permitted : self.built.order ≡ true → (d : History) (m : StampedMessage) → Arises self (Stamped m ∷ d) → permits initial_floor self.shape self.host (inner_valid self.shape (valid self)) (said d) (bare_of m) ≡ true
+  own_permitted : (d : History) (m : StampedMessage) → Arises self (Stamped m ∷ d) → permits initial_floor self.shape self.host (inner_valid self.shape (valid self)) (said d) (bare_of m) ≡ true
   unfolding all_stamped is_ordered
-  own_permitted on d m a = (and_parts (permits initial_floor self.shape self.host (inner_valid self.shape (valid self)) (said d) (bare_of m)) (is_ordered initial_floor self.shape self.host (inner_valid self.shape (valid self)) (said d)) (steady self on (Stamped m ∷ d) a).list.ordered).0
+  own_permitted d m a = (and_parts (permits initial_floor self.shape self.host (inner_valid self.shape (valid self)) (said d) (bare_of m)) (is_ordered initial_floor self.shape self.host (inner_valid self.shape (valid self)) (said d)) (steady self (Stamped m ∷ d) a).list.ordered).0
 
   -- What this host stamps is next at its own gate.
-  pub own_next : self.built.order ≡ true → (d : History) (m : StampedMessage) → GatesMove self d → Arises self (Stamped m ∷ d)
+  pub own_next : (d : History) (m : StampedMessage) → GatesMove self d → Arises self (Stamped m ∷ d)
       → answer (log_of self d self.host) (bare_of m) (ui_of m).counter (inner_valid self.shape (valid self) (bare_of m)) ≡ offer.Next
-  own_next on d m f a =
-      let own : IsOwn self d = (steady self on d a.1).list.own in
+  own_next d m f a =
+      let own : IsOwn self d = (steady self d a.1).list.own in
       let next : (ui_of m).counter ≡ (here self d).counter + 1 = omega (arith, own_stamp_counter d m a.0, own_counter d own) in
       next_of_parts (log_of self d self.host) (bare_of m) (ui_of m).counter _ (ap (λ c. shut_before c (ui_of m).counter) (own_unclosed d f)) next
-      (stands_as (log_of self d self.host) (bare_of m) ∙ rw (own.from, own.all) (own_permitted on d m a))
+      (stands_as (log_of self d self.host) (bare_of m) ∙ rw (own.from, own.all) (own_permitted d m a))

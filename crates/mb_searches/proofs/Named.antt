@@ -29,7 +29,7 @@ use Rattle.mb_model.specs.GateChecks.{valid, is_bad_ui, is_own_future, gate_refu
 use Rattle.mb_model.specs.KindChecks.{is_beyond, is_of_later_view, is_of_view, body_refusal, only_where, vote_refusal, stamped_refusal}
 use Rattle.mb_model.specs.Passed.{PassesBody, PassesStamped}
 use Rattle.mb_model.specs.Given.{named_prepare, casts_vote}
-use Rattle.mb_model.proofs.EarlyHistories.{or_nothing}
+use Rattle.mb_model.proofs.Options.{or_nothing}
 use Rattle.mb_model.proofs.StepArises.{Arises}
 use Rattle.mb_searches.proofs.Framing.{low_stays, exec_stays}
 use Rattle.mb_searches.proofs.Standing.{view_stays}
@@ -43,18 +43,18 @@ commit_inside o s host inner l v p n c x may =
     let e = and_parts (is_opened o l v) _ d.1 in
     (and_parts (p == last_position o l v + 1) (inner (bare.Commit v p n c x)) e.1).1
 
-module _ {S : Type 0} (self : Identity S) (on : self.built.order ≡ true) where
+module _ {S : Type 0} (self : Identity S) where
   certified : (m : Commit) (d : History) → PassesStamped self d (stamped.Commit m) → is_bad_ui self (stamped.Prepare (named_prepare self m)) ≡ false
   unfolding inner_valid
   certified m d p =
-      let inside = commit_inside (origin d m.ui.host) self.shape m.ui.host (inner_valid self.shape (valid self)) (taken_of d m.ui.host) m.view m.pos m.counter m.cert (body_digest batch_bytes m.body) (p.gate.permitted on) in
+      let inside = commit_inside (origin d m.ui.host) self.shape m.ui.host (inner_valid self.shape (valid self)) (taken_of d m.ui.host) m.view m.pos m.counter m.cert (body_digest batch_bytes m.body) p.gate.permitted in
       ap not inside
 
   vote_passes : (m : Commit) (d : History) → Arises self (Accepted (message.Commit m) ∷ d) → casts_vote self d m ≡ true → PassesStamped self d (stamped.Commit m)
       → vote_refusal self (Accepted (message.Commit m) ∷ d) m.view m.pos m.body ≡ None
   unfolding vote_refusal
   vote_passes m d a casts p =
-      let view : view_of self (Accepted (message.Commit m) ∷ d) ≡ view_of self d = view_stays self on (Accepted (message.Commit m)) d a refl in
+      let view : view_of self (Accepted (message.Commit m) ∷ d) ≡ view_of self d = view_stays self (Accepted (message.Commit m)) d a refl in
       let low : low_of self (Accepted (message.Commit m) ∷ d) ≡ low_of self d = low_stays self (Accepted (message.Commit m)) d refl in
       let here : is_of_view self d m.view ≡ true = (and_parts (view_of self d == m.view) (in_window self d m.pos) casts).0 in
       chain (is_of_later_view self (Accepted (message.Commit m) ∷ d) m.view) (is_of_view self (Accepted (message.Commit m) ∷ d) m.view) (is_beyond self (Accepted (message.Commit m) ∷ d) m.pos) _ _ _

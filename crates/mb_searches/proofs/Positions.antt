@@ -86,7 +86,7 @@ module _ {A : Type 0} (s : Shape) (v w low top p : ℕ) (found : ℕ → Option 
 
 -- ---- slots and votes
 
-module _ {S : Type 0} (self : Identity S) (on : self.built.order ≡ true) where
+module _ {S : Type 0} (self : Identity S) where
   counted_within : (d : History) (v p : ℕ) → counts_at self d v p ≡ true → (v ≤ view_of self d) × (p ≤ low_of self d + span self.shape)
   counted_within d v p e =
       let a = and_parts (view_of self d == v) (in_window self d p) e in
@@ -99,7 +99,7 @@ module _ {S : Type 0} (self : Identity S) (on : self.built.order ≡ true) where
   unfolding slot_in
   slots_within [] a v p k e = absurd cc
   slots_within (x ∷ d) a v p k e = elim (or_some (slot_in self d v p) (if counts_at self (x ∷ d) v p then slot_by x v p else None) k e) [
-    | inl before ↦ let w = slots_within d a.1 v p k before in (omega (arith, w.0, views_rise self on x d a), omega (arith, w.1, grown_low self d x))
+    | inl before ↦ let w = slots_within d a.1 v p k before in (omega (arith, w.0, views_rise self x d a), omega (arith, w.1, grown_low self d x))
     | inr now ↦ counted_within (x ∷ d) v p (if_some (counts_at self (x ∷ d) v p) (slot_by x v p) k now).0
   ]
 
@@ -109,7 +109,7 @@ module _ {S : Type 0} (self : Identity S) (on : self.built.order ≡ true) where
   votes_within (x ∷ d) a h v p y e =
       let new : Option Vote = option_or (vote_by self.host x h v p) (open_vote_by self (x ∷ d) x h v p) in
       elim (or_some (vote_of self d h v p) (if counts_at self (x ∷ d) v p then new else None) y e) [
-        | inl before ↦ let w = votes_within d a.1 h v p y before in (omega (arith, w.0, views_rise self on x d a), omega (arith, w.1, grown_low self d x))
+        | inl before ↦ let w = votes_within d a.1 h v p y before in (omega (arith, w.0, views_rise self x d a), omega (arith, w.1, grown_low self d x))
         | inr now ↦ counted_within (x ∷ d) v p (if_some (counts_at self (x ∷ d) v p) new y now).0
       ]
 
@@ -120,11 +120,11 @@ module _ {S : Type 0} (self : Identity S) (on : self.built.order ≡ true) where
       → slot_at self (e ∷ d) p ≡ option_or (slot_left self e d p) (if_in_window self (e ∷ d) p (slot_by e (view_of self (e ∷ d)) p))
   unfolding slot_in
   slot_behind e d a p = behind self.shape (view_of self d) (view_of self (e ∷ d)) (low_of self d) (low_of self (e ∷ d)) p (λ u. slot_in self d u p) (slot_by e (view_of self (e ∷ d)) p)
-      (views_rise self on e d a) (grown_low self d e) (λ u x f. slots_within d a.1 u p x f)
+      (views_rise self e d a) (grown_low self d e) (λ u x f. slots_within d a.1 u p x f)
 
   -- the vote of a host, the same way
   pub vote_behind : (e : Entry) (d : History) → Arises self (e ∷ d) → (h p : ℕ)
       → vote_at self (e ∷ d) h p ≡ option_or (vote_left self e d h p) (if_in_window self (e ∷ d) p (vote_new self e d h p))
   unfolding vote_of
   vote_behind e d a h p = behind self.shape (view_of self d) (view_of self (e ∷ d)) (low_of self d) (low_of self (e ∷ d)) p (λ u. vote_of self d h u p) (vote_new self e d h p)
-      (views_rise self on e d a) (grown_low self d e) (λ u x f. votes_within d a.1 h u p x f)
+      (views_rise self e d a) (grown_low self d e) (λ u x f. votes_within d a.1 h u p x f)

@@ -17,14 +17,14 @@ use Rattle.mb_searches.proofs.Gates.{own_unclosed}
 use Rattle.mb_searches.proofs.Executing.{parts_behind, no_part_above, pending_client}
 
 module _ {S : Type 0} (self : Identity S) where
-  pub sound : self.built.order ≡ true → (d : History) → Arises self d → GatesMove self d → IsSound self d
-  sound on d a g = record {
+  pub sound : (d : History) → Arises self d → GatesMove self d → IsSound self d
+  sound d a g = record {
     arises = a;
     gates = g;
-    own = (steady self on d a).list;
+    own = (steady self d a).list;
     unclosed = own_unclosed self d g;
-    slots = slots_within self on d a;
-    votes = votes_within self on d a;
+    slots = slots_within self d a;
+    votes = votes_within self d a;
     checkpoints = checkpoints_within self d a;
     executed = exec_within self d a;
     snapshots = parts_behind self d a;
@@ -33,8 +33,8 @@ module _ {S : Type 0} (self : Identity S) where
     log = start_bounded self d;
   }
 
-  pub begins_sound : self.built.order ≡ true → IsSound self []
-  begins_sound on = sound on [] tt tt
+  pub begins_sound : IsSound self []
+  begins_sound = sound [] tt tt
 
   gates_more : (e : Entry) (d : History) → MovesGate self e d → GatesMove self d → GatesMove self (e ∷ d)
   gates_more (Jumped h f) d m g = (m, g)
@@ -42,8 +42,8 @@ module _ {S : Type 0} (self : Identity S) where
   gates_more e d m g = g
 
   -- one entry more
-  pub stays_sound : self.built.order ≡ true → (e : Entry) (d : History) → Adds self d e → MovesGate self e d → IsSound self d → IsSound self (e ∷ d)
-  stays_sound on e d a m s = sound on (e ∷ d) (a, s.arises) (gates_more e d m s.gates)
+  pub stays_sound : (e : Entry) (d : History) → Adds self d e → MovesGate self e d → IsSound self d → IsSound self (e ∷ d)
+  stays_sound e d a m s = sound (e ∷ d) (a, s.arises) (gates_more e d m s.gates)
 
   -- A stamped message that isn't refused may be added.
   pub accepted_adds : (m : StampedMessage) (d : History) → stamped_refusal self d m ≡ None → Adds self d (Accepted (as_message m))

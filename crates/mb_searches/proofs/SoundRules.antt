@@ -23,8 +23,8 @@ use Rattle.mb_model.specs.Sending.{Progress, begin}
 use Rattle.mb_model.specs.EnabledRules.{Rule, ChangeView, Announce, Enter, Open, Join, Commit, Execute, Prepare, is_committed, if_committed, execute_enabled, next_rule}
 use Rattle.mb_model.specs.CarriedOut.{just_served, placed_in, serve, serve_all, slot_for, close_slot, at_interval, execute, carry_out, run_rules, enough}
 use Rattle.mb_model.specs.Given.{Answer, give}
-use Rattle.mb_model.specs.HostStep.{on_patience, on_nudge, on_message, on_bytes, if_built, low_rose, with_fetch, finished_where, transition}
-use Rattle.mb_model.proofs.Options.{option_cases, map_some, if_some, of_both}
+use Rattle.mb_model.specs.HostStep.{on_patience, on_nudge, on_message, on_bytes, low_rose, with_fetch, finished_where, transition}
+use Rattle.mb_model.proofs.Options.{option_cases, map_some, if_some}
 use Rattle.mb_model.proofs.StepArises.{IsWhole, ArisesWhole, none_served}
 use Rattle.mb_model.proofs.StepEventsArise.{transition_arises}
 use Rattle.mb_model.proofs.StepPotential.{served_history}
@@ -36,7 +36,7 @@ use Rattle.mb_searches.proofs.Framing.{exec_stays}
 use Rattle.mb_searches.proofs.Sound.{sound, stays_sound}
 use Rattle.mb_searches.proofs.SoundSteps.{give_sound}
 
-module _ {S : Type 0} (self : Identity S) (on : self.built.order ≡ true) where
+module _ {S : Type 0} (self : Identity S) where
   abbrev Moves : Progress → Type 0
   Moves x = GatesMove self x.history
 
@@ -48,7 +48,7 @@ module _ {S : Type 0} (self : Identity S) (on : self.built.order ≡ true) where
   serve_all_moves p (r ∷ rs) x g = serve_all_moves p rs (serve self p r x) (subst (GatesMove self) (sym (served_history self p r x)) g)
 
   interval_moves : (p : ℕ) (x : Progress) → Moves x → Moves (at_interval self p x)
-  interval_moves p x g = elim (cases_Bool (self.built.checkpoints && p % interval self.shape == 0)) [
+  interval_moves p x g = elim (cases_Bool (p % interval self.shape == 0)) [
     | inr between ↦ rw between g
     | inl whole ↦ rw whole (elim (cases_Bool (has_room self x.history)) [
       | inl room ↦ rw room g
@@ -89,12 +89,12 @@ module _ {S : Type 0} (self : Identity S) (on : self.built.order ≡ true) where
   pub rule_sound : (rule : Rule) (x : Progress) → next_rule self x.history ≡ Some rule → IsSound self x.history → IsWhole x.history → IsSound self (carry_out self rule x).history × IsWhole (carry_out self rule x).history
   rule_sound rule x some s w =
       let a = one_rule rule x some (s.arises, w) in
-      (sound self on (carry_out self rule x).history a.0 (rule_moves rule x s.gates), a.1)
+      (sound self (carry_out self rule x).history a.0 (rule_moves rule x s.gates), a.1)
 
   pub rules_sound : (n : ℕ) (x : Progress) → IsSound self x.history → IsWhole x.history → IsSound self (run_rules self n x).history × IsWhole (run_rules self n x).history
   rules_sound n x s w =
       let a = run_arises self n x (s.arises, w) in
-      (sound self on (run_rules self n x).history a.0 (rules_move n x s.gates), a.1)
+      (sound self (run_rules self n x).history a.0 (rules_move n x s.gates), a.1)
 
   -- ---- within a batch: these requests of it are left
 
@@ -133,7 +133,7 @@ module _ {S : Type 0} (self : Identity S) (on : self.built.order ≡ true) where
       let placed : Placed = placed_in self d r in
       let split : map (λ x. x.request) (just_served d ++ placed ∷ []) ≡ map (λ x. x.request) (just_served d) ++ r ∷ [] = map-append (λ (x : Placed). x.request) (just_served d) (placed ∷ []) in
       record {
-        sound = stays_sound self on (Served p placed) d (record { batch = b; more = more; enabled = s.enabled; place = s.place; next = s.requests; fresh = refl }) tt s.sound;
+        sound = stays_sound self (Served p placed) d (record { batch = b; more = more; enabled = s.enabled; place = s.place; next = s.requests; fresh = refl }) tt s.sound;
         enabled = served_enabled self d p placed ∙ s.enabled;
         place = s.place ∙ sym (ap (λ n. n + 1) (exec_stays self (Served p placed) d refl));
         requests = ap (λ (l : List Request). l ++ more) split ∙ append_assoc (map (λ x. x.request) (just_served d)) (r ∷ []) more ∙ s.requests;
@@ -144,7 +144,7 @@ module _ {S : Type 0} (self : Identity S) (on : self.built.order ≡ true) where
   serving_ends p b d s =
       let requests : map (λ x. x.request) (just_served d) ≡ b.requests = sym (append-nil (map (λ x. x.request) (just_served d))) ∙ s.requests in
       let batch : b ≡ batch_of (slot_for self d p) = ap (λ (l : List Request). record { requests = l }) (sym requests) in
-      stays_sound self on (Executed (slot_for self d p)) d (record { enabled = s.enabled ∙ ap (λ (c : Batch). Some (Execute p c)) batch; place = s.place; served = refl }) tt s.sound
+      stays_sound self (Executed (slot_for self d p)) d (record { enabled = s.enabled ∙ ap (λ (c : Batch). Some (Execute p c)) batch; place = s.place; served = refl }) tt s.sound
 
   -- ---- the whole step
 
@@ -172,26 +172,20 @@ module _ {S : Type 0} (self : Identity S) (on : self.built.order ≡ true) where
   ]
 
   message_moves : (d : History) (m : Message) → IsSound self d → IsWhole d → GatesMove self (on_message self d m).left.history
-  message_moves d m s w = elim (cases_Bool (self.built.kinds (kind_of m))) [
-    | inl acts ↦ rw acts (finish_moves _ _ d (give self m (begin d)) (give_sound self on m (begin d) s w).gates)
-    | inr unbuilt ↦ rw unbuilt s.gates
-  ]
+  message_moves d m s w = finish_moves _ _ d (give self m (begin d)) (give_sound self m (begin d) s w).gates
 
   bytes_move : (d : History) (r : Result Message ℕ) → IsSound self d → IsWhole d → GatesMove self (on_bytes self r d).left.history
   bytes_move d (Ok m) s w = message_moves d m s w
   bytes_move d (Err at) s w = s.gates
 
-  signal_moves : (d : History) (o : Answer) → GatesMove self d → Moves o.left → GatesMove self (if_built self d o).left.history
-  signal_moves d o g moves = of_both (λ (o : Answer). GatesMove self o.left.history) self.built.signals o _ moves g
-
   transition_moves : (d : History) (e : Event) → IsSound self d → IsWhole d → GatesMove self (transition self d e).left.history
   unfolding transition
   transition_moves d (event.Given bytes) s w = bytes_move d (message_of self.shape bytes) s w
-  transition_moves d event.Patience s w = signal_moves d _ s.gates (finish_moves _ false d (on_patience self (begin d)) (patience_moves (begin d) s.gates))
-  transition_moves d event.Nudge s w = signal_moves d _ s.gates (finish_moves true true d (on_nudge self (begin d)) (nudge_moves (begin d) s.gates))
+  transition_moves d event.Patience s w = finish_moves _ false d (on_patience self (begin d)) (patience_moves (begin d) s.gates)
+  transition_moves d event.Nudge s w = finish_moves true true d (on_nudge self (begin d)) (nudge_moves (begin d) s.gates)
 
   -- Behind any event the history is sound, and no batch is partly served.
   pub transition_sound : (d : History) (e : Event) → IsSound self d → IsWhole d → IsSound self (transition self d e).left.history × IsWhole (transition self d e).left.history
   transition_sound d e s w =
       let a = transition_arises self d e (s.arises, w) in
-      (sound self on (transition self d e).left.history a.0 (transition_moves d e s w), a.1)
+      (sound self (transition self d e).left.history a.0 (transition_moves d e s w), a.1)

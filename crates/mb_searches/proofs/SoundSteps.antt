@@ -34,7 +34,7 @@ use Rattle.mb_searches.specs.Sound.{IsSound}
 use Rattle.mb_searches.proofs.Gates.{illegal_is_of_others}
 use Rattle.mb_searches.proofs.Sound.{sound, stays_sound, accepted_adds}
 
-module _ {S : Type 0} (self : Identity S) (on : self.built.order ≡ true) where
+module _ {S : Type 0} (self : Identity S) where
   -- ---- gates alone: a step that arises is sound where its gates move so
 
   abbrev Moves : Progress → Type 0
@@ -43,7 +43,7 @@ module _ {S : Type 0} (self : Identity S) (on : self.built.order ≡ true) where
   -- ---- stamped messages
 
   pub closing_sound : (o : Outcome) (u : Ui) (x : Progress) → ((rule : ℕ) → o ≡ outcome.Illegal rule → (u.host == self.host) ≡ false) → IsSound self x.history → IsSound self (closing o u x).history
-  closing_sound (outcome.Illegal rule) u x other s = stays_sound self on (Closed u.host u.counter) x.history tt (other rule refl) s
+  closing_sound (outcome.Illegal rule) u x other s = stays_sound self (Closed u.host u.counter) x.history tt (other rule refl) s
   closing_sound o u x other s = s
 
   refused_sound : (m : StampedMessage) (o : Outcome) (x : Progress) → stamped_refusal self x.history m ≡ Some o → IsSound self x.history → IsSound self (closing o (ui_of m) x).history
@@ -52,12 +52,12 @@ module _ {S : Type 0} (self : Identity S) (on : self.built.order ≡ true) where
   pub offer_sound : (m : PrepareMessage) (x : Progress) → IsSound self x.history → IsSound self (offer_prepare self m x).history
   unfolding offer_prepare
   offer_sound m x s = elim (option_cases (stamped_refusal self x.history (stamped.Prepare m))) [
-    | inl none ↦ rw none (stays_sound self on (Accepted (message.Prepare m)) x.history (accepted_adds self (stamped.Prepare m) x.history none) tt s)
+    | inl none ↦ rw none (stays_sound self (Accepted (message.Prepare m)) x.history (accepted_adds self (stamped.Prepare m) x.history none) tt s)
     | inr (o, some) ↦ rw some (refused_sound (stamped.Prepare m) o x some s)
   ]
 
   accepted_sound : (m : StampedMessage) (x : Progress) → stamped_refusal self x.history m ≡ None → IsSound self x.history → IsSound self (Accepted (as_message m) ∷ x.history)
-  accepted_sound m x none s = stays_sound self on (Accepted (as_message m)) x.history (accepted_adds self m x.history none) tt s
+  accepted_sound m x none s = stays_sound self (Accepted (as_message m)) x.history (accepted_adds self m x.history none) tt s
 
   pub accept_sound : (m : StampedMessage) (x : Progress) → stamped_refusal self x.history m ≡ None → IsSound self x.history → IsSound self (accept self m x).history
   accept_sound (stamped.Commit m) x none s = elim (cases_Bool (casts_vote self x.history m)) [
@@ -78,7 +78,7 @@ module _ {S : Type 0} (self : Identity S) (on : self.built.order ≡ true) where
   pub jump_sound : (h : ℕ) (f : Option Floor) (x : Progress) → (h == self.host) ≡ false → IsSound self x.history → IsSound self (jump self h f x).history
   jump_sound h None x other s = s
   jump_sound h (Some f) x other s = elim (cases_Bool (is_none (closed_at x.history h) && nat_lt (gate x.history h).counter f.counter)) [
-    | inl forward ↦ rw forward (stays_sound self on (Jumped h f) x.history other (ltb-true (gate x.history h).counter f.counter (and_parts (is_none (closed_at x.history h)) (nat_lt (gate x.history h).counter f.counter) forward).1) s)
+    | inl forward ↦ rw forward (stays_sound self (Jumped h f) x.history other (ltb-true (gate x.history h).counter f.counter (and_parts (is_none (closed_at x.history h)) (nat_lt (gate x.history h).counter f.counter) forward).1) s)
     | inr stays ↦ rw stays s
   ]
 
@@ -102,7 +102,7 @@ module _ {S : Type 0} (self : Identity S) (on : self.built.order ≡ true) where
     | inl none ↦
         let p = passes_log self m none in
         let jumped = jump_sound m.host (floor_shown self m.host m.floor) x p.not_own s in
-        rw none (entries_sound m.entries (write (Accepted (message.Log m)) (jump self m.host (floor_shown self m.host m.floor) x)) (stays_sound self on (Accepted (message.Log m)) (jump self m.host (floor_shown self m.host m.floor) x).history p tt jumped))
+        rw none (entries_sound m.entries (write (Accepted (message.Log m)) (jump self m.host (floor_shown self m.host m.floor) x)) (stays_sound self (Accepted (message.Log m)) (jump self m.host (floor_shown self m.host m.floor) x).history p tt jumped))
     | inr (o, some) ↦ rw some s
   ]
 
@@ -158,7 +158,7 @@ module _ {S : Type 0} (self : Identity S) (on : self.built.order ≡ true) where
   -- ---- any message
 
   by_arising : (m : Message) (x : Progress) → IsSound self x.history → IsWhole x.history → GatesMove self (give self m x).left.history → IsSound self (give self m x).left.history
-  by_arising m x s w g = sound self on (give self m x).left.history (give_arises self m x (s.arises, w)).0 g
+  by_arising m x s w g = sound self (give self m x).left.history (give_arises self m x (s.arises, w)).0 g
 
   pub give_sound : (m : Message) (x : Progress) → IsSound self x.history → IsWhole x.history → IsSound self (give self m x).left.history
   give_sound (message.Request m) x s w = by_arising (message.Request m) x s w (request_moves m x s.gates)

@@ -59,67 +59,66 @@ module _ {S : Type 0} (self : Identity S) where
   own_sender d (stamped.Prepare m) (p, b, e, is) = signed_by d (prepare self d p b) (stamped.Prepare m) is
   own_sender d (stamped.Checkpoint m) (p, j, whole, is) = signed_by d (checkpoint self d p) (stamped.Checkpoint m) is
 
-  module _ (on : self.built.order ≡ true) where
-    -- What this host did not stamp leaves where it stands.
-    pub others_leave_here : (e : Entry) (d : History) → Arises self (e ∷ d) → is_stamp e ≡ false → moves_gate self.host e ≡ false
-    others_leave_here e d a s = others_pass e d (steady self on d a.1).list.own a.0 s
+  -- What this host did not stamp leaves where it stands.
+  pub others_leave_here : (e : Entry) (d : History) → Arises self (e ∷ d) → is_stamp e ≡ false → moves_gate self.host e ≡ false
+  others_leave_here e d a s = others_pass e d (steady self d a.1).list.own a.0 s
 
-    pub stands_still : (e : Entry) (d : History) → Arises self (e ∷ d) → is_stamp e ≡ false → here self (e ∷ d) ≡ here self d
-    stands_still e d a s = here_stays self e d (others_leave_here e d a s)
+  pub stands_still : (e : Entry) (d : History) → Arises self (e ∷ d) → is_stamp e ≡ false → here self (e ∷ d) ≡ here self d
+  stands_still e d a s = here_stays self e d (others_leave_here e d a s)
 
-    -- ---- views never fall
+  -- ---- views never fall
 
-    view_is : (d : History) → Arises self d → view_of self d ≡ current_view initial_floor (said d)
-    view_is d a = ap (λ f. f.view) (stands_here self d (steady self on d a).list.own)
+  view_is : (d : History) → Arises self d → view_of self d ≡ current_view initial_floor (said d)
+  view_is d a = ap (λ f. f.view) (stands_here self d (steady self d a).list.own)
 
-    view_more : (m : Bare) (l : List Bare) → is_ordered initial_floor self.shape self.host (inner self) (m ∷ l) ≡ true → current_view initial_floor l ≤ current_view initial_floor (m ∷ l)
-    unfolding current_view is_ordered permits
-    view_more (bare.ViewChange v x) l o =
-        let a = and_parts (permits initial_floor self.shape self.host (inner self) l (bare.ViewChange v x)) (is_ordered initial_floor self.shape self.host (inner self) l) o in
-        let up : nat_lt (current_view initial_floor l) v ≡ true = sym (rising initial_floor self.shape self.host (inner self) l v a.1) ∙ a.0 in
-        omega (arith, ltb-true (current_view initial_floor l) v up)
-    view_more (bare.Prepare v q x) l o = omega arith
-    view_more (bare.Commit v q n c x) l o = omega arith
-    view_more (bare.Checkpoint q t x) l o = omega arith
-    view_more (bare.NewView v b e q x) l o = omega arith
-    view_more (bare.Enter v c q) l o = omega arith
-    view_more (bare.Open e x) l o = omega arith
-    view_more (bare.Join v e c) l o = omega arith
+  view_more : (m : Bare) (l : List Bare) → is_ordered initial_floor self.shape self.host (inner self) (m ∷ l) ≡ true → current_view initial_floor l ≤ current_view initial_floor (m ∷ l)
+  unfolding current_view is_ordered permits
+  view_more (bare.ViewChange v x) l o =
+      let a = and_parts (permits initial_floor self.shape self.host (inner self) l (bare.ViewChange v x)) (is_ordered initial_floor self.shape self.host (inner self) l) o in
+      let up : nat_lt (current_view initial_floor l) v ≡ true = sym (rising initial_floor self.shape self.host (inner self) l v a.1) ∙ a.0 in
+      omega (arith, ltb-true (current_view initial_floor l) v up)
+  view_more (bare.Prepare v q x) l o = omega arith
+  view_more (bare.Commit v q n c x) l o = omega arith
+  view_more (bare.Checkpoint q t x) l o = omega arith
+  view_more (bare.NewView v b e q x) l o = omega arith
+  view_more (bare.Enter v c q) l o = omega arith
+  view_more (bare.Open e x) l o = omega arith
+  view_more (bare.Join v e c) l o = omega arith
 
-    said_more : (m : StampedMessage) (d : History) → said (Stamped m ∷ d) ≡ bare_of m ∷ said d
-    unfolding all_stamped
-    said_more m d = refl
+  said_more : (m : StampedMessage) (d : History) → said (Stamped m ∷ d) ≡ bare_of m ∷ said d
+  unfolding all_stamped
+  said_more m d = refl
 
-    pub views_rise : (e : Entry) (d : History) → Arises self (e ∷ d) → view_of self d ≤ view_of self (e ∷ d)
-    views_rise (Stamped m) d a =
-        let more : said (Stamped m ∷ d) ≡ bare_of m ∷ said d = said_more m d in
-        let ordered = subst (λ (l : List Bare). is_ordered initial_floor self.shape self.host (inner self) l ≡ true) more (steady self on (Stamped m ∷ d) a).list.ordered in
-        let up = view_more (bare_of m) (said d) ordered in
-        omega (arith, view_is d a.1, view_is (Stamped m ∷ d) a, ap (current_view initial_floor) more, up)
-    views_rise e d a = omega (arith, ap (λ f. f.view) (stands_still e d a refl))
+  pub views_rise : (e : Entry) (d : History) → Arises self (e ∷ d) → view_of self d ≤ view_of self (e ∷ d)
+  views_rise (Stamped m) d a =
+      let more : said (Stamped m ∷ d) ≡ bare_of m ∷ said d = said_more m d in
+      let ordered = subst (λ (l : List Bare). is_ordered initial_floor self.shape self.host (inner self) l ≡ true) more (steady self (Stamped m ∷ d) a).list.ordered in
+      let up = view_more (bare_of m) (said d) ordered in
+      omega (arith, view_is d a.1, view_is (Stamped m ∷ d) a, ap (current_view initial_floor) more, up)
+  views_rise e d a = omega (arith, ap (λ f. f.view) (stands_still e d a refl))
 
-    -- A VIEW_CHANGE of this host goes to its view, which is above, and nothing else leaves the view.
-    pub view_changed : (m : ViewChange) (d : History) → Arises self (Stamped (stamped.ViewChange m) ∷ d) → (view_of self (Stamped (stamped.ViewChange m) ∷ d) ≡ m.view) × (view_of self d < m.view)
-    unfolding current_view is_ordered permits
-    view_changed m d a =
-        let e : StampedMessage = stamped.ViewChange m in
-        let more : said (Stamped e ∷ d) ≡ bare_of e ∷ said d = said_more e d in
-        let ordered = subst (λ (l : List Bare). is_ordered initial_floor self.shape self.host (inner self) l ≡ true) more (steady self on (Stamped e ∷ d) a).list.ordered in
-        let o = and_parts (permits initial_floor self.shape self.host (inner self) (said d) (bare_of e)) (is_ordered initial_floor self.shape self.host (inner self) (said d)) ordered in
-        let up : nat_lt (current_view initial_floor (said d)) m.view ≡ true = sym (rising initial_floor self.shape self.host (inner self) (said d) m.view o.1) ∙ o.0 in
-        (view_is (Stamped e ∷ d) a ∙ ap (current_view initial_floor) more, omega (arith, view_is d a.1, ltb-true (current_view initial_floor (said d)) m.view up))
+  -- A VIEW_CHANGE of this host goes to its view, which is above, and nothing else leaves the view.
+  pub view_changed : (m : ViewChange) (d : History) → Arises self (Stamped (stamped.ViewChange m) ∷ d) → (view_of self (Stamped (stamped.ViewChange m) ∷ d) ≡ m.view) × (view_of self d < m.view)
+  unfolding current_view is_ordered permits
+  view_changed m d a =
+      let e : StampedMessage = stamped.ViewChange m in
+      let more : said (Stamped e ∷ d) ≡ bare_of e ∷ said d = said_more e d in
+      let ordered = subst (λ (l : List Bare). is_ordered initial_floor self.shape self.host (inner self) l ≡ true) more (steady self (Stamped e ∷ d) a).list.ordered in
+      let o = and_parts (permits initial_floor self.shape self.host (inner self) (said d) (bare_of e)) (is_ordered initial_floor self.shape self.host (inner self) (said d)) ordered in
+      let up : nat_lt (current_view initial_floor (said d)) m.view ≡ true = sym (rising initial_floor self.shape self.host (inner self) (said d) m.view o.1) ∙ o.0 in
+      (view_is (Stamped e ∷ d) a ∙ ap (current_view initial_floor) more, omega (arith, view_is d a.1, ltb-true (current_view initial_floor (said d)) m.view up))
 
-    same_said : (m : StampedMessage) (d : History) → Arises self (Stamped m ∷ d) → current_view initial_floor (bare_of m ∷ said d) ≡ current_view initial_floor (said d) → view_of self (Stamped m ∷ d) ≡ view_of self d
-    same_said m d a same = view_is (Stamped m ∷ d) a ∙ ap (current_view initial_floor) (said_more m d) ∙ same ∙ sym (view_is d a.1)
+  same_said : (m : StampedMessage) (d : History) → Arises self (Stamped m ∷ d) → current_view initial_floor (bare_of m ∷ said d) ≡ current_view initial_floor (said d) → view_of self (Stamped m ∷ d) ≡ view_of self d
+  same_said m d a same = view_is (Stamped m ∷ d) a ∙ ap (current_view initial_floor) (said_more m d) ∙ same ∙ sym (view_is d a.1)
 
-    pub view_stays : (e : Entry) (d : History) → Arises self (e ∷ d) → changes_view e ≡ false → view_of self (e ∷ d) ≡ view_of self d
-    unfolding current_view
-    view_stays (Stamped (stamped.ViewChange m)) d a s = absurd cc
-    view_stays (Stamped (stamped.Prepare m)) d a s = same_said (stamped.Prepare m) d a refl
-    view_stays (Stamped (stamped.Commit m)) d a s = same_said (stamped.Commit m) d a refl
-    view_stays (Stamped (stamped.Checkpoint m)) d a s = same_said (stamped.Checkpoint m) d a refl
-    view_stays (Stamped (stamped.NewView m)) d a s = same_said (stamped.NewView m) d a refl
-    view_stays (Stamped (stamped.Enter m)) d a s = same_said (stamped.Enter m) d a refl
-    view_stays (Stamped (stamped.Open m)) d a s = same_said (stamped.Open m) d a refl
-    view_stays (Stamped (stamped.Join m)) d a s = same_said (stamped.Join m) d a refl
-    view_stays e d a s = ap (λ f. f.view) (stands_still e d a refl)
+  pub view_stays : (e : Entry) (d : History) → Arises self (e ∷ d) → changes_view e ≡ false → view_of self (e ∷ d) ≡ view_of self d
+  unfolding current_view
+  view_stays (Stamped (stamped.ViewChange m)) d a s = absurd cc
+  view_stays (Stamped (stamped.Prepare m)) d a s = same_said (stamped.Prepare m) d a refl
+  view_stays (Stamped (stamped.Commit m)) d a s = same_said (stamped.Commit m) d a refl
+  view_stays (Stamped (stamped.Checkpoint m)) d a s = same_said (stamped.Checkpoint m) d a refl
+  view_stays (Stamped (stamped.NewView m)) d a s = same_said (stamped.NewView m) d a refl
+  view_stays (Stamped (stamped.Enter m)) d a s = same_said (stamped.Enter m) d a refl
+  view_stays (Stamped (stamped.Open m)) d a s = same_said (stamped.Open m) d a refl
+  view_stays (Stamped (stamped.Join m)) d a s = same_said (stamped.Join m) d a refl
+  view_stays e d a s = ap (λ f. f.view) (stands_still e d a refl)

@@ -63,14 +63,14 @@ module _ {S : Type 0} (self : Identity S) where
     pub requests : (c : ℕ) → pending self (e ∷ d) c ≡ pending self d c
     pub checkpoints : (h p : ℕ) → checkpoint_of (e ∷ d) h p ≡ checkpoint_of d h p
 
-  pub positions_left : self.built.order ≡ true → (e : Entry) (d : History) → Arises self (e ∷ d) → speaks_of_positions e ≡ false → SamePositions e d
-  positions_left on e d a s =
+  pub positions_left : (e : Entry) (d : History) → Arises self (e ∷ d) → speaks_of_positions e ≡ false → SamePositions e d
+  positions_left e d a s =
       let b = neither (changes_view e) _ s in
       let c = neither (speaks_of_stable e) _ b.1 in
       let f = neither (speaks_of_slots e) _ c.1 in
       let g = neither (speaks_of_votes e) _ f.1 in
       let h = neither (speaks_of_requests e) (speaks_of_checkpoints e) g.1 in
-      let view = view_stays self on e d a b.0 in
+      let view = view_stays self e d a b.0 in
       let low = low_stays self e d c.0 in
       record {
         low = low;

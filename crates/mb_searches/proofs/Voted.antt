@@ -15,7 +15,7 @@ use Rattle.mb_model.specs.Histories.{Entry, Accepted, Stamped, History, Identity
 use Rattle.mb_model.specs.Stable.{low_of}
 use Rattle.mb_model.specs.Held.{opened_by, plan_at}
 use Rattle.mb_model.specs.Positions.{in_window, counts_at, slot_by, slot_at, vote_by, open_vote, open_vote_by, counts_opens, vote_at, slot_vote, slot_of_open}
-use Rattle.mb_model.proofs.EarlyHistories.{or_nothing}
+use Rattle.mb_model.proofs.Options.{or_nothing}
 use Rattle.mb_model.proofs.StepArises.{Arises}
 use Rattle.mb_model.proofs.StepPotential.{not_above}
 use Rattle.mb_searches.specs.Speaks.{changes_view, speaks_of_stable, speaks_of_slots, speaks_of_votes}
@@ -136,7 +136,7 @@ turned v w i b e = ap (λ t. t && i) (swap v w) ∙ e where
     | inr other ↦ rw other (ne_eqb w v (λ e. eqb-false v w other (sym e)))
   ]
 
-module _ {S : Type 0} (self : Identity S) (on : self.built.order ≡ true) where
+module _ {S : Type 0} (self : Identity S) where
   -- nothing is found at or below the stable position
   slot_above : (d : History) (p : ℕ) → if_behind (low_of self d) p (slot_at self d p) ≡ slot_at self d p
   slot_above d p = elim (cases_Bool (nat_le p (low_of self d))) [
@@ -155,8 +155,8 @@ module _ {S : Type 0} (self : Identity S) (on : self.built.order ≡ true) where
   -- Raising the stable position drops what lies at or below it, and leaves new places empty.
   pub slot_raised : (e : Entry) (d : History) → Arises self (e ∷ d) → changes_view e ≡ false → speaks_of_slots e ≡ false → (p : ℕ) → slot_at self (e ∷ d) p ≡ if_behind (low_of self (e ∷ d)) p (slot_at self d p)
   slot_raised e d a stays s p =
-      slot_behind self on e d a p ∙ nothing_added (slot_left self e d p) (in_window self (e ∷ d) p) _ (says_none e s (view_of self (e ∷ d)) p)
-      ∙ ap (λ v. left_at (view_of self d) v (low_of self (e ∷ d)) p (slot_at self d p)) (view_stays self on e d a stays) ∙ stays_in_view (view_of self d) (low_of self (e ∷ d)) p (slot_at self d p) where
+      slot_behind self e d a p ∙ nothing_added (slot_left self e d p) (in_window self (e ∷ d) p) _ (says_none e s (view_of self (e ∷ d)) p)
+      ∙ ap (λ v. left_at (view_of self d) v (low_of self (e ∷ d)) p (slot_at self d p)) (view_stays self e d a stays) ∙ stays_in_view (view_of self d) (low_of self (e ∷ d)) p (slot_at self d p) where
         says_none : (e : Entry) → speaks_of_slots e ≡ false → (v p : ℕ) → slot_by e v p ≡ None
         says_none (Accepted (message.Prepare m)) s v p = absurd cc
         says_none (Stamped (stamped.Prepare m)) s v p = absurd cc
@@ -165,8 +165,8 @@ module _ {S : Type 0} (self : Identity S) (on : self.built.order ≡ true) where
 
   pub vote_raised : (e : Entry) (d : History) → Arises self (e ∷ d) → changes_view e ≡ false → speaks_of_votes e ≡ false → (h p : ℕ) → vote_at self (e ∷ d) h p ≡ if_behind (low_of self (e ∷ d)) p (vote_at self d h p)
   vote_raised e d a stays s h p =
-      vote_behind self on e d a h p ∙ nothing_added (vote_left self e d h p) (in_window self (e ∷ d) p) _ (says_none e s d h (view_of self (e ∷ d)) p)
-      ∙ ap (λ v. left_at (view_of self d) v (low_of self (e ∷ d)) p (vote_at self d h p)) (view_stays self on e d a stays) ∙ stays_in_view (view_of self d) (low_of self (e ∷ d)) p (vote_at self d h p) where
+      vote_behind self e d a h p ∙ nothing_added (vote_left self e d h p) (in_window self (e ∷ d) p) _ (says_none e s d h (view_of self (e ∷ d)) p)
+      ∙ ap (λ v. left_at (view_of self d) v (low_of self (e ∷ d)) p (vote_at self d h p)) (view_stays self e d a stays) ∙ stays_in_view (view_of self d) (low_of self (e ∷ d)) p (vote_at self d h p) where
         says_none : (e : Entry) → speaks_of_votes e ≡ false → (d : History) (h v p : ℕ) → option_or (vote_by self.host e h v p) (open_vote_by self (e ∷ d) e h v p) ≡ None
         says_none (Accepted (message.Prepare m)) s d h v p = absurd cc
         says_none (Accepted (message.Commit m)) s d h v p = absurd cc
@@ -183,16 +183,16 @@ module _ {S : Type 0} (self : Identity S) (on : self.built.order ≡ true) where
   pub slot_more : (e : Entry) (d : History) → Arises self (e ∷ d) → changes_view e ≡ false → speaks_of_stable e ≡ false → (p : ℕ)
       → slot_at self (e ∷ d) p ≡ option_or (slot_at self d p) (if_in_window self d p (slot_by e (view_of self d) p))
   slot_more e d a stays s p =
-      let view : view_of self (e ∷ d) ≡ view_of self d = view_stays self on e d a stays in
+      let view : view_of self (e ∷ d) ≡ view_of self d = view_stays self e d a stays in
       let low : low_of self (e ∷ d) ≡ low_of self d = low_stays self e d s in
-      slot_behind self on e d a p ∙ rw (view, low, stays_in_view (view_of self d) (low_of self d) p (slot_at self d p), slot_above d p) refl
+      slot_behind self e d a p ∙ rw (view, low, stays_in_view (view_of self d) (low_of self d) p (slot_at self d p), slot_above d p) refl
 
   pub vote_more : (e : Entry) (d : History) → Arises self (e ∷ d) → changes_view e ≡ false → speaks_of_stable e ≡ false → counts_opens e ≡ false → (h p : ℕ)
       → vote_at self (e ∷ d) h p ≡ option_or (vote_at self d h p) (if_in_window self d p (vote_by self.host e h (view_of self d) p))
   vote_more e d a stays s o h p =
-      let view : view_of self (e ∷ d) ≡ view_of self d = view_stays self on e d a stays in
+      let view : view_of self (e ∷ d) ≡ view_of self d = view_stays self e d a stays in
       let low : low_of self (e ∷ d) ≡ low_of self d = low_stays self e d s in
-      vote_behind self on e d a h p ∙ rw (o, view, low, stays_in_view (view_of self d) (low_of self d) p (vote_at self d h p), vote_above d h p, or_nothing (vote_by self.host e h (view_of self d) p)) refl
+      vote_behind self e d a h p ∙ rw (o, view, low, stays_in_view (view_of self d) (low_of self d) p (vote_at self d h p), vote_above d h p, or_nothing (vote_by self.host e h (view_of self d) p)) refl
 
   -- ---- an entry that says something of one position: it counts where nothing was there, and else changes nothing
 
@@ -268,9 +268,9 @@ module _ {S : Type 0} (self : Identity S) (on : self.built.order ≡ true) where
   pub opens_counted : (e : Entry) (d : History) → Arises self (e ∷ d) → counts_opens e ≡ true → changes_view e ≡ false → (h p : ℕ)
       → vote_at self (e ∷ d) h p ≡ option_or (if_behind (low_of self (e ∷ d)) p (vote_at self d h p)) (open_vote_now (e ∷ d) h p)
   opens_counted e d a counts stays h p =
-      vote_behind self on e d a h p
+      vote_behind self e d a h p
       ∙ ap (λ x. option_or x (if_in_window self (e ∷ d) p (vote_new self e d h p)))
-      (ap (λ v. left_at (view_of self d) v (low_of self (e ∷ d)) p (vote_at self d h p)) (view_stays self on e d a stays) ∙ stays_in_view (view_of self d) (low_of self (e ∷ d)) p (vote_at self d h p))
+      (ap (λ v. left_at (view_of self d) v (low_of self (e ∷ d)) p (vote_at self d h p)) (view_stays self e d a stays) ∙ stays_in_view (view_of self d) (low_of self (e ∷ d)) p (vote_at self d h p))
       ∙ ap (λ x. option_or (if_behind (low_of self (e ∷ d)) p (vote_at self d h p)) (if_in_window self (e ∷ d) p x)) (only_opens e counts (view_of self (e ∷ d))) where
         only_opens : (e : Entry) → counts_opens e ≡ true → (v : ℕ) → option_or (vote_by self.host e h v p) (open_vote_by self (e ∷ d) e h v p) ≡ open_vote (opened_by (e ∷ d) h) (plan_at self (e ∷ d) v) v p
         only_opens (Accepted (message.Open m)) c v = refl
@@ -285,14 +285,14 @@ module _ {S : Type 0} (self : Identity S) (on : self.built.order ≡ true) where
   pub slot_emptied : (m : ViewChange) (d : History) → Arises self (Stamped (stamped.ViewChange m) ∷ d) → (p : ℕ) → slot_at self (Stamped (stamped.ViewChange m) ∷ d) p ≡ None
   slot_emptied m d a p =
       let e : Entry = Stamped (stamped.ViewChange m) in
-      let c = view_changed self on m d a in
-      slot_behind self on e d a p ∙ nothing_added (slot_left self e d p) (in_window self (e ∷ d) p) None refl
+      let c = view_changed self m d a in
+      slot_behind self e d a p ∙ nothing_added (slot_left self e d p) (in_window self (e ∷ d) p) None refl
       ∙ leaves_view (view_of self d) (view_of self (e ∷ d)) (low_of self (e ∷ d)) p (slot_at self d p) (omega (arith, c.0, c.1))
 
   pub vote_emptied : (m : ViewChange) (d : History) → Arises self (Stamped (stamped.ViewChange m) ∷ d) → (h p : ℕ)
       → vote_at self (Stamped (stamped.ViewChange m) ∷ d) h p ≡ open_vote_now (Stamped (stamped.ViewChange m) ∷ d) h p
   vote_emptied m d a h p =
       let e : Entry = Stamped (stamped.ViewChange m) in
-      let c = view_changed self on m d a in
-      vote_behind self on e d a h p
+      let c = view_changed self m d a in
+      vote_behind self e d a h p
       ∙ ap (λ x. option_or x (open_vote_now (e ∷ d) h p)) (leaves_view (view_of self d) (view_of self (e ∷ d)) (low_of self (e ∷ d)) p (vote_at self d h p) (omega (arith, c.0, c.1)))

@@ -6,7 +6,6 @@ use Rattle.mb_parts.specs.Ordered.{initial_floor}
 use Rattle.mb_gate.specs.declared.gate.Gate.{Gate}
 use Rattle.mb_gate.specs.SenderLogs.{log_from}
 use Rattle.mb_gate.specs.Represents.{Represents as GateRepresents}
-use Rattle.mb_model.specs.Built.{everything}
 use Rattle.mb_model.specs.Plans.{no_base}
 use Rattle.mb_model.specs.Service.{start}
 use Rattle.mb_model.specs.Histories.{Identity, origin, taken_of, closed_at, stamped, counter_of}
@@ -79,14 +78,13 @@ module _ {S : Type 0} (self : Identity S) where
 
   -- ---- all of them
 
-  pub stands_begin : (t : Tables S) → self.built ≡ everything → IsNew self t → Stand self t []
-  stands_begin t whole new = record {
-    whole = whole;
-    sound = begins_sound self (ap (λ b. b.order) whole);
+  pub stands_begin : (t : Tables S) → IsNew self t → Stand self t []
+  stands_begin t new = record {
+    sound = begins_sound self;
     counter = new.counter ∙ counter_begins;
     gates = gates_begin t.gates new.gates_count new.gates;
     log = log_begins t.log new.log;
-    normal = normal_begins self (ap (λ b. b.order) whole) t.normal new.normal;
+    normal = normal_begins self t.normal new.normal;
     change = change_begins t.change new.change;
     stable = new.stable ∙ certificate_begins;
     exec = new.exec ∙ executed_begins;

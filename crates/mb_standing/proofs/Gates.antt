@@ -20,7 +20,6 @@ use Rattle.mb_gate.specs.Answers.{next_of, convicted_or, answer, may_jump}
 use Rattle.mb_gate.proofs.InnerAside.{permitted_whatever}
 use Rattle.mb_gate.specs.Marks.{is_stamped_kind}
 use Rattle.mb_gate.specs.Represents.{Represents}
-use Rattle.mb_model.specs.Built.{everything}
 use Rattle.mb_model.specs.Histories.{Entry, Accepted, Stamped, Jumped, Closed, History, Identity, gate as gate_of, here, closed_at, floor_below}
 use Rattle.mb_model.specs.Sending.{Progress, begin, write, next_of as next_in}
 use Rattle.mb_model.specs.GateChecks.{valid, gate_refusal}
@@ -106,25 +105,25 @@ module _ {S : Type 0} (self : Identity S) where
   by_other m g other = rw (again_stamped m, not_by m g other) refl
 
   -- A message is taken.
-  pub gate_taken : self.built ≡ everything → (gates : List Gate) (d : History) (m : StampedMessage) (mark : Mark) (old new : Gate) → stamped_refusal self d m ≡ None → Marks mark m
+  pub gate_taken : (gates : List Gate) (d : History) (m : StampedMessage) (mark : Mark) (old new : Gate) → stamped_refusal self d m ≡ None → Marks mark m
       → slice_get gates (ui_of m).host ≡ Some old → Follows old mark new → GatesStand self gates d → GatesStand self (set gates (ui_of m).host new) (Accepted (as_message m) ∷ d)
-  gate_taken whole gates d m mark old new passed marks there follows g =
+  gate_taken gates d m mark old new passed marks there follows g =
       let h : ℕ = (ui_of m).host in
       let inner : Bool = inner_valid self.shape (valid self) (bare_of m) in
       let next : answer (log_of self d h) (bare_of m) mark.counter inner ≡ offer.Next =
-      ap (λ n. answer (log_of self d h) (bare_of m) n inner) marks.counter ∙ taken_next self (ap (λ b. b.order) whole) d m (passes_stamped self d m passed).gate in
+      ap (λ n. answer (log_of self d h) (bare_of m) n inner) marks.counter ∙ taken_next self d m (passes_stamped self d m passed).gate in
       gate_moves gates (Accepted (as_message m)) d h old new there (by_other m)
       (subst (λ (l : SenderLog). Represents new l) (sym (log_follows self (Accepted (as_message m)) d m (again_stamped m)))
       (follows (log_of self d h) (bare_of m) inner (g.each h old there) marks.says next)) g
 
   -- This host's own gate takes what it stamps.
-  pub gate_stamped : self.built ≡ everything → (gates : List Gate) (d : History) (m : StampedMessage) (mark : Mark) (old new : Gate) → IsSound self d → Adds self d (Stamped m) → Marks mark m
+  pub gate_stamped : (gates : List Gate) (d : History) (m : StampedMessage) (mark : Mark) (old new : Gate) → IsSound self d → Adds self d (Stamped m) → Marks mark m
       → slice_get gates self.host ≡ Some old → Follows old mark new → GatesStand self gates d → GatesStand self (set gates self.host new) (Stamped m ∷ d)
-  gate_stamped whole gates d m mark old new sound makes marks there follows g =
+  gate_stamped gates d m mark old new sound makes marks there follows g =
       let own : (ui_of m).host ≡ self.host = own_sender self d m makes in
       let inner : Bool = inner_valid self.shape (valid self) (bare_of m) in
       let next : answer (log_of self d self.host) (bare_of m) mark.counter inner ≡ offer.Next =
-      ap (λ n. answer (log_of self d self.host) (bare_of m) n inner) marks.counter ∙ own_next self (ap (λ b. b.order) whole) d m sound.gates (makes, sound.arises) in
+      ap (λ n. answer (log_of self d self.host) (bare_of m) n inner) marks.counter ∙ own_next self d m sound.gates (makes, sound.arises) in
       let taken : log_of self (Stamped m ∷ d) self.host ≡ record (log_of self d self.host) { taken = bare_of m ∷ (log_of self d self.host).taken } =
       subst (λ (k : ℕ). log_of self (Stamped m ∷ d) k ≡ record (log_of self d k) { taken = bare_of m ∷ (log_of self d k).taken }) own (log_follows self (Stamped m) d m refl) in
       gate_moves gates (Stamped m) d self.host old new there (λ k other. rw (not_by m k (λ e. other (e ∙ own))) refl)
@@ -172,12 +171,12 @@ module _ {S : Type 0} (self : Identity S) where
   -- ---- what they answer
 
   -- The gate of its sender refuses a message as the history does.
-  pub gate_refuses : self.built ≡ everything → (d : History) (m : StampedMessage) (mark : Mark) (gate : Gate) (o : Offer) → Represents gate (log_of self d (ui_of m).host) → Marks mark m
+  pub gate_refuses : (d : History) (m : StampedMessage) (mark : Mark) (gate : Gate) (o : Offer) → Represents gate (log_of self d (ui_of m).host) → Marks mark m
       → Judges gate mark (inner_valid self.shape (valid self) (bare_of m)) o → gate_refusal self d m ≡ refusal_of o
-  gate_refuses whole d m mark gate o stands marks judges =
+  gate_refuses d m mark gate o stands marks judges =
       let h : ℕ = (ui_of m).host in
       let inner : Bool = inner_valid self.shape (valid self) (bare_of m) in
-      refuses_as self (ap (λ b. b.order) whole) d m
+      refuses_as self d m
       ∙ sym (ap refusal_of (judges (log_of self d h) (bare_of m) stands marks.says ∙ ap (λ n. answer (log_of self d h) (bare_of m) n inner) marks.counter))
 
   -- What it answers to a message whose certificates are taken for valid is its answer, unless the message is next then.
@@ -193,9 +192,9 @@ module _ {S : Type 0} (self : Identity S) where
   same_answer None false false next rule false true more refused = absurd (refused refl)
   same_answer None false false next rule false false more refused = refl
 
-  pub gate_refuses_early : self.built ≡ everything → (d : History) (m : StampedMessage) (mark : Mark) (gate : Gate) (o : Offer) → Represents gate (log_of self d (ui_of m).host) → Marks mark m
+  pub gate_refuses_early : (d : History) (m : StampedMessage) (mark : Mark) (gate : Gate) (o : Offer) → Represents gate (log_of self d (ui_of m).host) → Marks mark m
       → Judges gate mark true o → (o ≡ offer.Next → ⊥) → gate_refusal self d m ≡ refusal_of o
-  gate_refuses_early whole d m mark gate o stands marks judges refused =
+  gate_refuses_early d m mark gate o stands marks judges refused =
       let log : SenderLog = log_of self d (ui_of m).host in
       let inner : Bool = inner_valid self.shape (valid self) (bare_of m) in
       let counter : ℕ = (ui_of m).counter in
@@ -203,7 +202,7 @@ module _ {S : Type 0} (self : Identity S) where
       let same : answer log (bare_of m) counter inner ≡ answer log (bare_of m) counter true =
       same_answer (shut_before log.closed counter) (nat_le counter (standing log).counter) (nat_lt ((standing log).counter + 1) counter) (next_of log) (rule_of (bare_of m))
       (may_stand log inner (bare_of m)) (may_stand log true (bare_of m)) (permitted_whatever log.from log.shape log.sender (λ b. inner) log.taken (bare_of m)) (λ e. refused (is ∙ e)) in
-      refuses_as self (ap (λ b. b.order) whole) d m ∙ ap refusal_of (same ∙ sym is)
+      refuses_as self d m ∙ ap refusal_of (same ∙ sym is)
 
   -- where its host stands, and the counter that it waits for
   pub gate_stands : (d : History) (h : ℕ) (gate : Gate) (floor : Floor) → Represents gate (log_of self d h) → StandsAt gate floor → floor ≡ gate_of d h

@@ -19,7 +19,7 @@ use Rattle.mb_model.specs.Stable.{stable_of, further, checkpoint_of}
 use Rattle.mb_model.specs.Stable.{low_of as low_in}
 use Rattle.mb_model.specs.Positions.{in_window, slot_in, vote_of}
 use Rattle.mb_model.specs.Execution.{pending, if_above}
-use Rattle.mb_model.proofs.EarlyHistories.{or_nothing}
+use Rattle.mb_model.proofs.Options.{or_nothing}
 use Rattle.mb_model.proofs.StepArises.{Arises}
 use Rattle.mb_model.proofs.StepPotential.{not_above}
 use Rattle.mb_searches.specs.Speaks.{changes_view, speaks_of_stable, speaks_of_slots, speaks_of_votes, speaks_of_checkpoints, speaks_of_positions}
@@ -280,7 +280,7 @@ module _ (s : Shape) (host : ℕ) (x : Searches) (numbers : ℕ → ℕ) where
 
 -- ---- behind an entry
 
-module _ {S : Type 0} (self : Identity S) (on : self.built.order ≡ true) where
+module _ {S : Type 0} (self : Identity S) where
   -- At first the tables are empty.
   pub normal_begins : (t : Normal) → Represents self.shape self.host t (nothing_above 0) → NormalStands self t []
   unfolding stable_of slot_in vote_of pending checkpoint_of
@@ -295,7 +295,7 @@ module _ {S : Type 0} (self : Identity S) (on : self.built.order ≡ true) where
   -- An entry that doesn't speak of positions leaves the tables.
   pub normal_stays : (e : Entry) (d : History) (t : Normal) → Arises self (e ∷ d) → speaks_of_positions e ≡ false → NormalStands self t d → NormalStands self t (e ∷ d)
   normal_stays e d t a s st =
-      let same = positions_left self on e d a s in
+      let same = positions_left self e d a s in
       stands_alike self.shape self.host t (searches_in self d) (searches_in self (e ∷ d)) st (record {
         low = same.low;
         slots = same.slots;
@@ -314,7 +314,7 @@ module _ {S : Type 0} (self : Identity S) (on : self.built.order ≡ true) where
       (checkpoints : speaks_of_checkpoints e ≡ false) where
     requests_alone : (f : ℕ → Option Request) → ((c : ℕ) → c < client_count self.shape → pending self (e ∷ d) c ≡ f c) → Alike self.shape (record (searches_in self d) { pending = f }) (searches_in self (e ∷ d))
     requests_alone f is =
-        let view = view_stays self on e d a stays in
+        let view = view_stays self e d a stays in
         let low = low_stays self e d stable in
         record {
           low = low;

@@ -30,7 +30,7 @@ use Rattle.mb_model.specs.EnabledRules.{Rule, Open as OpenAt, is_evidence_of, op
 use Rattle.mb_model.proofs.Options.{if_some, or_some}
 use Rattle.mb_model.specs.Stable.{low_of, stable_of, further, plan_base}
 use Rattle.mb_model.specs.Positions.{position_limit, in_window, vote_at, slot_vote, batch_from, slot_of_plan, slot_of_open, open_vote, counts_opens}
-use Rattle.mb_model.proofs.EarlyHistories.{or_nothing}
+use Rattle.mb_model.proofs.Options.{or_nothing}
 use Rattle.mb_model.proofs.StepArises.{Arises}
 use Rattle.mb_model.proofs.StepPotential.{not_above}
 use Rattle.mb_searches.specs.Speaks.{changes_view, speaks_of_slots, speaks_of_requests, speaks_of_checkpoints, speaks_of_opened}
@@ -319,72 +319,71 @@ module _ {S : Type 0} (self : Identity S) where
 
   -- ---- behind an entry: the raise comes first, and then all OPENs are counted
 
-  module _ (on : self.built.order ≡ true) where
-    raised_for : (e : Entry) (d : History) (c : Option StableCert) (t new : Normal) → stable_of self (e ∷ d) ≡ further (stable_of self d) c → Learns (stable_of self d) c t new → NormalStands self t d
-        → Represents self.shape self.host new (above_raise self e d)
-    raised_for e d c t new is learns st =
-        subst (λ (y : StableCert). Represents self.shape self.host new (above_low (searches_in self d) y.pos)) (sym is) (raised_where_above self.shape self.host t (searches_in self d) st new (stable_of self d) c refl learns)
+  raised_for : (e : Entry) (d : History) (c : Option StableCert) (t new : Normal) → stable_of self (e ∷ d) ≡ further (stable_of self d) c → Learns (stable_of self d) c t new → NormalStands self t d
+      → Represents self.shape self.host new (above_raise self e d)
+  raised_for e d c t new is learns st =
+      subst (λ (y : StableCert). Represents self.shape self.host new (above_low (searches_in self d) y.pos)) (sym is) (raised_where_above self.shape self.host t (searches_in self d) st new (stable_of self d) c refl learns)
 
-    -- What is learnt is the certificate of the base of a plan that comes to be held.
-    pub new_view_raised : (m : NewView) (d : History) (t new : Normal) → Learns (stable_of self d) (plan_base (if is_current self d m.view then plan_in_new_view self m else None)) t new → NormalStands self t d
-        → Represents self.shape self.host new (above_raise self (Accepted (message.NewView m)) d)
-    new_view_raised m d t new learns st = raised_for (Accepted (message.NewView m)) d (plan_base (if is_current self d m.view then plan_in_new_view self m else None)) t new (stable_of_plan self m d) learns st
+  -- What is learnt is the certificate of the base of a plan that comes to be held.
+  pub new_view_raised : (m : NewView) (d : History) (t new : Normal) → Learns (stable_of self d) (plan_base (if is_current self d m.view then plan_in_new_view self m else None)) t new → NormalStands self t d
+      → Represents self.shape self.host new (above_raise self (Accepted (message.NewView m)) d)
+  new_view_raised m d t new learns st = raised_for (Accepted (message.NewView m)) d (plan_base (if is_current self d m.view then plan_in_new_view self m else None)) t new (stable_of_plan self m d) learns st
 
-    pub own_new_view_raised : (m : NewView) (d : History) (t new : Normal) → Learns (stable_of self d) (plan_base (plan_in_new_view self m)) t new → NormalStands self t d
-        → Represents self.shape self.host new (above_raise self (Stamped (stamped.NewView m)) d)
-    own_new_view_raised m d t new learns st = raised_for (Stamped (stamped.NewView m)) d (plan_base (plan_in_new_view self m)) t new (own_stable_of_plan self m d) learns st
+  pub own_new_view_raised : (m : NewView) (d : History) (t new : Normal) → Learns (stable_of self d) (plan_base (plan_in_new_view self m)) t new → NormalStands self t d
+      → Represents self.shape self.host new (above_raise self (Stamped (stamped.NewView m)) d)
+  own_new_view_raised m d t new learns st = raised_for (Stamped (stamped.NewView m)) d (plan_base (plan_in_new_view self m)) t new (own_stable_of_plan self m d) learns st
 
-    pub open_raised : (m : Open) (d : History) (t new : Normal) → Learns (stable_of self d) (plan_base (if gives_plan self d (plan_held self d) m.evidence then plan_in_open m else None)) t new → NormalStands self t d
-        → Represents self.shape self.host new (above_raise self (Accepted (message.Open m)) d)
-    open_raised m d t new learns st = raised_for (Accepted (message.Open m)) d (plan_base (if gives_plan self d (plan_held self d) m.evidence then plan_in_open m else None)) t new (stable_of_opened self m d) learns st
+  pub open_raised : (m : Open) (d : History) (t new : Normal) → Learns (stable_of self d) (plan_base (if gives_plan self d (plan_held self d) m.evidence then plan_in_open m else None)) t new → NormalStands self t d
+      → Represents self.shape self.host new (above_raise self (Accepted (message.Open m)) d)
+  open_raised m d t new learns st = raised_for (Accepted (message.Open m)) d (plan_base (if gives_plan self d (plan_held self d) m.evidence then plan_in_open m else None)) t new (stable_of_opened self m d) learns st
 
-    module _ (e : Entry) (d : History) (a : Arises self (e ∷ d)) (counts : counts_opens e ≡ true) (stays : changes_view e ≡ false) (slots : speaks_of_slots e ≡ false) (requests : speaks_of_requests e ≡ false)
-        (checkpoints : speaks_of_checkpoints e ≡ false) where
-      all_counted : AreOpens self.shape (e ∷ d) → (t : Normal) → Represents self.shape self.host t (counting (above_raise self e d) (open_votes self (e ∷ d)) (hosts_below (host_count self.shape))) → NormalStands self t (e ∷ d)
-      all_counted opens t st =
-          stands_alike self.shape self.host t (counting (above_raise self e d) (open_votes self (e ∷ d)) (λ h p. true)) (searches_in self (e ∷ d))
-          (counting_ends self.shape self.host (above_raise self e d) (open_votes self (e ∷ d)) t (host_count self.shape) (no_host (e ∷ d) opens) st) (record {
-            low = refl;
-            slots = λ p. slot_raised self on e d a stays slots p;
-            votes = λ h p. opens_counted self on e d a counts stays h p;
-            pending = λ c lt. requests_stay self e d c requests;
-            checkpoints = λ h n lt le. checkpoints_stay self e d h (n * interval self.shape) checkpoints;
-          })
-
-    pub new_view_counted : (m : NewView) (d : History) (t : Normal) → Arises self (Accepted (message.NewView m) ∷ d) → AreOpens self.shape (Accepted (message.NewView m) ∷ d)
-        → Represents self.shape self.host t (counting (above_raise self (Accepted (message.NewView m)) d) (open_votes self (Accepted (message.NewView m) ∷ d)) (hosts_below (host_count self.shape)))
-        → NormalStands self t (Accepted (message.NewView m) ∷ d)
-    new_view_counted m d t a opens st = all_counted (Accepted (message.NewView m)) d a refl refl refl refl refl opens t st
-
-    pub own_new_view_counted : (m : NewView) (d : History) (t : Normal) → Arises self (Stamped (stamped.NewView m) ∷ d) → AreOpens self.shape (Stamped (stamped.NewView m) ∷ d)
-        → Represents self.shape self.host t (counting (above_raise self (Stamped (stamped.NewView m)) d) (open_votes self (Stamped (stamped.NewView m) ∷ d)) (hosts_below (host_count self.shape)))
-        → NormalStands self t (Stamped (stamped.NewView m) ∷ d)
-    own_new_view_counted m d t a opens st = all_counted (Stamped (stamped.NewView m)) d a refl refl refl refl refl opens t st
-
-    pub open_counted : (m : Open) (d : History) (t : Normal) → Arises self (Accepted (message.Open m) ∷ d) → AreOpens self.shape (Accepted (message.Open m) ∷ d)
-        → Represents self.shape self.host t (counting (above_raise self (Accepted (message.Open m)) d) (open_votes self (Accepted (message.Open m) ∷ d)) (hosts_below (host_count self.shape)))
-        → NormalStands self t (Accepted (message.Open m) ∷ d)
-    open_counted m d t a opens st = all_counted (Accepted (message.Open m)) d a refl refl refl refl refl opens t st
-
-    -- ---- behind the own VIEW_CHANGE: all is cleared first
-
-    pub change_cleared : (d : History) (t new : Normal) → Becomes t new without_votes → NormalStands self t d → Represents self.shape self.host new (without_votes (searches_in self d))
-    change_cleared d t new becomes st = becomes self.shape self.host (searches_in self d) st
-
-    pub change_counted : (m : ViewChange) (d : History) (t : Normal) → Arises self (Stamped (stamped.ViewChange m) ∷ d) → AreOpens self.shape (Stamped (stamped.ViewChange m) ∷ d)
-        → Represents self.shape self.host t (counting (without_votes (searches_in self d)) (open_votes self (Stamped (stamped.ViewChange m) ∷ d)) (hosts_below (host_count self.shape)))
-        → NormalStands self t (Stamped (stamped.ViewChange m) ∷ d)
-    change_counted m d t a opens st =
-        let e : Entry = Stamped (stamped.ViewChange m) in
-        let x : Searches = without_votes (searches_in self d) in
-        stands_alike self.shape self.host t (counting x (open_votes self (e ∷ d)) (λ h p. true)) (searches_in self (e ∷ d))
-        (counting_ends self.shape self.host x (open_votes self (e ∷ d)) t (host_count self.shape) (no_host (e ∷ d) opens) st) (record {
-          low = low_stays self e d refl;
-          slots = λ p. slot_emptied self on m d a p;
-          votes = λ h p. vote_emptied self on m d a h p;
-          pending = λ c lt. requests_stay self e d c refl;
-          checkpoints = λ h n lt le. checkpoints_stay self e d h (n * interval self.shape) refl;
+  module _ (e : Entry) (d : History) (a : Arises self (e ∷ d)) (counts : counts_opens e ≡ true) (stays : changes_view e ≡ false) (slots : speaks_of_slots e ≡ false) (requests : speaks_of_requests e ≡ false)
+      (checkpoints : speaks_of_checkpoints e ≡ false) where
+    all_counted : AreOpens self.shape (e ∷ d) → (t : Normal) → Represents self.shape self.host t (counting (above_raise self e d) (open_votes self (e ∷ d)) (hosts_below (host_count self.shape))) → NormalStands self t (e ∷ d)
+    all_counted opens t st =
+        stands_alike self.shape self.host t (counting (above_raise self e d) (open_votes self (e ∷ d)) (λ h p. true)) (searches_in self (e ∷ d))
+        (counting_ends self.shape self.host (above_raise self e d) (open_votes self (e ∷ d)) t (host_count self.shape) (no_host (e ∷ d) opens) st) (record {
+          low = refl;
+          slots = λ p. slot_raised self e d a stays slots p;
+          votes = λ h p. opens_counted self e d a counts stays h p;
+          pending = λ c lt. requests_stay self e d c requests;
+          checkpoints = λ h n lt le. checkpoints_stay self e d h (n * interval self.shape) checkpoints;
         })
+
+  pub new_view_counted : (m : NewView) (d : History) (t : Normal) → Arises self (Accepted (message.NewView m) ∷ d) → AreOpens self.shape (Accepted (message.NewView m) ∷ d)
+      → Represents self.shape self.host t (counting (above_raise self (Accepted (message.NewView m)) d) (open_votes self (Accepted (message.NewView m) ∷ d)) (hosts_below (host_count self.shape)))
+      → NormalStands self t (Accepted (message.NewView m) ∷ d)
+  new_view_counted m d t a opens st = all_counted (Accepted (message.NewView m)) d a refl refl refl refl refl opens t st
+
+  pub own_new_view_counted : (m : NewView) (d : History) (t : Normal) → Arises self (Stamped (stamped.NewView m) ∷ d) → AreOpens self.shape (Stamped (stamped.NewView m) ∷ d)
+      → Represents self.shape self.host t (counting (above_raise self (Stamped (stamped.NewView m)) d) (open_votes self (Stamped (stamped.NewView m) ∷ d)) (hosts_below (host_count self.shape)))
+      → NormalStands self t (Stamped (stamped.NewView m) ∷ d)
+  own_new_view_counted m d t a opens st = all_counted (Stamped (stamped.NewView m)) d a refl refl refl refl refl opens t st
+
+  pub open_counted : (m : Open) (d : History) (t : Normal) → Arises self (Accepted (message.Open m) ∷ d) → AreOpens self.shape (Accepted (message.Open m) ∷ d)
+      → Represents self.shape self.host t (counting (above_raise self (Accepted (message.Open m)) d) (open_votes self (Accepted (message.Open m) ∷ d)) (hosts_below (host_count self.shape)))
+      → NormalStands self t (Accepted (message.Open m) ∷ d)
+  open_counted m d t a opens st = all_counted (Accepted (message.Open m)) d a refl refl refl refl refl opens t st
+
+  -- ---- behind the own VIEW_CHANGE: all is cleared first
+
+  pub change_cleared : (d : History) (t new : Normal) → Becomes t new without_votes → NormalStands self t d → Represents self.shape self.host new (without_votes (searches_in self d))
+  change_cleared d t new becomes st = becomes self.shape self.host (searches_in self d) st
+
+  pub change_counted : (m : ViewChange) (d : History) (t : Normal) → Arises self (Stamped (stamped.ViewChange m) ∷ d) → AreOpens self.shape (Stamped (stamped.ViewChange m) ∷ d)
+      → Represents self.shape self.host t (counting (without_votes (searches_in self d)) (open_votes self (Stamped (stamped.ViewChange m) ∷ d)) (hosts_below (host_count self.shape)))
+      → NormalStands self t (Stamped (stamped.ViewChange m) ∷ d)
+  change_counted m d t a opens st =
+      let e : Entry = Stamped (stamped.ViewChange m) in
+      let x : Searches = without_votes (searches_in self d) in
+      stands_alike self.shape self.host t (counting x (open_votes self (e ∷ d)) (λ h p. true)) (searches_in self (e ∷ d))
+      (counting_ends self.shape self.host x (open_votes self (e ∷ d)) t (host_count self.shape) (no_host (e ∷ d) opens) st) (record {
+        low = low_stays self e d refl;
+        slots = λ p. slot_emptied self m d a p;
+        votes = λ h p. vote_emptied self m d a h p;
+        pending = λ c lt. requests_stay self e d c refl;
+        checkpoints = λ h n lt le. checkpoints_stay self e d h (n * interval self.shape) refl;
+      })
 
 -- ---- the own OPEN
 
@@ -562,13 +561,13 @@ module _ {S : Type 0} (self : Identity S) where
         found (f ∙ same)
 
   -- All was carried on.
-  pub open_carried : self.built.order ≡ true → (m : Open) (d : History) (t : Normal) → Arises self (Stamped (stamped.Open m) ∷ d)
+  pub open_carried : (m : Open) (d : History) (t : Normal) → Arises self (Stamped (stamped.Open m) ∷ d)
       → Represents self.shape self.host t (carrying self.host (searches_in self d) (open_slots self m d) (λ p. true)) → NormalStands self t (Stamped (stamped.Open m) ∷ d)
-  open_carried on m d t a st =
+  open_carried m d t a st =
       stands_alike self.shape self.host t (carrying self.host (searches_in self d) (open_slots self m d) (λ p. true)) (searches_in self (Stamped (stamped.Open m) ∷ d)) st
-      (positions_alone self on (Stamped (stamped.Open m)) d a refl refl refl refl (carrying self.host (searches_in self d) (open_slots self m d) (λ p. true)).slots (carrying self.host (searches_in self d) (open_slots self m d) (λ p. true)).votes
-      (λ p. own_open_slots self on m d a p)
-      (λ h p. own_open_votes self on m d a h p ∙ ap (option_or (vote_at self d h p)) (by_case (in_window self d p) (self.host == h) (slot_of_open m (view_of self d) p)))) where
+      (positions_alone self (Stamped (stamped.Open m)) d a refl refl refl refl (carrying self.host (searches_in self d) (open_slots self m d) (λ p. true)).slots (carrying self.host (searches_in self d) (open_slots self m d) (λ p. true)).votes
+      (λ p. own_open_slots self m d a p)
+      (λ h p. own_open_votes self m d a h p ∙ ap (option_or (vote_at self d h p)) (by_case (in_window self d p) (self.host == h) (slot_of_open m (view_of self d) p)))) where
         by_case : (inside mine : Bool) (o : Option KnownSlot) → (if inside then (if mine then option_map slot_vote o else None) else None) ≡ (if mine then option_map slot_vote (if inside then o else None) else None)
         by_case true mine o = refl
         by_case false true o = refl

@@ -116,7 +116,7 @@ module _ {S : Type 0} (self : Identity S) where
   in_view : (d : History) (view p : ℕ) → counts_at self d view p ≡ true → ((view == view_of self d) ≡ true) × (in_window self d p ≡ true)
   in_view d view p e = let a = and_parts (view_of self d == view) (in_window self d p) e in (turned view (view_of self d) ∙ a.0, a.1)
 
-module _ {S : Type 0} (self : Identity S) (on : self.built.order ≡ true) where
+module _ {S : Type 0} (self : Identity S) where
   -- ---- one slot, and one vote
 
   module _ (e : Entry) (d : History) (a : Arises self (e ∷ d)) (stays : changes_view e ≡ false) (stable : speaks_of_stable e ≡ false) (requests : speaks_of_requests e ≡ false)
@@ -131,26 +131,26 @@ module _ {S : Type 0} (self : Identity S) (on : self.built.order ≡ true) where
       checkpoints = λ h n lt le. checkpoints_stay self e d h (n * interval self.shape) checkpoints;
     }
 
-    first_slot : (view pos : ℕ) (k : KnownSlot) → SaysSlot self on e view pos k → counts_at self d view pos ≡ true → (p : ℕ) → slot_at self (e ∷ d) p ≡ (with_first_slot self.shape (searches_in self d) pos k).slots p
+    first_slot : (view pos : ℕ) (k : KnownSlot) → SaysSlot self e view pos k → counts_at self d view pos ≡ true → (p : ℕ) → slot_at self (e ∷ d) p ≡ (with_first_slot self.shape (searches_in self d) pos k).slots p
     first_slot view pos k says counts p =
         let c = in_view self d view pos counts in
-        slot_more self on e d a stays stable p ∙ ap (option_or (slot_at self d p))
+        slot_more self e d a stays stable p ∙ ap (option_or (slot_at self d p))
         (ap (λ (o : Option KnownSlot). if in_window self d p then o else None) (says (view_of self d) p ∙ ap (λ b. if view == view_of self d && b then Some k else None) (turned pos p))
         ∙ counted_place (in_window self d p) (view == view_of self d) (has_place self.shape (searches_in self d) pos) (p == pos) k c.0 (window_has_place self d pos c.1)
         (λ same. ap (in_window self d) (eqb-true p pos same) ∙ c.1))
 
-    first_vote : counts_opens e ≡ false → (host view pos : ℕ) (x : Vote) → SaysVote self on e host view pos x → counts_at self d view pos ≡ true
+    first_vote : counts_opens e ≡ false → (host view pos : ℕ) (x : Vote) → SaysVote self e host view pos x → counts_at self d view pos ≡ true
         → (h p : ℕ) → vote_at self (e ∷ d) h p ≡ (with_first_vote self.shape (searches_in self d) pos host x).votes h p
     first_vote opens host view pos x says counts h p =
         let c = in_view self d view pos counts in
-        vote_more self on e d a stays stable opens h p ∙ ap (option_or (vote_at self d h p))
+        vote_more self e d a stays stable opens h p ∙ ap (option_or (vote_at self d h p))
         (ap (λ (o : Option Vote). if in_window self d p then o else None) (says h (view_of self d) p ∙ ap (λ b. if view == view_of self d && (b && host == h) then Some x else None) (turned pos p)
         ∙ ap (λ b. if view == view_of self d && (p == pos && b) then Some x else None) (turned host h))
         ∙ counted_place (in_window self d p) (view == view_of self d) (has_place self.shape (searches_in self d) pos) (p == pos && h == host) x c.0 (window_has_place self d pos c.1)
         (λ same. ap (in_window self d) (eqb-true p pos (and_parts (p == pos) (h == host) same).0) ∙ c.1))
 
     -- both count
-    ordered : counts_opens e ≡ false → (host view pos : ℕ) (k : KnownSlot) (x : Vote) → SaysSlot self on e view pos k → SaysVote self on e host view pos x → counts_at self d view pos ≡ true
+    ordered : counts_opens e ≡ false → (host view pos : ℕ) (k : KnownSlot) (x : Vote) → SaysSlot self e view pos k → SaysVote self e host view pos x → counts_at self d view pos ≡ true
         → (t : Normal) → Represents self.shape self.host t (with_first_slot self.shape (with_first_vote self.shape (searches_in self d) pos host x) pos k) → NormalStands self t (e ∷ d)
     ordered opens host view pos k x slot vote counts t st =
         stands_alike self.shape self.host t (with_first_slot self.shape (with_first_vote self.shape (searches_in self d) pos host x) pos k) (searches_in self (e ∷ d)) st
@@ -158,12 +158,12 @@ module _ {S : Type 0} (self : Identity S) (on : self.built.order ≡ true) where
         (first_slot view pos k slot counts) (first_vote opens host view pos x vote counts))
 
     -- a vote alone counts
-    voted : counts_opens e ≡ false → speaks_of_slots e ≡ false → (host view pos : ℕ) (x : Vote) → SaysVote self on e host view pos x → counts_at self d view pos ≡ true
+    voted : counts_opens e ≡ false → speaks_of_slots e ≡ false → (host view pos : ℕ) (x : Vote) → SaysVote self e host view pos x → counts_at self d view pos ≡ true
         → (t : Normal) → Represents self.shape self.host t (with_first_vote self.shape (searches_in self d) pos host x) → NormalStands self t (e ∷ d)
     voted opens slots host view pos x vote counts t st =
         stands_alike self.shape self.host t (with_first_vote self.shape (searches_in self d) pos host x) (searches_in self (e ∷ d)) st
         (positions_alone (slot_at self d) (with_first_vote self.shape (searches_in self d) pos host x).votes
-        (λ p. slot_at_stays self e d p slots (view_stays self on e d a stays) (low_stays self e d stable)) (first_vote opens host view pos x vote counts))
+        (λ p. slot_at_stays self e d p slots (view_stays self e d a stays) (low_stays self e d stable)) (first_vote opens host view pos x vote counts))
 
   -- ---- PREPARE
 
@@ -171,15 +171,15 @@ module _ {S : Type 0} (self : Identity S) (on : self.built.order ≡ true) where
   pub prepare_counts : (m : Prepare) (d : History) (t voted new : Normal) → Arises self (Accepted (message.Prepare m) ∷ d) → counts_at self d m.view m.pos ≡ true
       → CountsVote t voted m.pos m.ui.host (vote_in_prepare m) → PutsSlot voted new m.pos (slot_in_prepare m) → NormalStands self t d → NormalStands self new (Accepted (message.Prepare m) ∷ d)
   prepare_counts m d t mid new a counts vote slot st =
-      ordered (Accepted (message.Prepare m)) d a refl refl refl refl refl m.ui.host m.view m.pos (slot_in_prepare m) (vote_in_prepare m) (prepare_says self on m) (prepare_votes self on m) counts new
+      ordered (Accepted (message.Prepare m)) d a refl refl refl refl refl m.ui.host m.view m.pos (slot_in_prepare m) (vote_in_prepare m) (prepare_says self m) (prepare_votes self m) counts new
       (slot self.shape self.host (with_first_vote self.shape (searches_in self d) m.pos m.ui.host (vote_in_prepare m)) (vote self.shape self.host (searches_in self d) st))
 
   pub prepare_does_not_count : (m : Prepare) (d : History) (t : Normal) → Arises self (Accepted (message.Prepare m) ∷ d) → counts_at self d m.view m.pos ≡ false → NormalStands self t d → NormalStands self t (Accepted (message.Prepare m) ∷ d)
   prepare_does_not_count m d t a out st =
       let e : Entry = Accepted (message.Prepare m) in
       stands_alike self.shape self.host t (searches_in self d) (searches_in self (e ∷ d)) st (positions_alone e d a refl refl refl refl (slot_at self d) (vote_at self d)
-      (slot_out self on e d a refl refl m.view m.pos (slot_in_prepare m) (prepare_says self on m) out)
-      (vote_out self on e d a refl refl refl m.ui.host m.view m.pos (vote_in_prepare m) (prepare_votes self on m) out))
+      (slot_out self e d a refl refl m.view m.pos (slot_in_prepare m) (prepare_says self m) out)
+      (vote_out self e d a refl refl refl m.ui.host m.view m.pos (vote_in_prepare m) (prepare_votes self m) out))
 
   -- The own one counts where the rule of the primary made it.
   own_prepare_place : (m : Prepare) (d : History) → Arises self (Stamped (stamped.Prepare m) ∷ d) → counts_at self d m.view m.pos ≡ true
@@ -205,7 +205,7 @@ module _ {S : Type 0} (self : Identity S) (on : self.built.order ≡ true) where
   pub own_prepare_counts : (m : Prepare) (d : History) (t put new : Normal) → Arises self (Stamped (stamped.Prepare m) ∷ d) → PutsSlot t put m.pos (slot_in_prepare m)
       → CountsVote put new m.pos self.host (vote_in_prepare m) → NormalStands self t d → NormalStands self new (Stamped (stamped.Prepare m) ∷ d)
   own_prepare_counts m d t mid new a slot vote st =
-      ordered (Stamped (stamped.Prepare m)) d a refl refl refl refl refl self.host m.view m.pos (slot_in_prepare m) (vote_in_prepare m) (own_prepare_says self on m) (own_prepare_votes self on m) (own_prepare_place m d a) new
+      ordered (Stamped (stamped.Prepare m)) d a refl refl refl refl refl self.host m.view m.pos (slot_in_prepare m) (vote_in_prepare m) (own_prepare_says self m) (own_prepare_votes self m) (own_prepare_place m d a) new
       (vote self.shape self.host (with_first_slot self.shape (searches_in self d) m.pos (slot_in_prepare m)) (slot self.shape self.host (searches_in self d) st))
 
   -- ---- COMMIT
@@ -213,14 +213,14 @@ module _ {S : Type 0} (self : Identity S) (on : self.built.order ≡ true) where
   pub commit_counts : (m : Commit) (d : History) (t new : Normal) → Arises self (Accepted (message.Commit m) ∷ d) → counts_at self d m.view m.pos ≡ true → CountsVote t new m.pos m.ui.host (vote_in_commit m) → NormalStands self t d
       → NormalStands self new (Accepted (message.Commit m) ∷ d)
   commit_counts m d t new a counts vote st =
-      voted (Accepted (message.Commit m)) d a refl refl refl refl refl refl m.ui.host m.view m.pos (vote_in_commit m) (commit_votes self on m) counts new (vote self.shape self.host (searches_in self d) st)
+      voted (Accepted (message.Commit m)) d a refl refl refl refl refl refl m.ui.host m.view m.pos (vote_in_commit m) (commit_votes self m) counts new (vote self.shape self.host (searches_in self d) st)
 
   pub commit_does_not_count : (m : Commit) (d : History) (t : Normal) → Arises self (Accepted (message.Commit m) ∷ d) → counts_at self d m.view m.pos ≡ false → NormalStands self t d → NormalStands self t (Accepted (message.Commit m) ∷ d)
   commit_does_not_count m d t a out st =
       let e : Entry = Accepted (message.Commit m) in
       stands_alike self.shape self.host t (searches_in self d) (searches_in self (e ∷ d)) st (positions_alone e d a refl refl refl refl (slot_at self d) (vote_at self d)
-      (λ p. slot_at_stays self e d p refl (view_stays self on e d a refl) (low_stays self e d refl))
-      (vote_out self on e d a refl refl refl m.ui.host m.view m.pos (vote_in_commit m) (commit_votes self on m) out))
+      (λ p. slot_at_stays self e d p refl (view_stays self e d a refl) (low_stays self e d refl))
+      (vote_out self e d a refl refl refl m.ui.host m.view m.pos (vote_in_commit m) (commit_votes self m) out))
 
   -- The own one counts where the rule of a backup made it.
   own_commit_place : (m : Commit) (d : History) → Arises self (Stamped (stamped.Commit m) ∷ d) → counts_at self d m.view m.pos ≡ true
@@ -251,7 +251,7 @@ module _ {S : Type 0} (self : Identity S) (on : self.built.order ≡ true) where
   pub own_commit_counts : (m : Commit) (d : History) (t new : Normal) → Arises self (Stamped (stamped.Commit m) ∷ d) → CountsVote t new m.pos self.host (vote_in_commit m) → NormalStands self t d
       → NormalStands self new (Stamped (stamped.Commit m) ∷ d)
   own_commit_counts m d t new a vote st =
-      voted (Stamped (stamped.Commit m)) d a refl refl refl refl refl refl self.host m.view m.pos (vote_in_commit m) (own_commit_votes self on m) (own_commit_place m d a) new (vote self.shape self.host (searches_in self d) st)
+      voted (Stamped (stamped.Commit m)) d a refl refl refl refl refl refl self.host m.view m.pos (vote_in_commit m) (own_commit_votes self m) (own_commit_place m d a) new (vote self.shape self.host (searches_in self d) st)
 
   -- ---- certificates that others show: JOIN and LOG
 
@@ -262,8 +262,8 @@ module _ {S : Type 0} (self : Identity S) (on : self.built.order ≡ true) where
         → Alike self.shape (record (above_low (searches_in self d) low) { checkpoints = f }) (searches_in self (e ∷ d))
     raised_alike f low is checkpoints = record {
       low = is;
-      slots = λ p. slot_raised self on e d a stays slots p ∙ ap (λ l. above l (slot_at self d) p) is;
-      votes = λ h p. vote_raised self on e d a stays votes h p ∙ ap (λ l. votes_above l (vote_at self d) h p) is;
+      slots = λ p. slot_raised self e d a stays slots p ∙ ap (λ l. above l (slot_at self d) p) is;
+      votes = λ h p. vote_raised self e d a stays votes h p ∙ ap (λ l. votes_above l (vote_at self d) h p) is;
       pending = λ c lt. requests_stay self e d c requests;
       checkpoints = checkpoints;
     }
@@ -357,7 +357,7 @@ module _ {S : Type 0} (self : Identity S) (on : self.built.order ≡ true) where
   pub checkpoint_place : (m : Checkpoint) (d : History) (t : Normal) → Arises self (Accepted (message.Checkpoint m) ∷ d) → nat_le (low_of self d) m.pos ≡ true → NormalStands self t d → IsKeptPlace t.checkpoints m.pos
   unfolding permits
   checkpoint_place m d t a from st =
-      let allowed = a.0.gate.permitted on in
+      let allowed = a.0.gate.permitted in
       let parts = and_parts (m.pos % interval self.shape == 0) (nat_lt (last_checkpoint (origin d m.ui.host) (taken_of d m.ui.host)) m.pos) allowed in
       kept_place self d t m.pos st parts.0 (leb-true (low_of self d) m.pos from) (ltb-false (low_of self d + span self.shape) m.pos a.0.kind)
 

@@ -58,8 +58,7 @@ module _ {S : Type 0} (self : Identity S) where
   -- The entry was added as the rules of a host let it, and behind it each table stands.
   pub stands_behind : (t new : Tables S) (e : Entry) (d : History) → Stand self t d → Adds self d e → MovesGate self e d → EachStands new (e ∷ d) → Stand self new (e ∷ d)
   stands_behind t new e d s adds moves each = record {
-    whole = s.whole;
-    sound = stays_sound self (ap (λ b. b.order) s.whole) e d adds moves s.sound;
+    sound = stays_sound self e d adds moves s.sound;
     counter = each.counter;
     gates = each.gates;
     log = each.log;
@@ -77,7 +76,6 @@ module _ {S : Type 0} (self : Identity S) where
 
   pub stand_lags : (t : Tables S) (d : History) → Stand self t d → StandLags self (low_of self d) t d
   stand_lags t d s = record {
-    whole = s.whole;
     sound = s.sound;
     counter = s.counter;
     gates = s.gates;
@@ -108,8 +106,7 @@ module _ {S : Type 0} (self : Identity S) where
   pub lags_behind : (low : ℕ) (t new : Tables S) (e : Entry) (d : History) → StandLags self low t d → Adds self d e → MovesGate self e d → speaks_of_snapshots e ≡ false → speaks_of_parts e ≡ false
       → new.shelf ≡ t.shelf → new.parts ≡ t.parts → EachFollows new (e ∷ d) → StandLags self low new (e ∷ d)
   lags_behind low t new e d s adds moves no_snapshots no_parts same_shelf same_parts each = record {
-    whole = s.whole;
-    sound = stays_sound self (ap (λ b. b.order) s.whole) e d adds moves s.sound;
+    sound = stays_sound self e d adds moves s.sound;
     counter = each.counter;
     gates = each.gates;
     log = each.log;
@@ -126,7 +123,6 @@ module _ {S : Type 0} (self : Identity S) where
   -- They follow the stable position: snapshots below it go, and parts of a lower one.
   pub lags_follow : (low : ℕ) (t new : Tables S) (d : History) → StandLags self low t d → StandsFrom t.shelf t.stable.pos new.shelf → new ≡ record t { shelf = new.shelf; parts = dropped_below t.stable.pos t.parts } → Stand self new d
   lags_follow low t new d s from is = subst (λ x. Stand self x d) (sym is) (record {
-    whole = s.whole;
     sound = s.sound;
     counter = s.counter;
     gates = s.gates;
@@ -164,7 +160,7 @@ module _ {S : Type 0} (self : Identity S) where
     counter = λ none. own_counter_stays t.counter e d none s.counter;
     gates = λ none. gates_stay self t.gates e d none s.gates;
     log = λ none. own_log_stays self t.log e d none s.log;
-    normal = λ none. normal_stays self (ap (λ b. b.order) s.whole) e d t.normal (adds, s.sound.arises) none s.normal;
+    normal = λ none. normal_stays self e d t.normal (adds, s.sound.arises) none s.normal;
     change = λ none. change_stays self t.change e d none s.change;
     stable = λ none. certificate_stays self t.stable e d none s.stable;
     exec = λ none. executed_stays self t.exec e d none s.exec;

@@ -2,7 +2,6 @@
 -- that.
 use Rattle.std.specs.Prelude.{◌≡◌, ℕ, ◌<◌, ◌≤◌, ◌%◌, ◌&&◌, ◌==◌, nat_lt, nat_le, List, Option, Some, None, if◌then◌else◌}
 use Rattle.mb_base.specs.Shapes.{Bytes, interval}
-use Rattle.mb_model.specs.Built.{everything}
 use Rattle.mb_model.specs.Histories.{History, Identity, counter_of}
 use Rattle.mb_model.specs.Stable.{stable_of, low_of}
 use Rattle.mb_model.specs.Positions.{exec_of}
@@ -46,7 +45,6 @@ module _ {S : Type 0} (self : Identity S) where
 
   -- All other tables stand, and these two lag.
   pub record StandLags (low : ℕ) (t : Tables S) (d : History) : Type 0 where
-    pub whole : self.built ≡ everything
     pub sound : IsSound self d
     pub counter : t.counter ≡ counter_of d
     pub gates : GatesStand self t.gates d

@@ -1,7 +1,6 @@
 -- Each table stands for its searches in a host's history.
 use Rattle.std.specs.Prelude.{◌≡◌, ℕ, List, Option, Some, None, slice_get, length}
 use Rattle.mb_base.specs.Shapes.{host_count}
-use Rattle.mb_model.specs.Built.{everything}
 use Rattle.mb_model.specs.Histories.{History, Identity, stamped, counter_of}
 use Rattle.mb_model.specs.Stable.{stable_of, low_of, log_floor}
 use Rattle.mb_model.specs.OwnLog.{log_longest}
@@ -55,7 +54,6 @@ module _ {S : Type 0} (self : Identity S) where
 
   -- All tables stand for a history to which a host's steps lead.
   pub record Stand (t : Tables S) (d : History) : Type 0 where
-    pub whole : self.built ≡ everything
     pub sound : IsSound self d
     pub counter : t.counter ≡ counter_of d
     pub gates : GatesStand t.gates d

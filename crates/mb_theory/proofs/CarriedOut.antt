@@ -24,7 +24,7 @@ use Rattle.mb_theory.proofs.DueViews.{leaves_view, announces_view, enters_view}
 use Rattle.mb_theory.proofs.DueOpenings.{opens_by_evidence, opens_by_enters, joins_behind, joins_past}
 use Rattle.mb_theory.proofs.DueVotes.{keeps_slots, counts_prepares, counts_commits}
 use Rattle.mb_theory.proofs.PartsHeld.{IsIncomplete, begins_incomplete, incomplete_kept}
-use Rattle.mb_model.proofs.EarlyHistories.{shape_fits}
+use Rattle.mb_model.proofs.ShapesFit.{shape_fits}
 
 -- ---- of one host: what it means that no rule is next
 

@@ -1,5 +1,5 @@
 -- Behind each execution of a multiple of the interval for which there was room stands its CHECKPOINT.
-use Rattle.std.proofs.Common.{◌≡◌, ℕ, Bool, true, false, ◌&&◌, [], ◌∷◌, ◌++◌, refl, sym, ap, subst, inl, inr, ◌⊎◌}
+use Rattle.std.proofs.Common.{◌≡◌, ℕ, Bool, true, false, [], ◌∷◌, ◌++◌, refl, sym, ◌∙◌, ap, subst, inl, inr, ◌⊎◌}
 use Rattle.std.specs.Prelude.{◌==◌, ◌%◌}
 use Rattle.std.proofs.lemmas.Bool.{cases_Bool, eq-eqb}
 use Rattle.mb_base.specs.Shapes.{interval}
@@ -31,30 +31,25 @@ no_slot e slot plain is = let h : is_plain (Executed slot) ≡ true = subst (λ 
 same_slot : (s slot : Slot) → Executed s ≡ Executed slot → s ≡ slot
 same_slot s slot is = cc
 
-not_both : (a b : Bool) → (a && b) ≡ false → a ≡ true → b ≡ true → ⊥
-not_both true true e x y = absurd cc
-not_both true false e x y = absurd cc
-not_both false b e x y = absurd cc
-
 module _ {S : Type 0} (self : Identity S) where
   -- one more entry in front
   further : (d : History) (e : Entry) (later before : History) (slot : Slot) → IsCheckpointed self d later before slot → IsCheckpointed self (e ∷ d) (e ∷ later) before slot
   further d e later before slot c = record { message = c.message; more = e ∷ c.more; follows = ap (λ (l : History). e ∷ l) c.follows; position = c.position; digest = c.digest }
 
   in_front : (e : Entry) (d : History) → ((slot : Slot) → e ≡ Executed slot → ⊥) → StampsCheckpoints self d → StampsCheckpoints self (e ∷ d)
-  in_front e d none all on later before slot is multiple room = elim (split e d later before slot is) [
+  in_front e d none all later before slot is multiple room = elim (split e d later before slot is) [
     | inl (first, same, rest) ↦ absurd (none slot same)
-    | inr (more, first, rest) ↦ subst (λ (l : History). IsCheckpointed self (e ∷ d) l before slot) (sym first) (further d e more before slot (all on more before slot rest multiple room))
+    | inr (more, first, rest) ↦ subst (λ (l : History). IsCheckpointed self (e ∷ d) l before slot) (sym first) (further d e more before slot (all more before slot rest multiple room))
   ]
 
   -- An execution without a CHECKPOINT: between multiples, or without room.
-  alone : (s : Slot) (d : History) → (self.built.checkpoints ≡ true → s.pos % interval self.shape ≡ 0 → HasRoom self (Executed s ∷ d) → ⊥) → StampsCheckpoints self d → StampsCheckpoints self (Executed s ∷ d)
-  alone s d none all on later before slot is multiple room = elim (split (Executed s) d later before slot is) [
+  alone : (s : Slot) (d : History) → (s.pos % interval self.shape ≡ 0 → HasRoom self (Executed s ∷ d) → ⊥) → StampsCheckpoints self d → StampsCheckpoints self (Executed s ∷ d)
+  alone s d none all later before slot is multiple room = elim (split (Executed s) d later before slot is) [
     | inl (first, same, rest) ↦
         let it : s ≡ slot = same_slot s slot same in
-        absurd (none on (subst (λ (x : Slot). x.pos % interval self.shape ≡ 0) (sym it) multiple)
+        absurd (none (subst (λ (x : Slot). x.pos % interval self.shape ≡ 0) (sym it) multiple)
         (subst (λ (x : Slot). HasRoom self (Executed x ∷ d)) (sym it) (subst (λ (l : History). HasRoom self (Executed slot ∷ l)) (sym rest) room)))
-    | inr (more, first, rest) ↦ subst (λ (l : History). IsCheckpointed self (Executed s ∷ d) l before slot) (sym first) (further d (Executed s) more before slot (all on more before slot rest multiple room))
+    | inr (more, first, rest) ↦ subst (λ (l : History). IsCheckpointed self (Executed s ∷ d) l before slot) (sym first) (further d (Executed s) more before slot (all more before slot rest multiple room))
   ]
 
   -- An execution with its CHECKPOINT.
@@ -76,7 +71,7 @@ module _ {S : Type 0} (self : Identity S) where
   }
 
   accompanied : (s : Slot) (d : History) → StampsCheckpoints self d → StampsCheckpoints self (with_its s d)
-  accompanied s d all on later before slot is multiple room =
+  accompanied s d all later before slot is multiple room =
       let c : StampedMessage = signed self (Executed s ∷ d) (checkpoint self (Executed s ∷ d) s.pos) in
       elim (split (Stamped c) (Executed s ∷ d) later before slot is) [
         | inl (first, same, rest) ↦ let no : Stamped c ≡ Executed slot = same in absurd cc
@@ -87,18 +82,18 @@ module _ {S : Type 0} (self : Identity S) where
               (subst (λ (l : History). IsCheckpointed self (with_its s d) (Stamped c ∷ []) l s) behind (stamped_here s d)))
           | inr (others, second, behind) ↦
               subst (λ (l : History). IsCheckpointed self (with_its s d) (Stamped c ∷ l) before slot) (sym second)
-              (further (Executed s ∷ d) (Stamped c) (Executed s ∷ others) before slot (further d (Executed s) others before slot (all on others before slot behind multiple room)))
+              (further (Executed s ∷ d) (Stamped c) (Executed s ∷ others) before slot (further d (Executed s) others before slot (all others before slot behind multiple room)))
         ])
       ]
 
   closed_checks : (pos : ℕ) (x : Progress) → StampsCheckpoints self x.history → StampsCheckpoints self (at_interval self pos (close_slot self pos x)).history
   closed_checks pos x all =
       let s : Slot = slot_for self x.history pos in
-      elim (cases_Bool (self.built.checkpoints && pos % interval self.shape == 0)) [
-        | inr between ↦ rw between (alone s x.history (λ on multiple room. not_both _ _ between on (eq-eqb (pos % interval self.shape) 0 multiple)) all)
+      elim (cases_Bool (pos % interval self.shape == 0)) [
+        | inr between ↦ rw between (alone s x.history (λ multiple room. absurd (let is = eq-eqb (pos % interval self.shape) 0 multiple in let e = sym is ∙ between in cc)) all)
         | inl at ↦ rw at (elim (cases_Bool (has_room self (Executed s ∷ x.history))) [
           | inl room ↦ rw room (accompanied s x.history all)
-          | inr full ↦ rw full (alone s x.history (λ on multiple room. let is = room_is self (Executed s ∷ x.history) room in absurd cc) all)
+          | inr full ↦ rw full (alone s x.history (λ multiple room. let is = room_is self (Executed s ∷ x.history) room in absurd cc) all)
         ])
       ]
 
@@ -108,8 +103,8 @@ module _ {S : Type 0} (self : Identity S) where
       (served_keep self (λ d. StampsCheckpoints self d) (λ p placed d y. in_front (Served p placed) d (λ slot same. absurd cc) y) pos b.requests x all)
 
   pub begins_checkpointed : StampsCheckpoints self []
-  begins_checkpointed on [] before slot is multiple room = absurd cc
-  begins_checkpointed on (e ∷ later) before slot is multiple room = absurd cc
+  begins_checkpointed [] before slot is multiple room = absurd cc
+  begins_checkpointed (e ∷ later) before slot is multiple room = absurd cc
 
   pub checkpoints_kept : IsKept self (λ d. StampsCheckpoints self d)
   checkpoints_kept = record {

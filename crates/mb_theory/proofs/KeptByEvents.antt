@@ -42,8 +42,8 @@ use Rattle.mb_model.specs.EnabledRules as rule
 use Rattle.mb_model.specs.CarriedOut.{placed_in, with_reply, serve_all, slot_for, close_slot, state_strings, with_checkpoint, at_interval, execute, carry_out, run_rules, enough}
 use Rattle.mb_model.specs.Given.{Answer, closing, offer_prepare, named_prepare, casts_vote, accept, give_stamped, give_request, give_wish, give_resend, give_fetch, give_state, install_where_all, jump, floor_shown, go_on, give_entries, give_log, give}
 use Rattle.mb_model.specs.Positions.{is_behind}
-use Rattle.mb_model.specs.HostStep.{on_patience, on_nudge, wish_again, with_fetch, low_rose, finished_where, on_message, on_bytes, if_built, transition}
-use Rattle.mb_model.proofs.Options.{of_both, option_cases}
+use Rattle.mb_model.specs.HostStep.{on_patience, on_nudge, wish_again, with_fetch, low_rose, finished_where, on_message, on_bytes, transition}
+use Rattle.mb_model.proofs.Options.{option_cases}
 use Rattle.mb_theory.proofs.RoomForRules.{HasRoomFor, room_for}
 
 -- Nothing is stamped, nothing executed, and no parts of a state came.
@@ -224,23 +224,17 @@ module _ {S : Type 0} (self : Identity S) (P : History → Type 0) where
     nudge_keeps x p = again_keeps (send (to_all (resend self x.history)) (write Nudged x)) (kept.plain Nudged x.history refl p)
 
     message_keeps : (d : History) (m : Message) → P d → P (on_message self d m).left.history
-    message_keeps d m p = elim (cases_Bool (self.built.kinds (kind_of m))) [
-      | inl acts ↦ rw acts (finished_keeps _ _ d (give self m (begin d)) (give_keeps m (begin d) p))
-      | inr unbuilt ↦ rw unbuilt p
-    ]
+    message_keeps d m p = finished_keeps _ _ d (give self m (begin d)) (give_keeps m (begin d) p)
 
     bytes_keep : (d : History) (r : Result Message ℕ) → P d → P (on_bytes self r d).left.history
     bytes_keep d (Ok m) p = message_keeps d m p
     bytes_keep d (Err at) p = p
 
-    signal_keeps : (d : History) (a : Answer) → P d → P a.left.history → P (if_built self d a).left.history
-    signal_keeps d a before after = of_both (λ (o : Answer). P o.left.history) self.built.signals a _ after before
-
     pub event_keeps : (d : History) (e : Event) → P d → P (transition self d e).left.history
     unfolding transition
     event_keeps d (event.Given bytes) p = bytes_keep d (message_of self.shape bytes) p
-    event_keeps d event.Patience p = signal_keeps d _ p (finished_keeps _ false d (on_patience self (begin d)) (patience_keeps (begin d) p))
-    event_keeps d event.Nudge p = signal_keeps d _ p (finished_keeps true true d (on_nudge self (begin d)) (nudge_keeps (begin d) p))
+    event_keeps d event.Patience p = finished_keeps _ false d (on_patience self (begin d)) (patience_keeps (begin d) p)
+    event_keeps d event.Nudge p = finished_keeps true true d (on_nudge self (begin d)) (nudge_keeps (begin d) p)
 
 -- ---- an execution, by its requests, the slot and the CHECKPOINT that it may bring
 
@@ -268,7 +262,7 @@ module _ {S : Type 0} (self : Identity S) (P : History → Type 0) where
     ]
 
     interval_keeps : (pos : ℕ) (x : Progress) → P x.history → P (at_interval self pos x).history
-    interval_keeps pos x p = elim (cases_Bool (self.built.checkpoints && pos % interval self.shape == 0)) [
+    interval_keeps pos x p = elim (cases_Bool (pos % interval self.shape == 0)) [
       | inl at ↦ rw at (checkpoint_keeps pos (note (state_strings self x.history pos) x) p)
       | inr between ↦ rw between p
     ]

@@ -1,4 +1,4 @@
--- What is proved of hosts after each event, however much of them is built: no rule is left to be carried out, and what follows from that.
+-- What is proved of hosts after each event: no rule is left to be carried out, and what follows from that.
 use Rattle.std.specs.Prelude.{◌≡◌, ℕ, None}
 use Rattle.mb_model.specs.Histories.{History, Identity}
 use Rattle.mb_model.specs.EnabledRules.{change_enabled, announce_enabled, enter_enabled, open_enabled, join_enabled, commit_enabled, execute_enabled, prepare_enabled}

@@ -5,7 +5,6 @@ use Rattle.mb_base.specs.Shapes.{Bytes}
 use Rattle.mb_parts.specs.Fits.{FitsText}
 use Rattle.mb_model.specs.Service.{Machine}
 use Rattle.mb_model.specs.States.{Snapshots, service_parts}
-use Rattle.mb_model.specs.Built.{everything}
 use Rattle.mb_theory.specs.Hashed.{HashesApart}
 use Rattle.mb_sched.specs.Limits.{IsSchedule}
 use Rattle.mb_theory.specs.WorldEvents.{IsCorrect}
@@ -50,7 +49,6 @@ module _ {S : Type 0} (system : System S) where
   abbrev pub HoldsAtEachEvent : Type 0
   HoldsAtEachEvent = (k : ℕ) → k ≤ length system.schedule.events → IsUnstopped system k → HashesApart (world system k).hashed → Promises (world system k)
 
--- For every service and every schedule with at most f faulty hosts and nothing forged, whatever is lost, repeated and reordered, where the
--- whole protocol is built.
+-- For every service and every schedule with at most f faulty hosts and nothing forged, whatever is lost, repeated and reordered.
 abbrev pub HostsStayOne : Type 0 → Type 0
-HostsStayOne S = (system : System S) → system.built ≡ everything → IsService system.machine system.snapshots system.initial → IsSchedule system.schedule → HoldsAtEachEvent system
+HostsStayOne S = (system : System S) → IsService system.machine system.snapshots system.initial → IsSchedule system.schedule → HoldsAtEachEvent system

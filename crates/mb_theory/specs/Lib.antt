@@ -14,4 +14,3 @@ pub mod CarriedOut
 pub mod Safety
 pub mod Bounds
 pub mod Headline
-pub mod FirstPath

@@ -30,7 +30,6 @@ use Rattle.mb_model.specs.Service.{batch_of, is_fresh}
 use Rattle.mb_model.specs.Votes.{is_vote}
 use Rattle.mb_model.specs.States.{state_digest}
 use Rattle.mb_model.specs.Plans.{are_of_plan}
-use Rattle.mb_model.specs.Built.{everything}
 use Rattle.mb_model.specs.Histories.{History, counter_of, Accepted, Stamped, Executed, Identity, here, view_of, is_open, is_entered, is_changing, is_primary}
 use Rattle.mb_model.specs.Held.{wish_of, changes_of, new_view_of, evidence_of, plan_held, enters_for, opened_by}
 use Rattle.mb_model.specs.Stable.{low_of}
@@ -126,9 +125,9 @@ module _ {S : Type 0} (self : Identity S) (d : History) where
     pub position : message.pos ≡ slot.pos
     pub digest : message.state ≡ state_digest (present_parts self (Executed slot ∷ before)) slot.pos
 
-  -- Where CHECKPOINTs are built: when a multiple of the interval was executed, and there was room at that moment, one was stamped.
+  -- When a multiple of the interval was executed, and there was room at that moment, one was stamped.
   abbrev pub StampsCheckpoints : Type 0
-  StampsCheckpoints = self.built.checkpoints ≡ true → (later before : History) (slot : Slot) → d ≡ later ++ Executed slot ∷ before → slot.pos % interval self.shape ≡ 0
+  StampsCheckpoints = (later before : History) (slot : Slot) → d ≡ later ++ Executed slot ∷ before → slot.pos % interval self.shape ≡ 0
       → HasRoom self (Executed slot ∷ before) → IsCheckpointed later before slot
 
   -- ---- the change of the view
@@ -296,6 +295,6 @@ module _ {S : Type 0} (self : Identity S) (d : History) where
     pub executes_with_commit : ExecutesWithCommit
     pub executes_with_prepare : ExecutesWithPrepare
 
--- After any events, whoever is faulty and whatever is forged, no host has left anything undone, where the whole protocol is built.
+-- After any events, whoever is faulty and whatever is forged, no host has left anything undone.
 abbrev pub HostsLeaveNothing : Type 0 → Type 0
-HostsLeaveNothing S = (system : System S) → system.built ≡ everything → (k h : ℕ) → LeavesNothing (self_of system h) ((world system k).histories h)
+HostsLeaveNothing S = (system : System S) → (k h : ℕ) → LeavesNothing (self_of system h) ((world system k).histories h)

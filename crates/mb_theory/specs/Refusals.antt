@@ -15,7 +15,6 @@ refused_line e name numbers = Some (record { event = e; name = name; numbers = n
 -- the line of a host's outcome that is a refusal: its name, and its numbers in the order of its fields
 abbrev pub refusal_of : ℕ → Outcome → Option RefusedLine
 refusal_of e (outcome.Malformed at) = refused_line e word.Malformed (at ∷ [])
-refusal_of e (outcome.Unbuilt kind) = refused_line e word.Unbuilt (kind ∷ [])
 refusal_of e outcome.BadUi = refused_line e word.BadUi []
 refusal_of e (outcome.Convicted counter) = refused_line e word.Convicted (counter ∷ [])
 refusal_of e (outcome.Stale next) = refused_line e word.Stale (next ∷ [])

@@ -17,7 +17,6 @@ use Rattle.mb_msg.specs.declared.event.Event.{Event}
 use Rattle.mb_msg.specs.declared.event.Outcome.{Outcome}
 use Rattle.mb_msg.specs.declared.event.Event.TheVariants as event
 use Rattle.mb_msg.specs.declared.event.Outcome.TheVariants as outcome
-use Rattle.mb_model.specs.Built.{Built}
 use Rattle.mb_model.specs.Histories.{History, Identity, said}
 use Rattle.mb_model.specs.Sending.{Letter, Progress}
 use Rattle.mb_model.specs.Given.{Answer}
@@ -54,9 +53,8 @@ pub record World : Type 0 where
   pub hashed : List Bytes  -- the strings whose digests were made or compared, oldest first
   pub seen : List Seen  -- of each event, newest first
 
--- what all hosts are made with, what is built of them, and what happens to them
+-- what all hosts are made with, and what happens to them
 pub record System (S : Type 0) : Type 0 where
-  pub built : Built
   pub machine : Machine S
   pub snapshots : Snapshots S
   pub initial : S
@@ -207,7 +205,6 @@ module _ {S : Type 0} (system : System S) where
   -- the host of this number
   abbrev pub self_of : ℕ → Identity S
   self_of h = record {
-    built = system.built;
     shape = system.schedule.shape;
     host = h;
     secret = system.schedule.secret;

@@ -3,19 +3,11 @@
 
 ghost use Rattle.mb_theory.specs.Bounds.{HostsKeepLimits};
 ghost use Rattle.mb_theory.specs.CarriedOut.{HostsCarryOut};
-ghost use Rattle.mb_theory.specs.FirstPath.{HostsKeepOneHistory};
-
-/// What is built so far, over the whole world: nobody is faulty, clients ask, and messages are given to hosts that act on REQUEST, PREPARE,
-/// COMMIT and REPLY. Whatever the network loses, repeats and reorders, all hosts execute beginnings of one list, each has the state and the
-/// client table of the service after its beginning, and no request takes effect twice, while no two of the strings hashed so far share a digest.
-pub fn hosts_keep_one_history<V>()
-    ensures { HostsKeepOneHistory V }
-{}
 
 /// After any events each correct host has carried out its rules, whoever else is faulty and whatever is forged: none of the eight is left.
 /// A primary has ordered what waits, a backup has committed the next position, and the next batch is executed once the votes of f+1 hosts
 /// for it are counted; a PREPARE that is taken is the slot of its position, and each vote counts from then on. A CHECKPOINT follows where
-/// they are built and there was room for one, and a state is installed once all its parts are there. A view is left, announced, entered,
+/// there was room for one, and a state is installed once all its parts are there. A view is left, announced, entered,
 /// opened and joined as soon as it may be.
 pub fn hosts_carry_out_their_rules<V>()
     ensures { HostsCarryOut V }

@@ -197,7 +197,7 @@ module _ {S : Type 0} (system : System S) (w : World) (f : Facts system w) (jump
       let counter : n.ui.counter ≡ e.counter = ap (λ (y : EnterMessage). y.counter) same ∙ m.counter in
       let held : new_view_of self x.before ≡ Some n = entered_for h x.before n makes.1 in
       let leads : n.ui.host ≡ primary system.schedule.shape e.view =
-      (new_view_checks self f.order x.before (arises_then system w f h b.correct (jumps h b.correct) x.before before) n held).leads ∙ ap (primary system.schedule.shape) view in
+      (new_view_checks self x.before (arises_then system w f h b.correct (jumps h b.correct) x.before before) n held).leads ∙ ap (primary system.schedule.shape) view in
       elim (held_new_view h x.before before n held) [
         | inl accepted ↦ by_accepted e h n b.correct b.other announced leads view counter accepted
         | inr own ↦ absurd (b.other (sym (own_stamp system w f h (stamped.NewView n) own.before b.correct own.past).host ∙ leads))

@@ -44,7 +44,7 @@ module _ {S : Type 0} (system : System S) (w : World) (f : Facts system w) (h : 
 
   own_led : (d : History) → IsPast d (w.histories h) → Led h (gate d h)
   own_led d p =
-      let own = (steady (self_of system h) f.order d (arises_then d p)).list.own in
+      let own = (steady (self_of system h) d (arises_then d p)).list.own in
       let b = past_said p.later d in
       record {
         hidden = said d;

@@ -103,7 +103,7 @@ module _ {S : Type 0} (system : System S) (w : World) (f : Facts system w) where
       inner_more system.schedule.shape (verifies system.schedule.secret) (issued system.schedule w) (bare_of m) (carried system w f.standing h (as_message m) d r _ (inner_claim_in system.schedule.shape m)) in
       let allowed : permits (origin d g) system.schedule.shape g inner (taken_of d g) (bare_of m) ≡ true =
       subst (λ (k : ℕ). permits (origin d k) system.schedule.shape k inner (taken_of d k) (bare_of m) ≡ true) same
-      (permits_more (origin d (ui_of m).host) system.schedule.shape (ui_of m).host _ inner (taken_of d (ui_of m).host) (bare_of m) carry (p.permitted f.order)) in
+      (permits_more (origin d (ui_of m).host) system.schedule.shape (ui_of m).host _ inner (taken_of d (ui_of m).host) (bare_of m) carry p.permitted) in
       let from : permits (floor_after initial_floor x.hidden) system.schedule.shape g inner (taken_of d g) (bare_of m) ≡ true =
       subst (λ (o : Floor). permits o system.schedule.shape g inner (taken_of d g) (bare_of m) ≡ true) (sym x.leads) allowed in
       let c : GoesOn initial_floor system.schedule.shape g inner x.hidden (taken_of d g) = parts initial_floor system.schedule.shape g inner x.hidden (taken_of d g) whole in

@@ -61,7 +61,7 @@ module _ {S : Type 0} (system : System S) (w : World) (f : Facts system w) where
       let allowed : permits (origin d g) system.schedule.shape g (is_sound system.schedule w) (taken_of d g) (bare_of m) ≡ true =
       subst (λ (k : ℕ). permits (origin d k) system.schedule.shape k (is_sound system.schedule w) (taken_of d k) (bare_of m) ≡ true) same
       (permits_more (origin d (ui_of m).host) system.schedule.shape (ui_of m).host (inner_valid system.schedule.shape (verifies system.schedule.secret)) (is_sound system.schedule w) (taken_of d (ui_of m).host) (bare_of m)
-      (valid_checked system.schedule.shape (verifies system.schedule.secret) (issued system.schedule w) (bare_of m) carries) (p.permitted f.order)) in
+      (valid_checked system.schedule.shape (verifies system.schedule.secret) (issued system.schedule w) (bare_of m) carries) p.permitted) in
       let given : IsGiven system.schedule w h (stamp_claim m) = claim_given h (as_message m) d r (stamp_claim m) (own_claim_in system.schedule.shape m) p.certified in
       let count : (ui_of m).counter ≡ (origin d g).counter + length (taken_of d g) + 1 = p.next ∙ ap (λ (k : ℕ). (gate d k).counter + 1) same in
       record {

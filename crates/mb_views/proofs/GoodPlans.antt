@@ -142,7 +142,7 @@ module _ {S : Type 0} (system : System S) (w : World) (f : Facts system w) (jump
       let none = whole_none (new_view_fault self n) n.body b is (a.kind current) in
       let p = or_none (members_fault self n.view 0 b.changes) (then_some (not (announces self n (plan_from self b.changes))) (255, 11)) none in
       let strings : AllByRecursion (IsHashed system.schedule w) (compared_in_members self n.view b.changes ++ plan_text (plan_from self b.changes) ∷ []) =
-      rw p.0 at (rw (gate_passed self f.order d (stamped.NewView n) a.gate, current, is) at r.1) in
+      rw p.0 at (rw (gate_passed self d (stamped.NewView n) a.gate, current, is) at r.1) in
       record {
         members = members_good h (message.NewView n) d r n.view 0 b.changes body.1.1 (new_view_claims_in n b is) (new_view_bodies_in n b is) p.0 (all_left (IsHashed system.schedule w) (compared_in_members self n.view b.changes) (plan_text (plan_from self b.changes) ∷ []) strings);
         many = body.0;

@@ -62,18 +62,14 @@ not_lt n = elim (cases_Bool (nat_lt n n)) [
   | inr no_more ↦ no_more
 ]
 
-wrong_where : (order permitted : Bool) → permitted ≡ true → (order && not permitted) ≡ false
-wrong_where true permitted e = rw e refl
-wrong_where false permitted e = refl
-
 module _ {S : Type 0} (self : Identity S) where
-  pub gate_passed : self.built.order ≡ true → (d : History) (m : StampedMessage) → PassesGate self d m → identifier_refusal self d m ≡ None
+  pub gate_passed : (d : History) (m : StampedMessage) → PassesGate self d m → identifier_refusal self d m ≡ None
   unfolding identifier_refusal gate_refusal
-  gate_passed on d m p = none_refused (is_bad_ui self m) (is_own_future self d (ui_of m)) (is_stale self d (ui_of m)) (is_ahead self d (ui_of m)) (self.built.order && not (is_permitted self d m)) (conviction self d (ui_of m))
+  gate_passed d m p = none_refused (is_bad_ui self m) (is_own_future self d (ui_of m)) (is_stale self d (ui_of m)) (is_ahead self d (ui_of m)) (not (is_permitted self d m)) (conviction self d (ui_of m))
       (next_of d (ui_of m).host) (rule_of (bare_of m)) (ap not p.certified) p.not_future p.not_convicted
       (not_le (ui_of m).counter (gate d (ui_of m).host).counter (omega (arith, p.next)))
       (ap (λ (n : ℕ). nat_lt ((gate d (ui_of m).host).counter + 1) n) p.next ∙ not_lt ((gate d (ui_of m).host).counter + 1))
-      (wrong_where self.built.order (is_permitted self d m) (p.permitted on))
+      (ap not p.permitted)
 
 -- ---- bodies
 
@@ -130,5 +126,5 @@ module _ {S : Type 0} (system : System S) (w : World) (f : Facts system w) (jump
         usable = usable;
         known = body_known h (message.ViewChange m) d r m.ui.host m.view m.ui.counter b usable body (change_claims_in m b is) (change_bodies_in m b is);
         checker = h;
-        compared = rw (gate_passed (self_of system h) f.order d (stamped.ViewChange m) a.gate, current, is) at r.1;
+        compared = rw (gate_passed (self_of system h) d (stamped.ViewChange m) a.gate, current, is) at r.1;
       }

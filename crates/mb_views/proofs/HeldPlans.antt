@@ -76,7 +76,7 @@ module _ {S : Type 0} (system : System S) (w : World) (f : Facts system w) (jump
       let sound : is_body_of self m.evidence b ≡ true = not_false (is_body_of self m.evidence b) (then_none (not (is_body_of self m.evidence b)) (0, 8) (whole_none (opening_fault self m.evidence) m.body b is (a.kind current))) in
       let c = and_parts (is_comparable_body system.schedule.shape system.schedule.secret (valid self) m.evidence.base m.evidence.end b) _ sound in
       let strings : AllByRecursion (IsHashed system.schedule w) (plan_text (record { base = b.stable; batches = b.batches }) ∷ []) =
-      rw c.0 at (rw (gate_passed self f.order d (stamped.Open m) a.gate, current, is) at r.1) in
+      rw c.0 at (rw (gate_passed self d (stamped.Open m) a.gate, current, is) at r.1) in
       known_where (record { base = b.stable; batches = b.batches }) body.0.0 strings.0
 
   entry_known : (h : ℕ) (e : Entry) (d : History) → IsCorrect system.schedule h → IsPast (e ∷ d) (w.histories h) → (p : ℕ × Plan) → plan_in (self_of system h) d (plan_held (self_of system h) d) e ≡ Some p → Known p

@@ -10,6 +10,6 @@ use Rattle.mb_views.proofs.Jumps.{jumps_led}
 use Rattle.mb_views.proofs.Agreed.{views_agree_in}
 
 pub worlds_agree : (S : Type 0) → WorldsAgree S
-worlds_agree S system built fits k le none apart =
-    let facts : (k : ℕ) → IsUnstopped system k → HashesApart (world system k).hashed → Facts system (world system k) = facts_in system built fits in
+worlds_agree S system fits k le none apart =
+    let facts : (k : ℕ) → IsUnstopped system k → HashesApart (world system k).hashed → Facts system (world system k) = facts_in system fits in
     views_agree_in system (world system k) (facts k none apart) (jumps_led system facts k none apart)

@@ -79,7 +79,7 @@ module _ {S : Type 0} (system : System S) (w : World) (f : Facts system w) where
   -- What a correct host stamped stands in order, for whoever checked it.
   pub sound_list : (h : ℕ) → IsCorrect system.schedule h → is_ordered initial_floor system.schedule.shape h (is_sound system.schedule w) (said (w.histories h)) ≡ true
   sound_list h c = ordered_checked system.schedule.shape (verifies system.schedule.secret) (issued system.schedule w) h (said (w.histories h)) (f.knows h c)
-      (steady (self_of system h) f.order (w.histories h) (f.arises h)).list.ordered
+      (steady (self_of system h) (w.histories h) (f.arises h)).list.ordered
 
   pub issued_list : (h : ℕ) → IsCorrect system.schedule h → is_ordered initial_floor system.schedule.shape h (inner_valid system.schedule.shape (issued system.schedule w)) (said (w.histories h)) ≡ true
   issued_list h c = (certificate_laws.checked system.schedule.shape (verifies system.schedule.secret) (issued system.schedule w)).ordered initial_floor h (said (w.histories h)) (sound_list h c)

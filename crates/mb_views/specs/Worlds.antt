@@ -1,6 +1,5 @@
 -- What all hosts stamped agrees across views, in each world of a schedule.
 use Rattle.std.specs.Prelude.{◌≡◌, ℕ, ◌≤◌, length}
-use Rattle.mb_model.specs.Built.{everything}
 use Rattle.mb_theory.specs.Hashed.{HashesApart}
 use Rattle.mb_sched.specs.Limits.{IsSchedule}
 use Rattle.mb_theory.specs.World.{System}
@@ -8,8 +7,8 @@ use Rattle.mb_theory.specs.WorldSteps.{world}
 use Rattle.mb_theory.specs.WorldRecord.{ViewsAgree}
 use Rattle.mb_theory.specs.Stops.{IsUnstopped}
 
--- For every service and every schedule with at most f faulty hosts, where the whole protocol is built: after each event, while nothing was
+-- For every service and every schedule with at most f faulty hosts: after each event, while nothing was
 -- forged or refused by the world and no two of the strings hashed so far share a digest.
 abbrev pub WorldsAgree : Type 0 → Type 0
-WorldsAgree S = (system : System S) → system.built ≡ everything → IsSchedule system.schedule
+WorldsAgree S = (system : System S) → IsSchedule system.schedule
     → (k : ℕ) → k ≤ length system.schedule.events → IsUnstopped system k → HashesApart (world system k).hashed → ViewsAgree system.schedule (world system k)

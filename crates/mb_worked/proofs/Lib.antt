@@ -1,5 +1,5 @@
 mod Batches
-mod FirstPath
+mod NormalSteps
 mod ShownLogs
 mod Plans
 pub mod Networks

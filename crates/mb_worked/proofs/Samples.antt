@@ -13,7 +13,6 @@ use Rattle.mb_msg.specs.declared.normal.Prepare.{Prepare}
 use Rattle.mb_msg.specs.declared.normal.Commit.{Commit}
 use Rattle.mb_model.specs.Service.{Machine}
 use Rattle.mb_model.specs.States.{Snapshots}
-use Rattle.mb_model.specs.Built.{everything}
 use Rattle.mb_model.specs.Histories.{Identity}
 use Rattle.mb_model.proofs.Hex.{unhex}
 
@@ -40,7 +39,7 @@ abbrev pub thirteen_clients : Shape
 thirteen_clients = record { f = 1; k = 4; clients = 13; faults_in = (omega arith, omega arith); interval_in = (omega arith, omega arith); clients_in = (omega arith, omega arith) }
 
 abbrev pub host : Shape → ℕ → Identity Bytes
-host s h = record { built = everything; shape = s; host = h; secret = secret; machine = keeps_last; snapshots = first_part; initial = [] }
+host s h = record { shape = s; host = h; secret = secret; machine = keeps_last; snapshots = first_part; initial = [] }
 
 -- PUT a = 1
 abbrev pub put : Bytes

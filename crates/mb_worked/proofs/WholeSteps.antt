@@ -16,7 +16,6 @@ use Rattle.mb_parts.specs.declared.batch.Batch.{Batch}
 use Rattle.mb_msg.specs.declared.message.Message.TheVariants as message
 use Rattle.mb_model.specs.Service.{Machine}
 use Rattle.mb_model.specs.States.{Snapshots}
-use Rattle.mb_model.specs.Built.{everything}
 use Rattle.mb_msg.specs.declared.event.Outcome.TheVariants as outcome
 use Rattle.mb_model.specs.Histories.{Accepted, Stamped, History, Identity}
 use Rattle.mb_model.specs.Stable.{low_of}
@@ -41,7 +40,7 @@ abbrev pub shape : Shape
 shape = record { f = 1; k = 4; clients = 4; faults_in = (omega arith, omega arith); interval_in = (omega arith, omega arith); clients_in = (omega arith, omega arith) }
 
 abbrev pub host : ℕ → Identity Bytes
-host h = record { built = everything; shape = shape; host = h; secret = secret; machine = keeps_last; snapshots = keeps_parts; initial = [] }
+host h = record { shape = shape; host = h; secret = secret; machine = keeps_last; snapshots = keeps_parts; initial = [] }
 
 -- the first request of a client
 abbrev pub asked : ℕ → Request

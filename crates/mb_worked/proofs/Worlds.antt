@@ -17,7 +17,6 @@ use Rattle.mb_model.specs.UsableLogs.{Fault}
 use Rattle.mb_model.specs.Held.{change_fault, evidence_of}
 use Rattle.mb_model.specs.Service.{Machine, Served}
 use Rattle.mb_model.specs.States.{Snapshots}
-use Rattle.mb_model.specs.Built.{everything}
 use Rattle.mb_msg.specs.declared.event.Outcome.TheVariants as outcome
 use Rattle.mb_model.specs.Clients as client
 use Rattle.mb_model.specs.Histories.{view_of, said, stamped as stamped_by}
@@ -48,7 +47,7 @@ abbrev pub one_client : Shape
 one_client = record { f = 1; k = 4; clients = 1; faults_in = (omega arith, omega arith); interval_in = (omega arith, omega arith); clients_in = (omega arith, omega arith) }
 
 abbrev pub system_of : Schedule → System Bytes
-system_of s = record { built = everything; machine = keeps_last; snapshots = keeps_parts; initial = []; schedule = s }
+system_of s = record { machine = keeps_last; snapshots = keeps_parts; initial = []; schedule = s }
 
 abbrev pub all_correct : List WorldEvent → System Bytes
 all_correct events = system_of (record { shape = one_client; secret = replicate 32 0; faulty_hosts = replicate 3 false; faulty_clients = replicate 1 false; events = events })

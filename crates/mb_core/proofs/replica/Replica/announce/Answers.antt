@@ -8,7 +8,7 @@ use Rattle.mb_model.specs.Sending.{signed}
 use Rattle.mb_known.proofs.Cases.{some_is}
 use Rattle.mb_core.proofs.OwnChanges.{announce_due}
 use Rattle.mb_core.proofs.OwnViews.{announce_may, announce_made, announce_begun, announce_waits, own_new_view, some_chosen, chosen_so, members_fit, members_enough, none_planned}
-use Rattle.mb_core.proofs.Publishing.{is_next, fits_raw, signed_raw, is_left, fits_signed, room_signed, begun, rule_ends, when_noted}
+use Rattle.mb_core.proofs.Publishing.{is_next, fits_raw, signed_raw, is_left, fits_signed, sent_signed, room_signed, begun, rule_ends, when_noted}
 use Rattle.mb_core.proofs.replica.Replica.announce.Goals as goal
 
 -- src/new_views.rt
@@ -46,7 +46,7 @@ pub publish-requires-clause-fits : goal.publish-requires-clause-fits
 publish-requires-clause-fits g c =
     let r = c.args.self.now in
     let q = announce_due _ _ _ _ _ r c.args.done.now c.requires in
-    fits_signed q.me r q.history q.next.represents (signed q.me q.history (new_view q.me q.history q.changes)) (announce_may q.me r r q.history q.changes q.next) c.count_opens.new.self (announce_begun q.me r c.sign.new.self c.in_ok-signed.ensures.writes _ _ c.hold_own.new.self c.hold_plan.new.self c.count_opens.new.self c.in_ok-hold_own.ensures.writes c.in_ok-hold_plan.ensures c.count_opens.ensures.writes) c.in_ok-signed.signed.message ((c.in_ok-signed.ensures.signed q.me q.history q.next.represents.who q.next.represents.tables.counter).message ∙ signed_raw q.me q.history (new_view q.me q.history q.changes) c.new_view-message.result (announce_made q.me r r q.history q.changes q.next c.new_view-message.result c.in-Some.changes.items c.in-Some-planned.plan (c.new_view-message.ensures q.me q.history q.next.represents) (chosen_so q.me r r q.history q.changes q.next c.view-view.result (c.view-view.ensures q.me q.history q.next.represents) c.in-Some.changes.items (rw c.in-Some.is at c.in_ok-found.ensures)) (some_is c.in-Some-planned.plan (plan_from q.me c.as_slice.result.now) (sym c.in-Some-planned.is ∙ c.in_ok-planned.ensures.plan q.me q.history q.next.represents (members_enough q.me r r q.history q.changes q.next c.as_slice.result.now (c.as_slice.ensures.value ∙ (chosen_so q.me r r q.history q.changes q.next c.view-view.result (c.view-view.ensures q.me q.history q.next.represents) c.in-Some.changes.items (rw c.in-Some.is at c.in_ok-found.ensures))))) ∙ ap (plan_from q.me) c.as_slice.ensures.value)))
+    sent_signed q.me r q.history q.next.represents (signed q.me q.history (new_view q.me q.history q.changes)) (announce_may q.me r r q.history q.changes q.next) c.count_opens.new.self (announce_begun q.me r c.sign.new.self c.in_ok-signed.ensures.writes _ _ c.hold_own.new.self c.hold_plan.new.self c.count_opens.new.self c.in_ok-hold_own.ensures.writes c.in_ok-hold_plan.ensures c.count_opens.ensures.writes) c.in_ok-signed.signed.message ((c.in_ok-signed.ensures.signed q.me q.history q.next.represents.who q.next.represents.tables.counter).message ∙ signed_raw q.me q.history (new_view q.me q.history q.changes) c.new_view-message.result (announce_made q.me r r q.history q.changes q.next c.new_view-message.result c.in-Some.changes.items c.in-Some-planned.plan (c.new_view-message.ensures q.me q.history q.next.represents) (chosen_so q.me r r q.history q.changes q.next c.view-view.result (c.view-view.ensures q.me q.history q.next.represents) c.in-Some.changes.items (rw c.in-Some.is at c.in_ok-found.ensures)) (some_is c.in-Some-planned.plan (plan_from q.me c.as_slice.result.now) (sym c.in-Some-planned.is ∙ c.in_ok-planned.ensures.plan q.me q.history q.next.represents (members_enough q.me r r q.history q.changes q.next c.as_slice.result.now (c.as_slice.ensures.value ∙ (chosen_so q.me r r q.history q.changes q.next c.view-view.result (c.view-view.ensures q.me q.history q.next.represents) c.in-Some.changes.items (rw c.in-Some.is at c.in_ok-found.ensures))))) ∙ ap (plan_from q.me) c.as_slice.ensures.value)))
 
 pub publish-requires-clause-body : goal.publish-requires-clause-body
 publish-requires-clause-body g c =
@@ -75,7 +75,7 @@ returns g c = λ me x changes st next.
     let made = signed_raw me x.history (new_view me x.history changes) c.new_view-message.result (announce_made me r r x.history changes is c.new_view-message.result c.in-Some.changes.items c.in-Some-planned.plan (c.new_view-message.ensures me x.history st.represents) (chosen_so me r r x.history changes is c.view-view.result (c.view-view.ensures me x.history st.represents) c.in-Some.changes.items (rw c.in-Some.is at c.in_ok-found.ensures)) (some_is c.in-Some-planned.plan (plan_from me c.as_slice.result.now) (sym c.in-Some-planned.is ∙ c.in_ok-planned.ensures.plan me x.history st.represents (members_enough me r r x.history changes is c.as_slice.result.now (c.as_slice.ensures.value ∙ (chosen_so me r r x.history changes is c.view-view.result (c.view-view.ensures me x.history st.represents) c.in-Some.changes.items (rw c.in-Some.is at c.in_ok-found.ensures))))) ∙ ap (plan_from me) c.as_slice.ensures.value)) in
     let s = c.in_ok-signed.ensures.signed me x.history st.represents.who st.represents.tables.counter in
     when_noted me c.publish.result c.publish.new.self c.publish.new.done _ _
-    (rule_ends me c.publish.result r c.count_opens.new.self c.publish.new.self c.args.done.now c.sign.new.done c.publish.new.done x (Announce changes) c.in_ok-signed.signed.message (signed me x.history (new_view me x.history changes)) st next refl (s.message ∙ made)
+    (rule_ends me c.publish.result r c.count_opens.new.self c.publish.new.self c.args.done.now c.publish.new.done x (Announce changes) c.in_ok-signed.signed.message (signed me x.history (new_view me x.history changes)) st next refl (s.message ∙ made)
     (announce_waits me r c.sign.new.self x.history changes is c.in_ok-signed.ensures.writes c.view-view.result c.in-Some-planned.plan (c.view-view.ensures me x.history st.represents) planned c.hold_own.new.self c.hold_plan.new.self c.count_opens.new.self
     c.in_ok-hold_own.ensures.writes (c.in_ok-hold_own.ensures.holds (own_new_view me r r x.history changes is) (s.message ∙ made)) c.in_ok-hold_plan.ensures c.count_opens.ensures.writes c.count_opens.ensures.counts)
-    c.in_ok-signed.ensures.done c.publish.ensures.sent c.publish.ensures.kept c.publish.ensures.log c.publish.ensures.gates c.publish.ensures.writes)
+    c.publish.ensures.sent c.publish.ensures.kept c.publish.ensures.log c.publish.ensures.gates c.publish.ensures.writes)

@@ -15,11 +15,11 @@ returns-then-is_at_interval g c = λ me x serves s just.
     let r = c.args.self.now in
     let pos = c.args.pos in
     let whole = multiple_is me r x.history pos true s.represents (sym c.if-is_at_interval.ensures) in
-    subst (λ (y : Progress). OnOk c.with_checkpoint.result (StandsAt me c.with_checkpoint.new.self c.with_checkpoint.new.done y)) (interval_is me pos x s.represents.who.built whole)
+    subst (λ (y : Progress). OnOk c.with_checkpoint.result (StandsAt me c.with_checkpoint.new.self c.with_checkpoint.new.done y)) (interval_is me pos x whole)
     (c.with_checkpoint.ensures me (note (state_strings me x.history pos) x) serves (noted me r c.args.done.now (state_strings me x.history pos) x s) just)
 
 pub returns : goal.returns
 returns g c = λ me x serves s just.
     let r = c.args.self.now in
     let apart = multiple_is me r x.history c.args.pos false s.represents (sym c.if-is_at_interval.ensures) in
-    subst (StandsAt me r c.args.done.now) (no_interval_is me c.args.pos x s.represents.who.built apart) s
+    subst (StandsAt me r c.args.done.now) (no_interval_is me c.args.pos x apart) s

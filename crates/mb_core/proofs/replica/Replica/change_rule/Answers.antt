@@ -1,4 +1,3 @@
-use Rattle.std.proofs.Common.{◌≡◌}
 use Rattle.mb_change.specs.declared.due.ChangeDue.TheVariants as change
 use Rattle.mb_core.proofs.ChangeRules.{change_named}
 use Rattle.mb_core.proofs.replica.Replica.change_rule.Goals as goal

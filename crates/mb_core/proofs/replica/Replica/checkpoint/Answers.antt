@@ -4,7 +4,7 @@ use Rattle.mb_msg.specs.declared.normal.Checkpoint.{Checkpoint}
 use Rattle.mb_msg.specs.declared.stamped.Stamped.{Stamped as StampedMessage}
 use Rattle.mb_msg.specs.declared.stamped.Stamped.TheVariants as stamped
 use Rattle.mb_msg.specs.AsStamped.{stamped_digest}
-use Rattle.mb_msg.specs.Fits.{FitsCheckpoint, FitsStamped}
+use Rattle.mb_msg.specs.Fits.{Fits, FitsCheckpoint}
 use Rattle.mb_msg.specs.Spelling.{stamped_kind}
 use Rattle.mb_msg.specs.Stamps.{as_message}
 use Rattle.mb_log.specs.Logs.{has_room_for, appended}
@@ -14,7 +14,7 @@ use Rattle.mb_model.proofs.StepArises.{Adds}
 use Rattle.mb_standing.specs.Stands.{GatesStand}
 use Rattle.mb_core.specs.Between.{AwaitsCheckpoint}
 use Rattle.mb_core.specs.Represents.{as_sent}
-use Rattle.mb_core.proofs.OwnCheckpoints.{fits_unsigned, same_own, adds, fits_own, awaits_keeping, fits_kept, room_kept, gates_kept, who_kept, awaits_cut, checkpoint_ends}
+use Rattle.mb_core.proofs.OwnCheckpoints.{fits_unsigned, same_own, adds, fits_own, awaits_keeping, sent_kept, room_kept, gates_kept, who_kept, awaits_cut, checkpoint_ends}
 use Rattle.mb_core.proofs.replica.Replica.checkpoint.Goals as goal
 
 -- src/checkpoints.rt
@@ -67,7 +67,7 @@ publish-requires-clause-fits g c =
     let same = same_own b.me old c.args.done.now c.args.pos c.args.state b.left w c.in_ok-floors.floors (c.in_ok-floors.ensures b.me b.left.history r) c.in_ok-signed.signed c.in-Checkpoint.own m
     (c.in_ok-signed.ensures.signed b.me b.left.history r.who r.tables.counter) c.in-Checkpoint.is c.in_ok-own.ensures in
     let is : c.in_ok-signed.signed.message ≡ stamped.Checkpoint m = c.in-Checkpoint.is ∙ ap (λ (y : Checkpoint). stamped.Checkpoint y) (sym c.in_ok-own.ensures) in
-    subst (λ (y : StampedMessage). FitsStamped c.keep_checkpoint.new.self.agreement.shape y) (sym is) (fits_kept b.me old c.args.done.now c.args.pos c.args.state b.left w m same c.sign.new.self c.keep_checkpoint.new.self c.in_ok-signed.ensures.writes c.in_ok-keep_checkpoint.ensures.writes)
+    subst (λ (y : StampedMessage). Fits c.keep_checkpoint.new.self.agreement.shape (as_message y)) (sym is) (sent_kept b.me old c.args.done.now c.args.pos c.args.state b.left w m same c.sign.new.self c.keep_checkpoint.new.self c.in_ok-signed.ensures.writes c.in_ok-keep_checkpoint.ensures.writes)
 
 pub publish-requires-clause-body : goal.publish-requires-clause-body
 publish-requires-clause-body g c =
@@ -118,6 +118,6 @@ returns g c = λ me x st executed whole room digest.
     let gates = subst (λ (y : StampedMessage). GatesStand me sent.agreement.gates.items (Stamped y ∷ d)) is
     (p.gates me d (who_kept me old c.args.done.now c.args.pos c.args.state x w m same mid kept c1 k.writes) r.tables.sound
     (subst (λ (y : StampedMessage). Adds me d (Stamped y)) (sym is) (adds me old c.args.done.now c.args.pos c.args.state x w m same)) (gates_kept me old c.args.done.now c.args.pos c.args.state x w m same mid kept c1 k.writes)) in
-    checkpoint_ends me old c.args.done.now c.args.pos c.args.state x w c.cut_log.result mid kept sent c.cut_log.new.self c.sign.new.done c.publish.new.done m same c1 k.writes stands p.writes log gates c.cut_log.ensures.writes
-    (c.cut_log.ensures.stands me (Stamped (stamped.Checkpoint m)) d (awaits_cut me old c.args.done.now c.args.pos c.args.state x w m same mid kept c1 k.writes sent stands p.writes log)) c.in_ok-signed.ensures.done
-    (subst (λ (y : StampedMessage). c.publish.new.done.sent ≡ c.sign.new.done.sent ++ as_sent (to_all (as_message y)) ∷ []) is p.sent) p.kept
+    checkpoint_ends me old c.args.done.now c.args.pos c.args.state x w c.cut_log.result mid kept sent c.cut_log.new.self c.publish.new.done m same c1 k.writes stands p.writes log gates c.cut_log.ensures.writes
+    (c.cut_log.ensures.stands me (Stamped (stamped.Checkpoint m)) d (awaits_cut me old c.args.done.now c.args.pos c.args.state x w m same mid kept c1 k.writes sent stands p.writes log))
+    (subst (λ (y : StampedMessage). c.publish.new.done.sent ≡ c.args.done.now.sent ++ as_sent (to_all (as_message y)) ∷ []) is p.sent) p.kept

@@ -9,7 +9,7 @@ use Rattle.mb_model.specs.EnabledRules.{Enter}
 use Rattle.mb_model.specs.Making.{enter}
 use Rattle.mb_core.specs.declared.stamping.TheConstants.{NO_UI}
 use Rattle.mb_core.proofs.OwnChanges.{enter_due, enter_may, enter_made, enter_waits, some_new_view, own_host}
-use Rattle.mb_core.proofs.Publishing.{is_next, fits_unsigned, is_left, no_ui_fits, fits_signed, room_signed, begun, then_change, rule_ends}
+use Rattle.mb_core.proofs.Publishing.{is_next, fits_unsigned, is_left, no_ui_fits, sent_signed, room_signed, begun, then_change, rule_ends}
 use Rattle.mb_core.proofs.replica.Replica.enter.Goals as goal
 
 -- src/enters.rt
@@ -40,7 +40,7 @@ pub publish-requires-clause-fits : goal.publish-requires-clause-fits
 publish-requires-clause-fits g c =
     let r = c.args.self.now in
     let q = enter_due _ _ _ _ _ r c.args.done.now c.requires in
-    fits_signed q.me r q.history q.next.represents (signed q.me q.history (enter q.new_view)) (enter_may q.me r r q.history q.new_view q.next) c.hold_enter.new.self (then_change q.me r c.sign.new.self c.hold_enter.new.self (begun q.me r c.sign.new.self c.in_ok-signed.ensures.writes) c.hold_enter.ensures.writes) c.in_ok-signed.signed.message
+    sent_signed q.me r q.history q.next.represents (signed q.me q.history (enter q.new_view)) (enter_may q.me r r q.history q.new_view q.next) c.hold_enter.new.self (then_change q.me r c.sign.new.self c.hold_enter.new.self (begun q.me r c.sign.new.self c.in_ok-signed.ensures.writes) c.hold_enter.ensures.writes) c.in_ok-signed.signed.message
     ((c.in_ok-signed.ensures.signed q.me q.history q.next.represents.who q.next.represents.tables.counter).message ∙ enter_made q.me r r q.history q.new_view q.next c.in-Some.new_view.now c.in-Some.ensures)
 
 pub publish-requires-clause-body : goal.publish-requires-clause-body
@@ -66,7 +66,7 @@ returns g c = λ me x n st next.
     let made = enter_made me r r x.history n is y c.in-Some.ensures in
     let s = c.in_ok-signed.ensures.signed me x.history st.represents.who st.represents.tables.counter in
     let kept : EnterMessage = record { view = y.view; counter = y.ui.counter; plan = y.plan; ui = c.in_ok-signed.signed.ui } in
-    rule_ends me c.publish.result r c.hold_enter.new.self c.publish.new.self c.args.done.now c.sign.new.done c.publish.new.done x (Enter n) c.in_ok-signed.signed.message (signed me x.history (enter n)) st next refl (s.message ∙ made)
+    rule_ends me c.publish.result r c.hold_enter.new.self c.publish.new.self c.args.done.now c.publish.new.done x (Enter n) c.in_ok-signed.signed.message (signed me x.history (enter n)) st next refl (s.message ∙ made)
     (enter_waits me r c.sign.new.self x.history n is c.in_ok-signed.ensures.writes c.hold_enter.new.self c.hold_enter.ensures.writes kept
     (ap (λ (u : Ui). stamped.Enter (record { view = y.view; counter = y.ui.counter; plan = y.plan; ui = u })) s.ui ∙ made) c.hold_enter.ensures.holds)
-    c.in_ok-signed.ensures.done c.publish.ensures.sent c.publish.ensures.kept c.publish.ensures.log c.publish.ensures.gates c.publish.ensures.writes
+    c.publish.ensures.sent c.publish.ensures.kept c.publish.ensures.log c.publish.ensures.gates c.publish.ensures.writes

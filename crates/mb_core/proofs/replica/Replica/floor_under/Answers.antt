@@ -1,5 +1,4 @@
-use Rattle.std.proofs.Common.{◌≡◌, ◌<◌, ◌≤◌, ◌∙◌, ℕ, Option, Some, None, ap, arith}
-use Rattle.mb_parts.specs.declared.floor.Floor.{Floor}
+use Rattle.std.proofs.Common.{◌∙◌, Some, None, ap, arith}
 use Rattle.mb_model.specs.Making.{if_covered}
 use Rattle.mb_core.proofs.SenderGates.{floor_told, covered, uncovered}
 use Rattle.mb_core.proofs.replica.Replica.floor_under.Goals as goal

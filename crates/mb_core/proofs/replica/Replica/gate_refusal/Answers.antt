@@ -1,4 +1,4 @@
-use Rattle.std.proofs.Common.{rules, ◌≡◌, ◌∙◌, sym}
+use Rattle.std.proofs.Common.{rules, ◌∙◌}
 use Rattle.mb_core.proofs.SenderGates.{refuses, refuses_early}
 use Rattle.mb_core.proofs.replica.Replica.gate_refusal.Goals as goal
 

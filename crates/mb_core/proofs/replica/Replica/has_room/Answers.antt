@@ -1,4 +1,4 @@
-use Rattle.std.proofs.Common.{◌≡◌, ◌∙◌, Bool, ◌&&◌, ap, sym, refl}
+use Rattle.std.proofs.Common.{◌∙◌, Bool, ◌&&◌, ap, sym, refl}
 use Rattle.mb_model.specs.OwnLog.{is_unspent}
 use Rattle.mb_standing.proofs.OwnLogs.{room_is}
 use Rattle.mb_core.proofs.replica.Replica.has_room.Goals as goal

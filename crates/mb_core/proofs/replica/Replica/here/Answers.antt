@@ -1,7 +1,5 @@
-use Rattle.std.proofs.Common.{◌≡◌, ◌<◌, ℕ, ◌∙◌, ap, sym, subst, slice_get, length, arith, Some}
-use Rattle.mb_model.specs.Histories.{Identity, History, here}
+use Rattle.std.proofs.Common.{◌≡◌, ◌<◌, ℕ, sym, subst, slice_get, length, arith, Some}
 use Rattle.mb_standing.proofs.Gates.{own_gate}
-use Rattle.mb_core.specs.Represents.{Represents}
 use Rattle.mb_core.proofs.Places.{stored}
 use Rattle.mb_core.proofs.replica.Replica.here.Goals as goal
 

@@ -1,4 +1,4 @@
-use Rattle.std.proofs.Common.{◌≡◌, Option, ap}
+use Rattle.std.proofs.Common.{Option, ap}
 use Rattle.mb_parts.specs.declared.request.Request.{Request}
 use Rattle.mb_model.specs.PlainChecks.{is_behind_pending}
 use Rattle.mb_normal.specs.Searches.{searches_in}

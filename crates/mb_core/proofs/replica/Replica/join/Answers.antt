@@ -7,7 +7,7 @@ use Rattle.mb_model.specs.Making.{join}
 use Rattle.mb_msg.specs.declared.stamped.Stamped.TheVariants as stamped
 use Rattle.mb_core.specs.declared.stamping.TheConstants.{NO_UI}
 use Rattle.mb_core.proofs.OwnChanges.{join_due, join_may, join_made, join_waits}
-use Rattle.mb_core.proofs.Publishing.{is_next, fits_unsigned, is_left, no_ui_fits, fits_signed, room_signed, begun, rule_ends}
+use Rattle.mb_core.proofs.Publishing.{is_next, fits_unsigned, is_left, no_ui_fits, sent_signed, room_signed, begun, rule_ends}
 use Rattle.mb_core.proofs.replica.Replica.join.Goals as goal
 
 -- src/joins.rt
@@ -35,7 +35,7 @@ pub publish-requires-clause-fits : goal.publish-requires-clause-fits
 publish-requires-clause-fits g c =
     let r = c.args.self.now in
     let q = join_due _ _ _ _ _ r c.args.done.now c.requires in
-    fits_signed q.me r q.history q.next.represents (signed q.me q.history (join q.me q.history)) (join_may q.me r r q.history q.next) c.sign.new.self (begun q.me r c.sign.new.self c.in_ok-signed.ensures.writes) c.in_ok-signed.signed.message
+    sent_signed q.me r q.history q.next.represents (signed q.me q.history (join q.me q.history)) (join_may q.me r r q.history q.next) c.sign.new.self (begun q.me r c.sign.new.self c.in_ok-signed.ensures.writes) c.in_ok-signed.signed.message
     ((c.in_ok-signed.ensures.signed q.me q.history q.next.represents.who q.next.represents.tables.counter).message ∙ join_made q.me r r q.history q.next c.view.result c.in_ok-evidence.evidence c.in_ok-stable.stable (c.view.ensures q.me q.history q.next.represents) (c.in_ok-evidence.ensures q.me q.history q.next.represents) c.in_ok-stable.ensures)
 
 pub publish-requires-clause-body : goal.publish-requires-clause-body
@@ -52,6 +52,6 @@ returns g c = λ me x st next.
     let is = is_next me r c.args.done.now x Join st next in
     let made = join_made me r r x.history is c.view.result c.in_ok-evidence.evidence c.in_ok-stable.stable (c.view.ensures me x.history st.represents) (c.in_ok-evidence.ensures me x.history st.represents) c.in_ok-stable.ensures in
     let s = c.in_ok-signed.ensures.signed me x.history st.represents.who st.represents.tables.counter in
-    rule_ends me c.publish.result r c.sign.new.self c.publish.new.self c.args.done.now c.sign.new.done c.publish.new.done x Join c.in_ok-signed.signed.message (signed me x.history (join me x.history)) st next refl (s.message ∙ made)
+    rule_ends me c.publish.result r c.sign.new.self c.publish.new.self c.args.done.now c.publish.new.done x Join c.in_ok-signed.signed.message (signed me x.history (join me x.history)) st next refl (s.message ∙ made)
     (join_waits me r c.sign.new.self x.history is c.in_ok-signed.ensures.writes)
-    c.in_ok-signed.ensures.done c.publish.ensures.sent c.publish.ensures.kept c.publish.ensures.log c.publish.ensures.gates c.publish.ensures.writes
+    c.publish.ensures.sent c.publish.ensures.kept c.publish.ensures.log c.publish.ensures.gates c.publish.ensures.writes

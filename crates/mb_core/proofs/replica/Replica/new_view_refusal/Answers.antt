@@ -1,4 +1,4 @@
-use Rattle.std.proofs.Common.{rules, ◌≡◌, ◌∙◌, ℕ, Bool, Option, Some, ap, subst, Ok, Err}
+use Rattle.std.proofs.Common.{rules, ◌≡◌, ◌∙◌, ℕ, Bool, Some, ap, subst, Ok, Err}
 use Rattle.mb_msg.specs.declared.event.Outcome.TheVariants as outcome
 use Rattle.mb_model.specs.KindChecks.{only_where}
 use Rattle.mb_plan.specs.declared.new_view.NewViewFault.{NewViewFault}

@@ -1,4 +1,4 @@
-use Rattle.std.proofs.Common.{◌≡◌, ◌∙◌, Bool, ap, subst}
+use Rattle.std.proofs.Common.{◌∙◌, Bool, ap, subst}
 use Rattle.std.specs.Bool.{then_some}
 use Rattle.mb_msg.specs.declared.event.Outcome.TheVariants as outcome
 use Rattle.mb_cache.specs.declared.accept.Accept.{Accept}

@@ -15,8 +15,8 @@ returns-in-Given g c = λ me d serves st.
 
 pub returns-in-Patience : goal.returns-in-Patience
 returns-in-Patience g c = λ me d serves st.
-    answers_as me _ _ c.after_patience.result _ _ (patience_is me st.represents.who.built d ∙ ap (transition me d) (sym c.in-Patience.is)) (c.after_patience.ensures me d serves st)
+    answers_as me _ _ c.after_patience.result _ _ (patience_is me d ∙ ap (transition me d) (sym c.in-Patience.is)) (c.after_patience.ensures me d serves st)
 
 pub returns-in-Nudge : goal.returns-in-Nudge
 returns-in-Nudge g c = λ me d serves st.
-    answers_as me _ _ c.after_nudge.result _ _ (nudge_is me st.represents.who.built d ∙ ap (transition me d) (sym c.in-Nudge.is)) (c.after_nudge.ensures me d serves st)
+    answers_as me _ _ c.after_nudge.result _ _ (nudge_is me d ∙ ap (transition me d) (sym c.in-Nudge.is)) (c.after_nudge.ensures me d serves st)

@@ -12,5 +12,5 @@ pub returns : goal.returns
 returns g c = λ me d serves st.
     let gave = c.in_ok-answer.ensures me (begin d) serves st in
     let given = give me c.args.message (begin d) in
-    message_ends me st.represents.who.built d c.args.message c.in_ok-answer.answer given.outcome _ _ gave.0
+    message_ends me d c.args.message c.in_ok-answer.answer given.outcome _ _ gave.0
     (c.in_ok-finished_where.ensures me d given.left given.outcome serves gave.1 (c.low-before.ensures.reads me d st.represents))

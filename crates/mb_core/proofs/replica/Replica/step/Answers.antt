@@ -1,4 +1,4 @@
-use Rattle.std.proofs.Common.{refl, ap}
+use Rattle.std.proofs.Common.{refl}
 use Rattle.mb_searches.proofs.SoundRules.{transition_sound}
 use Rattle.mb_core.proofs.Stepping.{stands_begin, step_begins, step_ends, same_tables, is_step}
 use Rattle.mb_core.proofs.replica.Replica.step.Goals as goal
@@ -11,8 +11,8 @@ pub returns-in-Ok-clause-stands : goal.returns-in-Ok-clause-stands
 returns-in-Ok-clause-stands g c = λ me d serves represents whole.
     let begun = stands_begin me c.args.self.now c.new-done.result d represents whole c.new-done.ensures.sent c.new-done.ensures.executed c.new-done.ensures.installed in
     let gave = c.in-Ok.ensures me d serves begun in (
-      is_step me c.on_event.new.self c.on_event.new.done _ _ _ c.into_step-step.ensures.step gave.0 gave.1,
-      (same_tables me c.on_event.new.self _ _ refl refl gave.1.represents, (transition_sound me (ap (λ b. b.order) represents.tables.whole) d c.args.event.now represents.tables.sound whole).1),
+      is_step me c.on_event.new.self c.on_event.new.done _ _ _ c.into_step.ensures.step gave.0 gave.1,
+      (same_tables me c.on_event.new.self _ _ refl refl gave.1.represents, (transition_sound me d c.args.event.now represents.tables.sound whole).1),
     )
 
 pub returns-in-Ok-clause-rests : goal.returns-in-Ok-clause-rests

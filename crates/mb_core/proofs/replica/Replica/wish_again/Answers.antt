@@ -1,8 +1,8 @@
-use Rattle.std.proofs.Common.{Bool, ap, sym, subst, OnOk}
+use Rattle.std.proofs.Common.{Bool, sym, subst, OnOk}
 use Rattle.std.specs.Prelude.{if◌then◌else◌}
 use Rattle.mb_model.specs.Making.{wish}
 use Rattle.mb_model.specs.Sending.{send, to_all}
-use Rattle.mb_model.proofs.EarlyHistories.{shape_fits}
+use Rattle.mb_model.proofs.ShapesFit.{shape_fits}
 use Rattle.mb_fitting.proofs.Answers.{wish_again_sent}
 use Rattle.mb_core.specs.Represents.{StandsAt}
 use Rattle.mb_core.proofs.Behind.{host_there}
@@ -17,7 +17,7 @@ send_wish-requires g c =
       me = h.me;
       history = h.history;
       represents = r;
-      fits = wish_again_sent h.me (shape_fits h.me.shape) (host_there h.me c.args.self.now h.history r) (ap (λ b. b.order) r.tables.whole) h.history (sym (c.if-is_unfulfilled.ensures h.me h.history r)) r.tables.sound r.fit;
+      fits = wish_again_sent h.me (shape_fits h.me.shape) (host_there h.me c.args.self.now h.history r) h.history (sym (c.if-is_unfulfilled.ensures h.me h.history r)) r.tables.sound r.fit;
     }
 
 pub returns-then-is_unfulfilled : goal.returns-then-is_unfulfilled

@@ -11,7 +11,7 @@ pub overflow_add-next : goal.overflow_add-next
 overflow_add-next g c =
     let w = c.requires in
     let r = w.represents in
-    let most = view_place w.me (ap (λ b. b.order) r.tables.whole) (host_there w.me c.args.self.now w.history r) w.history r.tables.sound r.fit in
+    let most = view_place w.me (host_there w.me c.args.self.now w.history r) w.history r.tables.sound r.fit in
     let is = c.view-next.ensures w.me w.history r in
     omega (arith, most, is)
 

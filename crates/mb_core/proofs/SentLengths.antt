@@ -1,0 +1,28 @@
+-- What is sent has the length of a message.
+use Rattle.std.proofs.Common.{◌≤◌, length, arith}
+use Rattle.std.proofs.lemmas.List.{length-append}
+use Rattle.std.specs.Int.{w8}
+use Rattle.mb_base.specs.Spelling.{number}
+use Rattle.mb_base.specs.declared.shape.Shape.{Shape}
+use Rattle.mb_base.specs.declared.limits.TheConstants.{MESSAGE_LIMIT}
+use Rattle.mb_msg.specs.declared.message.Message.{Message}
+use Rattle.mb_msg.specs.declared.stamped.Stamped.{Stamped as StampedMessage}
+use Rattle.mb_msg.specs.declared.stamped.Stamped.TheVariants as stamped
+use Rattle.mb_msg.specs.Fits.{Fits, FitsFields, FitsStamped}
+use Rattle.mb_msg.specs.Spelling.{spelling, kind_of, behind_kind}
+use Rattle.mb_msg.specs.Stamps.{as_message}
+use Rattle.mb_fitting.proofs.Sizes.{length8}
+
+pub message_long : (s : Shape) (m : Message) → Fits s m → (1 ≤ length (spelling m)) × (length (spelling m) ≤ MESSAGE_LIMIT)
+unfolding spelling
+message_long s m f = (omega (arith, length-append (number w8 (kind_of m)) (behind_kind m), length8 (kind_of m)), f.size)
+
+pub stamped_fields : (s : Shape) (m : StampedMessage) → FitsFields s (as_message m) → FitsStamped s m
+stamped_fields s (stamped.Prepare m) f = f
+stamped_fields s (stamped.Commit m) f = f
+stamped_fields s (stamped.Checkpoint m) f = f
+stamped_fields s (stamped.ViewChange m) f = f
+stamped_fields s (stamped.NewView m) f = f
+stamped_fields s (stamped.Enter m) f = f
+stamped_fields s (stamped.Open m) f = f
+stamped_fields s (stamped.Join m) f = f

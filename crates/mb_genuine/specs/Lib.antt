@@ -1,0 +1,2 @@
+pub mod NoneForged
+pub mod Soaked

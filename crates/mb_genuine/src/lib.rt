@@ -1,0 +1,18 @@
+//! Where all that happens is made of messages of the system itself, nothing is forged; and so no event of a soak is stopped. It holds no code.
+#![tactic(auto)]
+
+ghost use Rattle.mb_genuine.specs.NoneForged.{NoneIsForged};
+ghost use Rattle.mb_genuine.specs.Soaked.{SoaksAreUnstopped};
+
+/// Over any service, in each world that nothing stopped, where no raw bytes came in and faulty hosts stamped no other than PREPAREs of
+/// requests: whatever is read of a message that was made, neither a certificate nor a tag in it is forged. So it is whoever is faulty, and without a
+/// premise about digests.
+pub fn nothing_is_forged<V>()
+    ensures { NoneIsForged V }
+{}
+
+/// Over any service, the events of a soak are as they are drawn, each as the world stands before it; they are those of a schedule, and none is stopped:
+/// none is forged, and none is refused by the world.
+pub fn drawn_events_are_not_stopped<V>()
+    ensures { SoaksAreUnstopped V }
+{}

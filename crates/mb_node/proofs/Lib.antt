@@ -1,0 +1,10 @@
+pub mod Faults
+pub mod Told
+pub mod Peers
+pub mod Joining
+pub mod Retraced
+pub mod Runs
+pub mod Turning
+pub mod Counting
+pub mod Lengths
+pub mod Rounding

@@ -1,0 +1,16 @@
+use Rattle.std.proofs.Common.{◌≡◌, take, false}
+use Rattle.mb_model.specs.Histories.{Identity}
+use Rattle.mb_core.specs.Represents.{Serves, IsAtRest}
+use Rattle.mb_node.specs.Retracing.{IsOf}
+use Rattle.mb_node.proofs.Retraced.{IsRetraced}
+use Rattle.mb_node.proofs.retracing.retrace.Given as goal
+
+abbrev pub invariant-loop-entry : goal.invariant-loop-entry
+invariant-loop-entry g l =
+    let v = g.V.Service in
+    record {
+      own : (me : Identity _) → Serves v.is_state v.after v.answer v.part_of v.restored me → me.initial ≡ l.fn.service → IsOf me l.fn.written → IsRetraced me (take l.entry-index l.entry-items) l.replica;
+      count : l.events ≡ l.entry-index;
+      runs : l.replica.halted ≡ false;
+      rests : IsAtRest v.is_state v.after v.answer v.part_of v.restored l.replica;
+    }

@@ -1,0 +1,13 @@
+pub mod Stops
+pub mod Receives
+pub mod Events
+pub mod Recording
+pub mod Sends
+pub mod Outside
+pub mod Serving
+pub mod Turns
+pub mod Rounds
+pub mod Retracing
+pub mod Messages
+pub mod Inboxes
+pub mod Receiving

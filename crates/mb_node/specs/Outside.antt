@@ -1,0 +1,46 @@
+-- What was written and sent, and what is told of faults.
+use Rattle.std.specs.Prelude.{◌≡◌, ◌≢◌, ℕ, ◌≤◌, List, [], ◌++◌, Option, Result, Ok, Err}
+use Rattle.std.specs.Io.KnownBytes.{Appends}
+use Rattle.mb_base.specs.Shapes.{Bytes}
+use Rattle.mb_edge.specs.Faults.{Rose, HasNoFault}
+use Rattle.mb_edge.specs.Told.{with_more}
+use Rattle.mb_node.specs.Sends.{Sends}
+
+-- what was written and sent so far, where sink and link tell it
+pub record Outside : Type 0 where
+  pub written : Option Bytes
+  pub sent : Option Sends
+
+-- these bytes more, and these datagrams
+pub record Adds (before now : Outside) (text : Bytes) (datagrams : Sends) : Type 0 where
+  pub written : Appends before.written now.written text
+  pub sent : now.sent ≡ with_more before.sent datagrams
+
+-- a first part of a list
+pub record IsFirstPart {A : Type 0} (part whole : List A) : Type 0 where
+  pub rest : List A
+  pub joined : part ++ rest ≡ whole
+
+-- A first part of some datagrams was sent.
+pub record SendsPart (datagrams : Sends) (before now : Option Sends) : Type 0 where
+  pub part : Sends
+  pub first : IsFirstPart part datagrams
+  pub sent : now ≡ with_more before part
+
+-- They were sent where the call succeeded, and else a first part of them.
+abbrev pub Delivers : {E : Type 0} → Sends → Option Sends → Option Sends → Result (Unit {0}) E → Type 0
+Delivers datagrams before now (Ok _) = now ≡ with_more before datagrams
+Delivers datagrams before now (Err e) = SendsPart datagrams before now
+
+-- first parts of lines and of datagrams: all lines where some datagram was sent
+pub record IsPartOf (lines : Bytes) (all : Sends) (text : Bytes) (datagrams : Sends) : Type 0 where
+  pub some_lines : IsFirstPart text lines
+  pub some_sent : IsFirstPart datagrams all
+  pub lines_first : datagrams ≢ [] → text ≡ lines
+
+-- A fault is told only where its count rose. The count never falls. A device that is known not to fail stays so, and none is told.
+pub record Counts (before now : ℕ) (safe_before safe_now told : Type 0) : Type 0 where
+  pub rose : told → Rose before now
+  pub later : before ≤ now
+  pub sound : safe_before → safe_now
+  pub quiet : safe_before → HasNoFault before now told

@@ -1,0 +1,108 @@
+//! A node between two receives, and one receive of it with what follows.
+
+ghost use Rattle.std.specs.Prelude.{◌≡◌, ◌≤◌, ◌<◌, ◌+◌, ◌-◌, ◌^◌, false, [], IfOk, OnOk, IsErrOf};
+ghost use Rattle.mb_base.specs.Shapes.{host_count};
+ghost use Rattle.mb_core.specs.Represents.{IsAtRest};
+ghost use Rattle.mb_node.specs.Inboxes.{HasReceived};
+ghost use Rattle.mb_node.specs.Outside.{Counts};
+ghost use Rattle.mb_node.specs.Rounds.{Rounds, event_of, quiets_of};
+ghost use Rattle.mb_model.specs.Histories.{Identity, History};
+ghost use Rattle.mb_core.specs.Represents.{Represents};
+ghost use Rattle.mb_core.specs.Waiting.{wants};
+
+use crate::outbox::Outbox;
+use crate::receiving::{Arrival, Receiver};
+use crate::stops::ServeStop;
+use crate::turn::take_turn;
+use mb_base::{Host, NoMemory, Shape};
+use mb_core::Replica;
+use mb_edge::{Link, Sink};
+use mb_msg::Event;
+use mb_service::Service;
+use std::alloc::Global;
+
+/// The quiet that counts so many makes a host lose patience, where it wants something.
+const PATIENCE: u64 = 8;
+
+/// What a node keeps between two receives, beside the host.
+#[derive(Drop)]
+pub(crate) struct Node {
+    receiver: Receiver,
+    outbox: Outbox,
+    /// How many quiets count.
+    quiets: u64,
+}
+
+impl Node {
+    /// Nothing was received and sent yet.
+    pub(crate) fn make(alloc: Global, shape: Shape, host: Host) -> Result<Node, NoMemory>
+        ensures inbox { IfOk result (λ node. HasReceived shape [] node.receiver.inbox) }
+        ensures outbox { IfOk result (λ node. node.outbox ≡ record { host = host; hosts = host_count shape; number = 0 }) }
+        ensures quiets { IfOk result (λ node. node.quiets ≡ 0) }
+    {
+        Ok(Node {
+            receiver: Receiver::make(alloc, shape)?,
+            outbox: Outbox {
+                host,
+                hosts: shape.n(),
+                number: 0,
+            },
+            quiets: 0,
+        })
+    }
+
+    /// One receive, and the event that it is. Whether that was a right STOP.
+    pub(crate) fn round<V: Service + Drop, K: Sink, L: Link>(
+        &mut self,
+        alloc: Global,
+        replica: &mut Replica<V>,
+        link: &mut L,
+        out: &mut K,
+    ) -> Result<bool, ServeStop>
+        requires few { self.old.quiets < 2 ^ 64 - 1 }
+        requires runs { replica.old.halted ≡ false }
+        requires rests { IsAtRest V.is_state V.after V.answer V.part_of V.restored replica.old }
+        ensures rounds { Rounds V.is_state V.after V.answer V.part_of V.restored self.old self.new replica.old replica.new (L.received link.old) (L.received link.new)
+            (record { written = K.written out.old; sent = L.sent link.old }) (record { written = K.written out.new; sent = L.sent link.new }) result }
+        ensures few { self.new.quiets ≤ self.old.quiets + 1 }
+        ensures runs { OnOk result (replica.new.halted ≡ false) }
+        ensures rests { replica.new.halted ≡ false → IsAtRest V.is_state V.after V.answer V.part_of V.restored replica.new }
+        ensures opens { L.opens link.new ≡ L.opens link.old }
+        ensures link { Counts (L.faults link.old) (L.faults link.new) (L.never_fails link.old) (L.never_fails link.new) (IsErrOf result ServeStop.LinkFault) }
+        ensures sink { Counts (K.faults out.old) (K.faults out.new) (K.never_fails out.old) (K.never_fails out.new) (IsErrOf result ServeStop.SinkFault) }
+    {
+        let arrival = self.receiver.receive(alloc, link)?;
+        let Some(event) = self.event_of(replica, arrival) else {
+            return Ok(false);
+        };
+        let turn = take_turn(alloc, replica, link, out, &mut self.outbox, event)?;
+        if turn.settles {
+            self.quiets = 0;
+        }
+        Ok(turn.stops)
+    }
+
+    /// The event of what arrived. A quiet counts.
+    fn event_of<V: Service + Drop>(
+        &mut self,
+        replica: &Replica<V>,
+        arrival: Arrival,
+    ) -> Option<Event>
+        requires { self.old.quiets < 2 ^ 64 - 1 }
+        ensures event { (me : Identity V) (d : History) → Represents me replica.now d → result ≡ event_of (wants me d) self.old.quiets arrival }
+        ensures counts { self.new ≡ record self.old { quiets = self.old.quiets + quiets_of arrival } }
+    {
+        match arrival {
+            Arrival::Message(message) => Some(Event::Given(message)),
+            Arrival::Nothing => None,
+            Arrival::Quiet => {
+                self.quiets += 1;
+                if self.quiets == PATIENCE && replica.wants() {
+                    Some(Event::Patience)
+                } else {
+                    Some(Event::Nudge)
+                }
+            }
+        }
+    }
+}

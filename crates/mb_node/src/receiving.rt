@@ -1,0 +1,66 @@
+//! Receiving: what a link gives, as messages and quiets.
+
+use crate::inbox::Inbox;
+use mb_base::{Items, NoMemory, Shape};
+use mb_edge::{Failed, Got, Link};
+use mb_frag::{HEADER_LEN, PIECE};
+use std::alloc::Global;
+
+/// One byte more than the longest piece, so that a longer datagram is no piece.
+const DATAGRAM_LIMIT: usize = HEADER_LEN + PIECE + 1;
+
+/// What a receive gave.
+#[derive(Drop)]
+pub(crate) enum Arrival {
+    /// A message is whole.
+    Message(Items<u8>),
+    /// A datagram came, and no message is whole.
+    Nothing,
+    /// No datagram came for a while.
+    Quiet,
+}
+
+/// Receives datagrams, and puts messages together.
+#[derive(Drop)]
+pub(crate) struct Receiver {
+    inbox: Inbox,
+    buffer: Vec<u8>,
+}
+
+impl Receiver {
+    ghost use Rattle.std.specs.Prelude.{◌≡◌, [], IfOk, IsErrOf};
+    ghost use Rattle.mb_node.specs.Inboxes.{HasReceived};
+    ghost use Rattle.mb_node.specs.Outside.{Counts};
+    ghost use Rattle.mb_node.specs.Receiving.{Gives};
+
+    /// Nothing was received yet.
+    pub(crate) fn make(alloc: Global, shape: Shape) -> Result<Receiver, NoMemory>
+        ensures { IfOk result (λ r. HasReceived shape [] r.inbox) }
+    {
+        Ok(Receiver {
+            inbox: Inbox::make(alloc, shape)?,
+            buffer: vec![in alloc; 0; DATAGRAM_LIMIT]?,
+        })
+    }
+
+    /// One receive.
+    pub(crate) fn receive<L: Link>(
+        &mut self,
+        alloc: Global,
+        link: &mut L,
+    ) -> Result<Arrival, Failed>
+        ensures gives { Gives self.old self.new result (L.received link.old) (L.received link.new) }
+        ensures sent { L.sent link.new ≡ L.sent link.old }
+        ensures opens { L.opens link.new ≡ L.opens link.old }
+        ensures link { Counts (L.faults link.old) (L.faults link.new) (L.never_fails link.old) (L.never_fails link.new) (IsErrOf result Failed.Device) }
+    {
+        match link.recv(self.buffer.as_mut_slice()) {
+            Got::Failed(cause) => Err(cause),
+            Got::Quiet => Ok(Arrival::Quiet),
+            Got::Datagram(count) => match self.inbox.take(alloc, &self.buffer[..count])? {
+                Some(message) => Ok(Arrival::Message(message)),
+                None => Ok(Arrival::Nothing),
+            },
+        }
+    }
+}

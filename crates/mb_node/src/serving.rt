@@ -1,0 +1,45 @@
+//! The serving loop.
+
+ghost use Rattle.std.specs.Prelude.{◌≡◌, ◌≤◌, false, IsErrOf, OnOk};
+ghost use Rattle.mb_core.specs.Represents.{IsAtRest};
+ghost use Rattle.mb_node.specs.Outside.{Counts};
+ghost use Rattle.mb_node.specs.Serving.{HasServed};
+
+use crate::node::Node;
+use crate::stops::ServeStop;
+use mb_core::Replica;
+use mb_edge::{Link, Sink};
+use mb_service::Service;
+use std::alloc::Global;
+
+/// Serves as a host: at most so many receives, until a STOP with a right tag. The host has not run out of memory.
+///
+/// Each whole message is an event, and so is each quiet: at the eighth quiet since the host last executed something, lost patience or wanted
+/// nothing, it loses patience where it wants something, and every other quiet is a nudge. After each step the record's two lines are written to
+/// `out`, behind those of a right STOP also `end`, and then the messages are sent, the pieces of each under one number, from 0 on. `Ok` comes
+/// exactly at a right STOP; `Budget` where that many receives were made and none brought one; `LinkFault` and `SinkFault` only where that count
+/// of faults rose.
+pub fn serve<V: Service + Drop, K: Sink, L: Link>(
+    alloc: Global,
+    replica: &mut Replica<V>,
+    link: &mut L,
+    out: &mut K,
+    events: u64,
+) -> Result<(), ServeStop>
+    requires runs { replica.old.halted ≡ false }
+    requires rests { IsAtRest V.is_state V.after V.answer V.part_of V.restored replica.old }
+    ensures serves { HasServed V.is_state V.after V.answer V.part_of V.restored replica.old replica.new events (L.received link.old) (L.received link.new)
+        (record { written = K.written out.old; sent = L.sent link.old }) (record { written = K.written out.new; sent = L.sent link.new }) result }
+    ensures rests { replica.new.halted ≡ false → IsAtRest V.is_state V.after V.answer V.part_of V.restored replica.new }
+    ensures opens { L.opens link.new ≡ L.opens link.old }
+    ensures link { Counts (L.faults link.old) (L.faults link.new) (L.never_fails link.old) (L.never_fails link.new) (IsErrOf result ServeStop.LinkFault) }
+    ensures sink { Counts (K.faults out.old) (K.faults out.new) (K.never_fails out.old) (K.never_fails out.new) (IsErrOf result ServeStop.SinkFault) }
+{
+    let mut node = Node::make(alloc, replica.shape(), replica.host())?;
+    for _ in 0..events {
+        if node.round(alloc, replica, link, out)? {
+            return Ok(());
+        }
+    }
+    Err(ServeStop::Budget { events })
+}

@@ -1,0 +1,104 @@
+//! One event of a node: the host's step, its lines in the record, and what it sends.
+
+ghost use Rattle.std.specs.Prelude.{◌≡◌, ◌<◌, ◌%◌, ◌^◌, ◌||◌, not, ℕ, false, length, IfOk, OnOk, IsErrOf};
+ghost use Rattle.mb_base.specs.Shapes.{host_count};
+ghost use Rattle.mb_model.specs.Histories.{Identity, History};
+ghost use Rattle.mb_model.proofs.StepArises.{IsWhole};
+ghost use Rattle.mb_core.specs.Represents.{Represents, Serves, IsAtRest};
+ghost use Rattle.mb_node.specs.Events.{is_stopping, is_patience, executes_none};
+ghost use Rattle.mb_node.specs.Messages.{AreMessages};
+ghost use Rattle.mb_node.specs.Outside.{Counts};
+ghost use Rattle.mb_node.specs.Turns.{Steps, Turned};
+
+use crate::entries::lines;
+use crate::outbox::Outbox;
+use crate::stops::ServeStop;
+use mb_base::NoMemory;
+use mb_core::{Replica, Stop};
+use mb_edge::{Link, Sink, write_all};
+use mb_msg::{Event, Outcome, Step};
+use mb_service::Service;
+use std::alloc::Global;
+
+/// What an event means to the node.
+#[derive(Clone, Copy, Debug, Drop)]
+pub(crate) struct Turn {
+    /// It was a right STOP.
+    pub(crate) stops: bool,
+    /// The count of quiets begins anew.
+    pub(crate) settles: bool,
+}
+
+/// The host's step.
+pub(crate) fn step_of<V: Service + Drop>(
+    alloc: Global,
+    replica: &mut Replica<V>,
+    event: &Event,
+) -> Result<Step, NoMemory>
+    requires runs { replica.old.halted ≡ false }
+    requires rests { IsAtRest V.is_state V.after V.answer V.part_of V.restored replica.old }
+    ensures stands { (me : Identity V) (d : History) → Serves V.is_state V.after V.answer V.part_of V.restored me → Represents me replica.old d → IsWhole d → IfOk result (λ s. Steps me d event.now s replica.new) }
+    ensures messages { IfOk result (λ s. AreMessages s.sent) }
+    ensures few { IfOk result (λ s. length s.sent < 2 ^ 32) }
+    ensures rests { replica.new.halted ≡ false → IsAtRest V.is_state V.after V.answer V.part_of V.restored replica.new }
+    ensures runs { OnOk result (replica.new.halted ≡ false) }
+{
+    match replica.step(alloc, event) {
+        Ok(step) => Ok(step),
+        Err(Stop::NoMemory) => Err(NoMemory),
+        Err(Stop::Halted) => unreachable!(),
+    }
+}
+
+fn is_stopping(outcome: Outcome) -> bool
+    ensures { result ≡ is_stopping outcome }
+{
+    match outcome {
+        Outcome::Stopping => true,
+        _ => false,
+    }
+}
+
+/// Whether the count of quiets begins anew behind an event: one that executed a slot, that was a Patience, or behind which the host wants nothing.
+fn settles(event: &Event, step: &Step, wants: bool) -> bool
+    ensures { result ≡ is_patience event.now || (not (executes_none step.now.executed) || not wants) }
+{
+    match event {
+        Event::Patience => true,
+        Event::Given(_) | Event::Nudge => step.executed.len() != 0 || !wants,
+    }
+}
+
+/// One event: it is written once the step is done, and its messages are sent once it is written.
+pub(crate) fn take_turn<V: Service + Drop, K: Sink, L: Link>(
+    alloc: Global,
+    replica: &mut Replica<V>,
+    link: &mut L,
+    out: &mut K,
+    outbox: &mut Outbox,
+    event: Event,
+) -> Result<Turn, ServeStop>
+    requires runs { replica.old.halted ≡ false }
+    requires rests { IsAtRest V.is_state V.after V.answer V.part_of V.restored replica.old }
+    ensures stands { (me : Identity V) (d : History) (n : ℕ) → Serves V.is_state V.after V.answer V.part_of V.restored me → Represents me replica.old d → IsWhole d
+        → outbox.old.hosts ≡ host_count me.shape → outbox.old.host ≡ me.host → outbox.old.number ≡ n % 2 ^ 32
+        → Turned me d n event (record { written = K.written out.old; sent = L.sent link.old }) (record { written = K.written out.new; sent = L.sent link.new }) replica.new outbox.new result }
+    ensures unspent { (n : ℕ) → IsErrOf result (ServeStop.Budget n) → ⊥ }
+    ensures who { (outbox.new.host ≡ outbox.old.host) × (outbox.new.hosts ≡ outbox.old.hosts) }
+    ensures rests { replica.new.halted ≡ false → IsAtRest V.is_state V.after V.answer V.part_of V.restored replica.new }
+    ensures runs { OnOk result (replica.new.halted ≡ false) }
+    ensures received { L.received link.new ≡ L.received link.old }
+    ensures opens { L.opens link.new ≡ L.opens link.old }
+    ensures link { Counts (L.faults link.old) (L.faults link.new) (L.never_fails link.old) (L.never_fails link.new) (IsErrOf result ServeStop.LinkFault) }
+    ensures sink { Counts (K.faults out.old) (K.faults out.new) (K.never_fails out.old) (K.never_fails out.new) (IsErrOf result ServeStop.SinkFault) }
+{
+    let step = step_of(alloc, replica, &event)?;
+    let turn = Turn {
+        stops: is_stopping(step.outcome),
+        settles: settles(&event, &step, replica.wants()),
+    };
+    let sent = step.sent.as_slice();
+    write_all(out, lines(alloc, event, sent, turn.stops)?.as_slice())?;
+    outbox.send_all(alloc, link, sent)?;
+    Ok(turn)
+}

@@ -1,0 +1,54 @@
+-- What the words of a command ask for.
+use Rattle.std.specs.Prelude.{ℕ, ◌-◌, ◌^◌, ◌≤◌, Bool, true, false, List, [], ◌∷◌, Option, Some, None, if◌then◌else◌}
+use Rattle.mb_base.specs.Shapes.{Bytes}
+use Rattle.mb_sched.specs.Schedules.{max_text}
+use Rattle.mb_sched.specs.Records.{max_record}
+use Rattle.mb_sched.specs.Words.{◌>>=◌, is, number_in}
+use Rattle.mb_top.specs.declared.command.Command.{Command}
+use Rattle.mb_top.specs.declared.command.Command.TheVariants.{Replay, Soak, Node, Retrace, Cluster}
+
+-- `soak SEED N`
+abbrev pub soak_of : Bytes → Bytes → Option Command
+soak_of seed events = do
+  s ← number_in 0 (2 ^ 64 - 1) seed
+  n ← number_in 1 100000 events
+  Some (Soak s n)
+
+-- `node ID EVENTS`
+abbrev pub node_of : Bytes → Bytes → Option Command
+node_of host events = do
+  h ← number_in 0 (2 ^ 64 - 1) host
+  n ← number_in 1 1000000 events
+  Some (Node h n)
+
+-- `cluster TURNS`
+abbrev pub cluster_of : Bytes → Option Command
+cluster_of turns = do
+  n ← number_in 1 1000000 turns
+  Some (Cluster n)
+
+abbrev pub command_of : List Bytes → Option Command
+command_of (name ∷ []) = if is "replay" name then Some Replay else (if is "retrace" name then Some Retrace else None)
+command_of (name ∷ turns ∷ []) = if is "cluster" name then cluster_of turns else None
+command_of (name ∷ first ∷ second ∷ []) = if is "soak" name then soak_of first second else (if is "node" name then node_of first second else None)
+command_of _ = None
+
+-- Its numbers are within their limits.
+abbrev pub IsWithin : Command → Type 0
+IsWithin Replay = Unit {0}
+IsWithin (Soak seed n) = (1 ≤ n) × (n ≤ 100000)
+IsWithin (Node h n) = (1 ≤ n) × (n ≤ 1000000)
+IsWithin Retrace = Unit {0}
+IsWithin (Cluster n) = (1 ≤ n) × (n ≤ 1000000)
+
+-- Another one is not built yet.
+abbrev pub is_built : Command → Bool
+is_built Replay = true
+is_built (Soak seed n) = true
+is_built Retrace = true
+is_built _ = false
+
+-- the most bytes that the text it reads may have
+abbrev pub text_limit : Option Command → ℕ
+text_limit (Some Retrace) = max_record
+text_limit _ = max_text

@@ -1,0 +1,9 @@
+pub mod Commands
+pub mod Texts
+pub mod Systems
+pub mod Runs
+pub mod Answers
+pub mod Soaks
+pub mod Records
+pub mod Devices
+pub mod Outcomes

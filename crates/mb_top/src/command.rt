@@ -1,0 +1,105 @@
+//! What the words of a command ask for.
+
+ghost use Rattle.std.specs.Prelude.{◌≡◌, [], ◌∷◌, map, string_bytes, IfSome};
+ghost use Rattle.mb_top.specs.Commands.{command_of, soak_of, node_of, cluster_of, IsWithin};
+
+use mb_sched::{is_word, number_in};
+
+/// The most events that are drawn.
+const MAX_DRAWN: u64 = 100_000;
+
+/// The most receives of a node, and the most turns of a client program.
+const MAX_BUDGET: u64 = 1_000_000;
+
+/// What the words ask for.
+#[derive(Clone, Copy, Debug, PartialEq, Eq)]
+pub enum Command {
+    /// A schedule is run and reported on.
+    Replay,
+    /// So many events are drawn from a seed and run.
+    Soak { seed: u64, events: u64 },
+    /// A host serves, for at most so many receives.
+    Node { host: u64, events: u64 },
+    /// What a host recorded is run again.
+    Retrace,
+    /// A client program asks hosts that it starts, with at most so many receives for each operation.
+    Cluster { turns: u64 },
+}
+
+fn one_word(name: &[u8]) -> Option<Command>
+    ensures command { result ≡ command_of (name.now ∷ []) }
+    ensures within { IfSome result IsWithin }
+{
+    if is_word(name, b"replay") {
+        Some(Command::Replay)
+    } else if is_word(name, b"retrace") {
+        Some(Command::Retrace)
+    } else {
+        None
+    }
+}
+
+fn cluster_of(turns: &[u8]) -> Option<Command>
+    ensures command { result ≡ cluster_of turns.now }
+    ensures within { IfSome result IsWithin }
+{
+    let turns = number_in(1, MAX_BUDGET, turns)?;
+    Some(Command::Cluster { turns })
+}
+
+fn two_words(name: &[u8], turns: &[u8]) -> Option<Command>
+    ensures command { result ≡ command_of (name.now ∷ turns.now ∷ []) }
+    ensures within { IfSome result IsWithin }
+{
+    if is_word(name, b"cluster") {
+        cluster_of(turns)
+    } else {
+        None
+    }
+}
+
+fn soak_of(seed: &[u8], events: &[u8]) -> Option<Command>
+    ensures command { result ≡ soak_of seed.now events.now }
+    ensures within { IfSome result IsWithin }
+{
+    let seed = number_in(0, u64::MAX, seed)?;
+    let events = number_in(1, MAX_DRAWN, events)?;
+    Some(Command::Soak { seed, events })
+}
+
+fn node_of(host: &[u8], events: &[u8]) -> Option<Command>
+    ensures command { result ≡ node_of host.now events.now }
+    ensures within { IfSome result IsWithin }
+{
+    let host = number_in(0, u64::MAX, host)?;
+    let events = number_in(1, MAX_BUDGET, events)?;
+    Some(Command::Node { host, events })
+}
+
+fn three_words(name: &[u8], first: &[u8], second: &[u8]) -> Option<Command>
+    ensures command { result ≡ command_of (name.now ∷ first.now ∷ second.now ∷ []) }
+    ensures within { IfSome result IsWithin }
+{
+    if is_word(name, b"soak") {
+        soak_of(first, second)
+    } else if is_word(name, b"node") {
+        node_of(first, second)
+    } else {
+        None
+    }
+}
+
+/// What the words ask for. The program's own name isn't among them.
+pub(crate) fn command_in(words: &[String]) -> Option<Command>
+    ensures command { result ≡ command_of (map string_bytes words.now) }
+    ensures within { IfSome result IsWithin }
+{
+    match words {
+        [name] => one_word(name.as_bytes()),
+        [name, turns] => two_words(name.as_bytes(), turns.as_bytes()),
+        [name, first, second] => {
+            three_words(name.as_bytes(), first.as_bytes(), second.as_bytes())
+        }
+        _ => None,
+    }
+}

@@ -1,0 +1,163 @@
+//! A whole schedule, and the answer to it.
+
+ghost use Rattle.std.specs.Prelude.{◌≡◌, [], false, replicate, IfOk};
+ghost use Rattle.mb_sched.specs.Limits.{IsSchedule};
+ghost use Rattle.mb_sched.specs.Report.{report_text};
+ghost use Rattle.mb_theory.specs.World.{World as WorldState, nothing_happened};
+ghost use Rattle.mb_world.specs.Reports.{report_of};
+ghost use Rattle.mb_world.specs.Tables.{RepresentsWorld};
+ghost use Rattle.mb_top.specs.Systems.{system_of};
+ghost use Rattle.mb_top.specs.Runs.{Runs, run_stop_of};
+ghost use Rattle.mb_top.specs.Answers.{AnswersSchedule, Answers};
+
+use crate::answer::{Answer, DONE, bad_line, forged, forged_tag, too_long};
+use mb_base::{Counter, Host, NoMemory};
+use mb_kv::Kv;
+use mb_sched::{BadText, Schedule, parse_schedule, print_report};
+use mb_world::{World, WorldStop};
+use std::alloc::{AllocError, Global};
+
+/// How many lines stand before the events of a schedule.
+const HEADER_LINES: u64 = 6;
+
+/// Why a schedule did not run to its end.
+#[derive(Clone, Copy, Debug, PartialEq, Eq)]
+pub(crate) enum RunStop {
+    /// An event is the doing of someone who is not faulty, or names a message that was not made or is of another kind.
+    BadEvent {
+        /// Its number, from 1.
+        number: u64,
+    },
+    /// An event delivers a certificate that was never made.
+    Forged {
+        event: u64,
+        host: Host,
+        counter: Counter,
+    },
+    /// An event delivers a tag that was never made.
+    ForgedTag {
+        event: u64,
+    },
+    /// Memory ran out.
+    NoMemory,
+}
+
+impl From<NoMemory> for RunStop {
+    ghost use Rattle.mb_top.specs.declared.replay.RunStop.TheVariants as run_stop;
+
+    ghost from_gives = { λ _ e. e ≡ run_stop.NoMemory };
+
+    fn from(_e: NoMemory) -> RunStop {
+        RunStop::NoMemory
+    }
+}
+
+/// Why a schedule did not run to its end, by what stands in the way of the event of a number.
+fn run_stop(number: u64, stop: WorldStop) -> RunStop
+    ensures { result ≡ run_stop_of number stop }
+{
+    match stop {
+        WorldStop::NotFaulty { .. }
+        | WorldStop::NoSuchMessage { .. }
+        | WorldStop::WrongKind { .. } => RunStop::BadEvent { number },
+        WorldStop::Forged {
+            event,
+            host,
+            counter,
+        } => RunStop::Forged {
+            event,
+            host,
+            counter,
+        },
+        WorldStop::ForgedTag { event } => RunStop::ForgedTag { event },
+        WorldStop::NoMemory | WorldStop::Halted => RunStop::NoMemory,
+    }
+}
+
+/// An empty service for each host.
+pub(crate) fn services(alloc: Global, hosts: u8) -> Result<Vec<Kv>, AllocError>
+    ensures { IfOk result (λ v. v.items ≡ replicate hosts []) }
+{
+    let mut services = Vec::new(alloc);
+    for _ in 0..hosts {
+        services.push(Kv::new(alloc))?;
+    }
+    Ok(services)
+}
+
+/// The world before the first event of a schedule.
+fn world_of(alloc: Global, schedule: &Schedule) -> Result<World<Kv>, NoMemory>
+    requires { IsSchedule schedule.now }
+    ensures stands { IfOk result (λ w. RepresentsWorld (system_of schedule.now) w nothing_happened) }
+    ensures runs { IfOk result (λ w. w.halted ≡ false) }
+    ensures none { IfOk result (λ w. w.events ≡ 0) }
+    ensures shape { IfOk result (λ w. w.shape ≡ schedule.now.shape) }
+{
+    World::make(
+        alloc,
+        schedule.shape,
+        &schedule.secret,
+        schedule.faulty_hosts.as_slice(),
+        schedule.faulty_clients.as_slice(),
+        services(alloc, schedule.shape.n())?,
+    )
+}
+
+/// The world after all events of a schedule, or what stands in the way of the first that cannot be or delivers what is forged.
+fn run(alloc: Global, schedule: &Schedule) -> Result<World<Kv>, RunStop>
+    requires { IsSchedule schedule.now }
+    ensures { Runs schedule.now result }
+{
+    let mut world = world_of(alloc, schedule)?;
+    for event in schedule.events.as_slice() {
+        let number = world.events() + 1;
+        match world.world_step(alloc, event) {
+            Ok(_) => {}
+            Err(stop) => return Err(run_stop(number, stop)),
+        }
+    }
+    Ok(world)
+}
+
+/// The report of a world.
+fn report_on(alloc: Global, world: &World<Kv>) -> Result<Answer, NoMemory>
+    ensures { (s : Schedule) (x : WorldState) → RepresentsWorld (system_of s) world.now x → IfOk result (λ a. (a.status ≡ 0) × (a.text.items ≡ report_text (report_of (system_of s) x))) }
+{
+    let report = world.report(alloc)?;
+    Ok(Answer {
+        status: DONE,
+        text: print_report(alloc, &report)?,
+    })
+}
+
+/// The answer to a schedule: the report after its events, or what stands in the way of the first event that is not done.
+fn answer_schedule(alloc: Global, schedule: &Schedule) -> Result<Answer, NoMemory>
+    requires { IsSchedule schedule.now }
+    ensures { IfOk result (λ a. AnswersSchedule schedule.now a.status a.text.items) }
+{
+    match run(alloc, schedule) {
+        Ok(world) => report_on(alloc, &world),
+        Err(RunStop::BadEvent { number }) => bad_line(alloc, number + HEADER_LINES),
+        Err(
+            RunStop::Forged {
+                event,
+                host,
+                counter,
+            },
+        ) => forged(alloc, event, host, counter),
+        Err(RunStop::ForgedTag { event }) => forged_tag(alloc, event),
+        Err(RunStop::NoMemory) => Err(NoMemory),
+    }
+}
+
+/// The answer to the text of a schedule.
+pub(crate) fn answer_to(alloc: Global, text: &[u8]) -> Result<Answer, NoMemory>
+    ensures { IfOk result (λ a. Answers text.now a.status a.text.items) }
+{
+    match parse_schedule(alloc, text) {
+        Ok(schedule) => answer_schedule(alloc, &schedule),
+        Err(BadText::TooLong) => too_long(alloc),
+        Err(BadText::BadLine { number }) => bad_line(alloc, u64::from(number)),
+        Err(BadText::NoMemory) => Err(NoMemory),
+    }
+}

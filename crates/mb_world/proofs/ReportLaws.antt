@@ -1,0 +1,43 @@
+-- The lines of a report.
+use Rattle.std.proofs.Common.{◌≡◌, ℕ, List, [], ◌∷◌, length, map, Option, Some, None, refl, ap, ◌∙◌}
+use Rattle.std.specs.Option.{option_map}
+use Rattle.std.specs.List.{range_with_len}
+use Rattle.mb_base.specs.Shapes.{Bytes, host_count, client_count}
+use Rattle.mb_msg.specs.declared.event.Slot.{Slot}
+use Rattle.mb_msg.specs.declared.normal.Reply.{Reply}
+use Rattle.mb_client.specs.Represents.{newest, result_of}
+use Rattle.mb_sched.specs.declared.report.RefusedLine.{RefusedLine}
+use Rattle.mb_sched.specs.declared.report.HostLine.{HostLine}
+use Rattle.mb_sched.specs.declared.report.ClientLine.{ClientLine}
+use Rattle.mb_sched.specs.declared.report.LastResult.{LastResult}
+use Rattle.mb_theory.specs.World.{World as WorldState, System}
+use Rattle.mb_service.specs.declared.service.Service.{Ghosts}
+use Rattle.mb_world.specs.declared.world.World.{World}
+use Rattle.mb_world.specs.Reports.{last_result, host_line, client_line, report_of}
+use Rattle.mb_world.specs.Tables.{RepresentsWorld}
+use Rattle.mb_world.proofs.ListLaws.{some_is}
+
+-- ---- the last accepted result
+
+pub none_accepted : (replies : List Reply) → None ≡ option_map result_of (newest replies) → None ≡ last_result replies
+none_accepted [] e = refl
+none_accepted (r ∷ replies) e = absurd cc
+
+pub last_accepted : (replies : List Reply) (seq pos : ℕ) (answer : Bytes) → Some (seq, pos, answer) ≡ option_map result_of (newest replies) → Some (record { seq = seq; pos = pos; result = answer }) ≡ last_result replies
+last_accepted [] seq pos answer e = absurd cc
+last_accepted (r ∷ replies) seq pos answer e =
+    let line : ℕ × ℕ × Bytes → Option LastResult = λ t. Some (record { seq = t.0; pos = t.1; result = t.2 }) in
+    ap line (some_is (seq, pos, answer) (result_of r) e)
+
+-- ---- all lines
+
+pub report_is : {V : Type 0} {g : Ghosts V} (y : System V) (w : World V g) (x : WorldState) → RepresentsWorld y w x → length w.members.items ≡ host_count w.shape → length w.askers.items ≡ client_count w.shape
+    → (messages : ℕ) (line : List Slot) (refused : List RefusedLine) (hosts : List HostLine) (clients : List ClientLine)
+    → messages ≡ length w.pool.items → line ≡ w.line.items → refused ≡ w.refused.items
+    → hosts ≡ map (host_line y x) (range_with_len 0 (length w.members.items)) → clients ≡ map (client_line x) (range_with_len 0 (length w.askers.items))
+    → record { events = w.events; messages = messages; line = line; refused = refused; hosts = hosts; clients = clients } ≡ report_of y x
+unfolding report_of
+report_is y w x h hosts_len clients_len messages line refused hosts clients is_messages is_line is_refused is_hosts is_clients =
+    let n : length w.members.items ≡ host_count y.schedule.shape = hosts_len ∙ ap host_count h.rest.shape in
+    let m : length w.askers.items ≡ client_count y.schedule.shape = clients_len ∙ ap client_count h.rest.shape in
+    rw (is_messages, is_line, is_refused, is_hosts, is_clients, n, m, h.rest.events, h.rest.pool, h.rest.line, h.rest.refused) refl

@@ -1,0 +1,31 @@
+-- A world before an event, while it runs, and behind it: the tables are the same, or those of the next world.
+use Rattle.std.proofs.Common.{◌≡◌, ℕ, List, Result}
+use Rattle.mb_base.specs.Shapes.{Bytes}
+use Rattle.mb_service.specs.declared.service.Service.{Ghosts}
+use Rattle.mb_theory.specs.World.{World as WorldState, System}
+use Rattle.mb_theory.specs.World.{Seen as Answer}
+use Rattle.mb_world.specs.declared.world.World.{World}
+use Rattle.mb_world.specs.Tables.{RepresentsWorld, HasWorld, Leaves}
+use Rattle.mb_world.proofs.WorldLaws.{IsFixed, unchanged}
+
+-- Each table is as it was.
+pub record HasTables {V : Type 0} {g : Ghosts V} (v w : World V g) : Type 0 where
+  pub fixed : IsFixed v w
+  pub members : w.members ≡ v.members
+  pub askers : w.askers ≡ v.askers
+  pub ledger : w.ledger ≡ v.ledger
+  pub pool : w.pool ≡ v.pool
+  pub line : w.line ≡ v.line
+  pub refused : w.refused ≡ v.refused
+  pub events : w.events ≡ v.events
+
+module _ {V : Type 0} {g : Ghosts V} (v w : World V g) where
+  pub still_stands : (y : System V) (x : WorldState) → RepresentsWorld y v x → HasTables v w → RepresentsWorld y w x
+  still_stands y x old same = unchanged y v w x old same.fixed same.members same.askers same.ledger same.pool same.line same.refused same.events
+
+  pub still_left : (y : System V) (a : Answer) (x z : WorldState) → Leaves y v a x z → HasTables v w → Leaves y w a x z
+  still_left y a x z left same = record { stands = still_stands y z left.stands same; answered = left.answered }
+
+  pub still_has : (is_state : V → Type 0) (after : V → Bytes → V) (result : V → Bytes → Bytes) (part : V → ℕ → Bytes) (restored : List Bytes → Result V (ℕ × ℕ)) → HasWorld is_state after result part restored v → HasTables v w
+      → HasWorld is_state after result part restored w
+  still_has is_state after result part restored old same = record { system = old.system; state = old.state; is = old.is; represents = still_stands old.system old.state old.represents same }

@@ -1,0 +1,37 @@
+use Rattle.std.proofs.Common.{◌≡◌, None, subst}
+use Rattle.mb_sched.specs.declared.schedule.WorldEvent.{WorldEvent}
+use Rattle.mb_theory.specs.WorldSteps.{happens}
+use Rattle.mb_theory.specs.Stops.{stop_of}
+use Rattle.mb_world.proofs.StopLaws.{given_there, taken_there}
+use Rattle.mb_world.proofs.world.World.deliver.Goals as goal
+
+pub give-requires-clause-allowed : goal.give-requires-clause-allowed
+give-requires-clause-allowed g c = λ y x h.
+    given_there y.schedule x c.in-Give.message c.in-Give.host (subst (λ (e : WorldEvent). stop_of y.schedule x e ≡ None) c.in-Give.is (c.requires.there y x h))
+
+pub take-requires-clause-allowed : goal.take-requires-clause-allowed
+take-requires-clause-allowed g c = λ y x h.
+    taken_there y.schedule x c.in-Take.message c.in-Take.client (subst (λ (e : WorldEvent). stop_of y.schedule x e ≡ None) c.in-Take.is (c.requires.there y x h))
+
+pub returns-in-Ask-clause-stands : goal.returns-in-Ask-clause-stands
+unfolding happens
+returns-in-Ask-clause-stands g c = λ y x is h. rw c.in-Ask.is (c.ask.ensures.stands y x h)
+
+pub returns-in-Give-clause-stands : goal.returns-in-Give-clause-stands
+unfolding happens
+returns-in-Give-clause-stands g c = λ y x is h. rw c.in-Give.is (c.give.ensures.stands y x is h)
+
+pub returns-in-Take-clause-stands : goal.returns-in-Take-clause-stands
+unfolding happens
+returns-in-Take-clause-stands g c = λ y x is h. rw c.in-Take.is (c.take.ensures.stands y x h)
+
+pub returns-in-Raw-clause-stands : goal.returns-in-Raw-clause-stands
+returns-in-Raw-clause-stands g c = λ y x is h. rw c.in-Raw.is (c.raw.ensures.stands y x is h)
+
+pub returns-in-Patience-clause-stands : goal.returns-in-Patience-clause-stands
+unfolding happens
+returns-in-Patience-clause-stands g c = λ y x is h. rw c.in-Patience.is (c.signal.ensures.stands y x is h)
+
+pub returns-in-Nudge-clause-stands : goal.returns-in-Nudge-clause-stands
+unfolding happens
+returns-in-Nudge-clause-stands g c = λ y x is h. rw c.in-Nudge.is (c.signal-in-Nudge.ensures.stands y x is h)

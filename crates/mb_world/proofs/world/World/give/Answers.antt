@@ -1,0 +1,20 @@
+use Rattle.std.proofs.Common.{◌≡◌, ◌∙◌, List, Some, None, sym, ap}
+use Rattle.mb_base.specs.Shapes.{Bytes}
+use Rattle.mb_theory.specs.World.{give_host, numbered}
+use Rattle.mb_world.proofs.WorldLaws.{message_there}
+use Rattle.mb_world.proofs.world.World.give.Goals as goal
+
+pub returns-in_ok-bytes-in-Some-clause-stands : goal.returns-in_ok-bytes-in-Some-clause-stands
+returns-in_ok-bytes-in-Some-clause-stands g c = λ y x is h.
+    let n = c.args.number in
+    let read = c.in-Some.ensures in
+    let copied = c.in_ok-bytes-in-Some.ensures in
+    let there : numbered x.pool n ≡ Some c.in_ok-bytes-in-Some.bytes =
+    ap (λ (p : List Bytes). numbered p n) (sym h.rest.pool) ∙ (sym read ∙ ap Some (sym copied)) in
+    message_there y c.give_host.new.self x (give_host y c.args.host) (numbered x.pool n) c.in_ok-bytes-in-Some.bytes c.give_host.result there (c.give_host.ensures.stands y x is h)
+
+pub returns-in-None-clause-stands : goal.returns-in-None-clause-stands
+returns-in-None-clause-stands g c = λ y x is h.
+    let none : None ≡ numbered x.pool c.args.number = c.in-None.ensures ∙ ap (λ (p : List Bytes). numbered p c.args.number) h.rest.pool in
+    let gone = rw (← none) at (c.requires.allowed y x h) in
+    absurd cc

@@ -1,0 +1,96 @@
+use Rattle.std.proofs.Common.{◌≡◌, ◌∙◌, ◌∷◌, true, false, refl, sym}
+use Rattle.mb_theory.specs.World.{stamps, update}
+use Rattle.mb_world.specs.declared.members.Stamp.{Stamp}
+use Rattle.mb_world.specs.Answers.{as_answer}
+use Rattle.mb_world.specs.Stamping.{kept_stamp}
+use Rattle.mb_world.proofs.AskerLaws.{asked_more}
+use Rattle.mb_world.proofs.StampLaws.{stamped_one, content_is}
+use Rattle.mb_world.proofs.WorldLaws.{if_both, keeps_then, leaves_at}
+use Rattle.mb_world.proofs.world.World.stamp.Goals as goal
+
+pub invariant_of-self : goal.invariant_of-self
+invariant_of-self g c =
+    let w = c.args.self.now in
+    record {
+      one_shape = w.one_shape;
+      pens_len = w.pens_len;
+      faulty_hosts_len = w.faulty_hosts_len;
+      faulty_clients_len = w.faulty_clients_len;
+      members_len = c.stamp_content.ensures.len ∙ w.members_len;
+      askers_len = w.askers_len;
+      all_run = λ e. c.stamp_content.ensures.runs (w.all_run e);
+      members_of = c.stamp_content.ensures.of;
+      stamped_in = c.stamp_content.ensures.within w.events w.stamped_in;
+      asked_in = asked_more w.events w.askers.items w.asked_in;
+      askers_shape = w.askers_shape;
+    }
+
+pub invariant_of-self-in-Break-branch-3 : goal.invariant_of-self-in-Break-branch-3
+invariant_of-self-in-Break-branch-3 g c =
+    let w = c.args.self.now in
+    record {
+      one_shape = (w.one_shape.0, c.note_stamp.ensures.shape ∙ w.one_shape.1);
+      pens_len = w.pens_len;
+      faulty_hosts_len = w.faulty_hosts_len;
+      faulty_clients_len = w.faulty_clients_len;
+      members_len = c.stamp_content.ensures.len ∙ w.members_len;
+      askers_len = w.askers_len;
+      all_run = λ e. c.stamp_content.ensures.runs (w.all_run e);
+      members_of = c.stamp_content.ensures.of;
+      stamped_in = c.stamp_content.ensures.within w.events w.stamped_in;
+      asked_in = asked_more w.events w.askers.items w.asked_in;
+      askers_shape = w.askers_shape;
+    }
+
+pub invariant_of-self-in-Some : goal.invariant_of-self-in-Some
+invariant_of-self-in-Some g c =
+    let w = c.args.self.now in
+    record {
+      one_shape = (w.one_shape.0, c.note_stamp.ensures.shape ∙ w.one_shape.1);
+      pens_len = w.pens_len;
+      faulty_hosts_len = w.faulty_hosts_len;
+      faulty_clients_len = w.faulty_clients_len;
+      members_len = c.stamp_content.ensures.len ∙ w.members_len;
+      askers_len = w.askers_len;
+      all_run = λ e. c.stamp_content.ensures.runs (w.all_run e);
+      members_of = c.stamp_content.ensures.of;
+      stamped_in = c.stamp_content.ensures.within w.events w.stamped_in;
+      asked_in = asked_more w.events w.askers.items w.asked_in;
+      askers_shape = w.askers_shape;
+    }
+
+pub invariant_of-self-in-None : goal.invariant_of-self-in-None
+invariant_of-self-in-None g c =
+    let w = c.args.self.now in
+    record {
+      one_shape = w.one_shape;
+      pens_len = w.pens_len;
+      faulty_hosts_len = w.faulty_hosts_len;
+      faulty_clients_len = w.faulty_clients_len;
+      members_len = c.stamp_content.ensures.len ∙ w.members_len;
+      askers_len = w.askers_len;
+      all_run = λ e. c.stamp_content.ensures.runs (w.all_run e);
+      members_of = c.stamp_content.ensures.of;
+      stamped_in = c.stamp_content.ensures.within w.events w.stamped_in;
+      asked_in = asked_more w.events w.askers.items w.asked_in;
+      askers_shape = w.askers_shape;
+    }
+
+pub returns-in_ok-note_stamp-in-Some-clause-stands : goal.returns-in_ok-note_stamp-in-Some-clause-stands
+returns-in_ok-note_stamp-in-Some-clause-stands g c = λ y x m h faulty same.
+    let v = c.args.self.now in
+    let s = y.schedule in
+    let host = c.args.host in
+    let made : Stamp = c.in-Some.field-0 in
+    let told = rw c.in-Some.is at (c.in_ok-bare.ensures.stands y x.histories x.faulty_stamps h.members) in
+    let kept = keeps_then s.shape v.ledger c.note_stamp.new.self (stamps s x) (update (stamps s x) host (made.bare ∷ stamps s x host)) x.asked x.asked x.tagged x.tagged h.rest.ledger
+    (λ k. c.in_ok-note_stamp-in-Some.ensures.keeps (stamps s x) x.asked x.tagged k) in
+    if_both c.add_message.result _ _ _ c.add_message.ensures.pool c.add_message.ensures.answer
+    (λ a pool answer. leaves_at y _ (as_answer a) x _ _ (content_is s x host c.args.content m made told.0 same)
+    (stamped_one y v _ x host (kept_stamp made) a h (record { shape = refl; usig = refl; pens = refl; hosts = refl; clients = refl }) faulty told.1 refl kept pool refl refl refl answer))
+
+pub returns-in-None-clause-stands : goal.returns-in-None-clause-stands
+returns-in-None-clause-stands g c = λ y x m h faulty same.
+    let correct = rw c.in-None.is at (c.in_ok-bare.ensures.stands y x.histories x.faulty_stamps h.members) in
+    let both : true ≡ false = sym faulty ∙ correct in
+    absurd cc

@@ -1,0 +1,10 @@
+pub mod Hosts
+pub mod Members
+pub mod Askers
+pub mod Answers
+pub mod Tables
+pub mod Contents
+pub mod Stamps
+pub mod Stamping
+pub mod Reports
+pub mod Replies

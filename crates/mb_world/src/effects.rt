@@ -1,0 +1,261 @@
+//! What is given to hosts and clients, and what a host's step leaves in the world.
+
+ghost use Rattle.std.specs.Prelude.{◌≡◌, ◌++◌, map, fold, OnOk};
+ghost use Rattle.mb_theory.specs.World.{extended};
+
+use crate::members::step_at;
+use crate::refusals::note_refusal;
+use crate::seen::Seen;
+use crate::stamps::note_step;
+use crate::world::World;
+use mb_base::{Client, Duplicate, Host, Items, NoMemory};
+use mb_msg::{Event, Sent, Slot, Step};
+use mb_sched::Name;
+use mb_service::Service;
+use std::alloc::Global;
+
+impl<V: Service + Drop> World<V> {
+    ghost use Rattle.std.specs.Prelude.{◌≡◌, ◌<◌, ◌+◌, ◌-◌, ◌^◌, ◌++◌, true, false, is_some, reverse, filter_map, IfOk, OnOk};
+    ghost use Rattle.mb_base.specs.Shapes.{client_count, host_count};
+    ghost use Rattle.mb_sched.specs.declared.schedule.WorldEvent.TheVariants.{Raw};
+    ghost use Rattle.mb_model.specs.Given.{Answer};
+    ghost use Rattle.mb_core.specs.Represents.{IsStep};
+    ghost use Rattle.mb_sched.specs.Limits.{is_faulty, NameFits};
+    ghost use Rattle.mb_theory.specs.World.{World as WorldState, System, lost_or, steps, stepped, numbered, answered, update, give_host, give_client, signal};
+    ghost use Rattle.mb_theory.specs.WorldSteps.{with_message, happens};
+    ghost use Rattle.mb_world.specs.Hosts.{IsSystem};
+    ghost use Rattle.mb_world.specs.Members.{AllRun, RepresentsMembers};
+    ghost use Rattle.mb_world.specs.Stamps.{FitsWhereStamped, bare_in, bares_of};
+    ghost use Rattle.mb_world.specs.Answers.{as_answer};
+    ghost use Rattle.mb_world.specs.Tables.{RepresentsRest, RepresentsWorld, HasWorld, Leaves};
+
+    // ---- answers
+
+    /// The event is done, with this answer.
+    pub(crate) fn note(&mut self, alloc: Global, seen: Seen) -> Result<Seen, NoMemory>
+        requires few { self.old.events < 2 ^ 64 - 1 }
+        requires halted { self.old.halted ≡ true }
+        ensures stands { (y : System V) (x : WorldState) → RepresentsWorld y self.old x → IfOk result (λ a. Leaves y self.new (as_answer a) x (answered (as_answer seen) x)) }
+        ensures members { self.new.members ≡ self.old.members }
+        ensures halted { self.new.halted ≡ self.old.halted }
+        ensures shape { self.new.shape ≡ self.old.shape }
+        ensures counts { OnOk result (self.new.events ≡ self.old.events + 1) }
+    {
+        self.events += 1;
+        note_refusal(alloc, &mut self.refused, self.events, seen)?;
+        Ok(seen)
+    }
+
+    // ---- hosts
+
+    /// A host makes the step of an event. At a faulty one it is lost.
+    fn step(&mut self, alloc: Global, host: Host, event: &Event) -> Result<Seen, NoMemory>
+        requires host { host < host_count self.old.shape }
+        requires few { self.old.events < 2 ^ 64 - 1 }
+        requires runs { AllRun self.old.members.items }
+        requires has { HasWorld V.is_state V.after V.answer V.part_of V.restored self.old }
+        requires halted { self.old.halted ≡ true }
+        ensures stands { (y : System V) (x : WorldState) → IsSystem V.is_state V.after V.answer V.part_of V.restored y → RepresentsWorld y self.old x
+            → IfOk result (λ a. Leaves y self.new (as_answer a) x (lost_or (is_faulty y.schedule host) (steps y host event.now) x)) }
+        ensures runs { OnOk result (AllRun self.new.members.items) }
+        ensures halted { self.new.halted ≡ self.old.halted }
+        ensures shape { self.new.shape ≡ self.old.shape }
+        ensures counts { OnOk result (self.new.events ≡ self.old.events + 1) }
+    {
+        match step_at(alloc, &mut self.members, host, event)? {
+            Some(step) => self.stepped(alloc, host, step),
+            None => self.note(alloc, Seen::Lost),
+        }
+    }
+
+    /// What a correct host's step leaves.
+    fn stepped(&mut self, alloc: Global, host: Host, step: Step) -> Result<Seen, NoMemory>
+        requires host { host < host_count self.old.shape }
+        requires few { self.old.events < 2 ^ 64 - 1 }
+        requires halted { self.old.halted ≡ true }
+        ensures stands { (y : System V) (x : WorldState) (a : Answer) → RepresentsMembers y self.old.members.items (update x.histories host a.left.history) x.faulty_stamps → RepresentsRest y.schedule self.old x
+            → IsStep step a → FitsWhereStamped y.schedule.shape a.left.sent → is_faulty y.schedule host ≡ false → bares_of a.left.history ≡ reverse (filter_map bare_in a.left.sent) ++ bares_of (x.histories host)
+            → IfOk result (λ r. Leaves y self.new (as_answer r) x (stepped y.schedule host a x)) }
+        ensures members { self.new.members ≡ self.old.members }
+        ensures halted { self.new.halted ≡ self.old.halted }
+        ensures shape { self.new.shape ≡ self.old.shape }
+        ensures counts { OnOk result (self.new.events ≡ self.old.events + 1) }
+    {
+        let Step {
+            outcome,
+            sent,
+            executed,
+            ..
+        } = step;
+        note_step(alloc, &mut self.ledger, host, sent.as_slice())?;
+        add_messages(&mut self.pool, sent)?;
+        extend_line(&mut self.line, executed)?;
+        self.note(alloc, Seen::Host(outcome))
+    }
+
+    /// Lost patience, or a Nudge.
+    pub(crate) fn signal(
+        &mut self,
+        alloc: Global,
+        host: Host,
+        event: &Event,
+    ) -> Result<Seen, NoMemory>
+        requires host { host < host_count self.old.shape }
+        requires few { self.old.events < 2 ^ 64 - 1 }
+        requires runs { AllRun self.old.members.items }
+        requires has { HasWorld V.is_state V.after V.answer V.part_of V.restored self.old }
+        requires halted { self.old.halted ≡ true }
+        ensures stands { (y : System V) (x : WorldState) → IsSystem V.is_state V.after V.answer V.part_of V.restored y → RepresentsWorld y self.old x
+            → IfOk result (λ a. Leaves y self.new (as_answer a) x (signal y host event.now x)) }
+        ensures runs { OnOk result (AllRun self.new.members.items) }
+        ensures halted { self.new.halted ≡ self.old.halted }
+        ensures shape { self.new.shape ≡ self.old.shape }
+        ensures counts { OnOk result (self.new.events ≡ self.old.events + 1) }
+    {
+        self.step(alloc, host, event)
+    }
+
+    /// Bytes come to a host. To a faulty one nothing comes of them.
+    fn give_host(&mut self, alloc: Global, host: Host, bytes: Items<u8>) -> Result<Seen, NoMemory>
+        requires host { host < host_count self.old.shape }
+        requires few { self.old.events < 2 ^ 64 - 1 }
+        requires runs { AllRun self.old.members.items }
+        requires has { HasWorld V.is_state V.after V.answer V.part_of V.restored self.old }
+        requires halted { self.old.halted ≡ true }
+        ensures stands { (y : System V) (x : WorldState) → IsSystem V.is_state V.after V.answer V.part_of V.restored y → RepresentsWorld y self.old x
+            → IfOk result (λ a. Leaves y self.new (as_answer a) x (give_host y host bytes x)) }
+        ensures runs { OnOk result (AllRun self.new.members.items) }
+        ensures halted { self.new.halted ≡ self.old.halted }
+        ensures shape { self.new.shape ≡ self.old.shape }
+        ensures counts { OnOk result (self.new.events ≡ self.old.events + 1) }
+    {
+        self.step(alloc, host, &Event::Given(bytes))
+    }
+
+    /// A message is given to a host.
+    pub(crate) fn give(&mut self, alloc: Global, number: u64, host: Host) -> Result<Seen, NoMemory>
+        requires host { host < host_count self.old.shape }
+        requires few { self.old.events < 2 ^ 64 - 1 }
+        requires runs { AllRun self.old.members.items }
+        requires has { HasWorld V.is_state V.after V.answer V.part_of V.restored self.old }
+        requires halted { self.old.halted ≡ true }
+        requires allowed { (y : System V) (x : WorldState) → RepresentsWorld y self.old x → is_some (numbered x.pool number) ≡ true }
+        ensures stands { (y : System V) (x : WorldState) → IsSystem V.is_state V.after V.answer V.part_of V.restored y → RepresentsWorld y self.old x
+            → IfOk result (λ a. Leaves y self.new (as_answer a) x (with_message (give_host y host) (numbered x.pool number) x)) }
+        ensures runs { OnOk result (AllRun self.new.members.items) }
+        ensures halted { self.new.halted ≡ self.old.halted }
+        ensures shape { self.new.shape ≡ self.old.shape }
+        ensures counts { OnOk result (self.new.events ≡ self.old.events + 1) }
+    {
+        match self.message(number) {
+            Some(bytes) => {
+                let bytes = bytes.duplicate(alloc)?;
+                self.give_host(alloc, host, bytes)
+            }
+            None => self.note(alloc, Seen::Lost),
+        }
+    }
+
+    // ---- clients
+
+    /// Bytes come to a client. To a faulty one nothing comes of them.
+    fn give_client(&mut self, alloc: Global, client: Client, bytes: &[u8]) -> Result<Seen, NoMemory>
+        requires client { client < client_count self.old.shape }
+        requires few { self.old.events < 2 ^ 64 - 1 }
+        requires halted { self.old.halted ≡ true }
+        ensures stands { (y : System V) (x : WorldState) → RepresentsWorld y self.old x → IfOk result (λ a. Leaves y self.new (as_answer a) x (give_client y.schedule client bytes.now x)) }
+        ensures members { self.new.members ≡ self.old.members }
+        ensures halted { self.new.halted ≡ self.old.halted }
+        ensures shape { self.new.shape ≡ self.old.shape }
+        ensures counts { OnOk result (self.new.events ≡ self.old.events + 1) }
+    {
+        if self.faulty_clients[usize::from(client)] {
+            return self.note(alloc, Seen::Lost);
+        }
+        self.client_reads(alloc, client, bytes)
+    }
+
+    /// A message is given to a client.
+    pub(crate) fn take(
+        &mut self,
+        alloc: Global,
+        number: u64,
+        client: Client,
+    ) -> Result<Seen, NoMemory>
+        requires client { client < client_count self.old.shape }
+        requires few { self.old.events < 2 ^ 64 - 1 }
+        requires halted { self.old.halted ≡ true }
+        requires allowed { (y : System V) (x : WorldState) → RepresentsWorld y self.old x → is_some (numbered x.pool number) ≡ true }
+        ensures stands { (y : System V) (x : WorldState) → RepresentsWorld y self.old x
+            → IfOk result (λ a. Leaves y self.new (as_answer a) x (with_message (give_client y.schedule client) (numbered x.pool number) x)) }
+        ensures members { self.new.members ≡ self.old.members }
+        ensures halted { self.new.halted ≡ self.old.halted }
+        ensures shape { self.new.shape ≡ self.old.shape }
+        ensures counts { OnOk result (self.new.events ≡ self.old.events + 1) }
+    {
+        match self.message(number) {
+            Some(bytes) => {
+                let bytes = bytes.duplicate(alloc)?;
+                self.give_client(alloc, client, bytes.as_slice())
+            }
+            None => self.note(alloc, Seen::Lost),
+        }
+    }
+
+    /// Bytes are given to a host or a client.
+    pub(crate) fn raw(
+        &mut self,
+        alloc: Global,
+        name: Name,
+        bytes: &Items<u8>,
+    ) -> Result<Seen, NoMemory>
+        requires name { NameFits self.old.shape name }
+        requires few { self.old.events < 2 ^ 64 - 1 }
+        requires runs { AllRun self.old.members.items }
+        requires has { HasWorld V.is_state V.after V.answer V.part_of V.restored self.old }
+        requires halted { self.old.halted ≡ true }
+        ensures stands { (y : System V) (x : WorldState) → IsSystem V.is_state V.after V.answer V.part_of V.restored y → RepresentsWorld y self.old x
+            → IfOk result (λ a. Leaves y self.new (as_answer a) x (happens y x (Raw name bytes.now))) }
+        ensures runs { OnOk result (AllRun self.new.members.items) }
+        ensures halted { self.new.halted ≡ self.old.halted }
+        ensures shape { self.new.shape ≡ self.old.shape }
+        ensures counts { OnOk result (self.new.events ≡ self.old.events + 1) }
+    {
+        match name {
+            Name::Host(host) => {
+                let bytes = bytes.duplicate(alloc)?;
+                self.give_host(alloc, host, bytes)
+            }
+            Name::Client(client) => self.give_client(alloc, client, bytes.as_slice()),
+        }
+    }
+}
+
+/// Appends what a host sent, in the order in which it was made.
+fn add_messages(pool: &mut Vec<Items<u8>>, sent: Items<Sent>) -> Result<(), NoMemory>
+    ensures { OnOk result (pool.new.items ≡ pool.old.items ++ map (λ m. m.bytes) sent) }
+{
+    for message in sent.into_vec() {
+        pool.push(message.bytes)?;
+    }
+    Ok(())
+}
+
+/// Appends what a host is the first to execute, in the order in which it was executed.
+fn extend_line(line: &mut Vec<Slot>, executed: Items<Slot>) -> Result<(), NoMemory>
+    ensures { OnOk result (line.new.items ≡ fold extended line.old.items executed) }
+{
+    for slot in executed.into_vec() {
+        extend_by_one(line, slot)?;
+    }
+    Ok(())
+}
+
+fn extend_by_one(line: &mut Vec<Slot>, slot: Slot) -> Result<(), NoMemory>
+    ensures { OnOk result (line.new.items ≡ extended line.old.items slot) }
+{
+    if slot.pos == line.len() as u64 + 1 {
+        line.push(slot)?;
+    }
+    Ok(())
+}

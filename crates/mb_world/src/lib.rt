@@ -1,0 +1,33 @@
+//! All hosts, all clients, and all that was ever made: the events of a schedule, one after the other.
+//!
+//! | Table | What it answers of a world of the definitions |
+//! |---|---|
+//! | `members` | each correct host's history, and what each faulty host stamped |
+//! | `askers` | each client's side |
+//! | `ledger` | what was stamped, asked and tagged, by one look-up each |
+//! | `pool` | the message of a number |
+//! | `line` | the one list of executed batches |
+//! | `refused` | the events that a host or a client refused |
+//!
+//! An event is done in two steps. `allow` only reads: it answers the stop that stands in the way, or what a faulty host is to stamp. Then the event
+//! happens. So a stop leaves the world as it was, and nothing is read twice. No event copies the pool, or goes through it.
+#![tactic(auto)]
+
+mod allowed;
+mod clients;
+mod effects;
+mod faulty;
+mod lines;
+mod members;
+mod refusals;
+mod replies;
+mod seen;
+mod stamping;
+mod stamps;
+mod world;
+
+pub use seen::{Seen, WorldStop};
+pub use world::World;
+
+#[cfg(test)]
+mod tests;
