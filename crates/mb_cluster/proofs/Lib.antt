@@ -1,0 +1,9 @@
+pub mod FaultLemmas
+pub mod WireLemmas
+pub mod SendLemmas
+pub mod HearingLemmas
+pub mod QuorumLemmas
+pub mod EndLemmas
+pub mod StepLemmas
+pub mod PlayLemmas
+pub mod SizeLemmas

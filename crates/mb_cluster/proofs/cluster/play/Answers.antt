@@ -1,0 +1,53 @@
+use Rattle.std.proofs.Common.{ℕ, List, Option, subst}
+use Rattle.std.proofs.lemmas.Result.{err_from_is_err_and}
+use Rattle.mb_base.specs.Shapes.{Bytes}
+use Rattle.mb_cluster.specs.Hearing.{Receive, no_hearing}
+use Rattle.mb_cluster.specs.Runs.{wire}
+use Rattle.mb_cluster.specs.Steps.{AsksOps}
+use Rattle.mb_cluster.proofs.FaultLemmas.{tells_as}
+use Rattle.mb_cluster.proofs.PlayLemmas.{plays_unopened, plays_unstarted, plays_asked, no_spawn_fault}
+use Rattle.mb_cluster.proofs.cluster.play.Goals as goal
+
+pub returns-in-Err-clause-plays : goal.returns-in-Err-clause-plays
+returns-in-Err-clause-plays g c =
+    let link = g.L.Link in
+    let sink = g.K.Sink in
+    rw c.link_stop.ensures
+    (plays_unopened c.args.config.now c.in-Err.cause c.args.program.now c.args.program.now (wire (link.received c.args.link.now) (link.sent c.args.link.now)) (wire (link.received c.open.new.self) (link.sent c.open.new.self))
+    (sink.written c.args.sink.now) c.open.ensures.received)
+
+pub returns-in_err-start_nodes-clause-plays : goal.returns-in_err-start_nodes-clause-plays
+returns-in_err-start_nodes-clause-plays g c =
+    let link = g.L.Link in
+    let sink = g.K.Sink in
+    let p = err_from_is_err_and c.from_residual.result c.from_residual.ensures.1 in
+    rw (p.1, p.2)
+    (plays_unstarted c.args.config.now c.in_err-start_nodes.field-0.0 c.in_err-start_nodes.ensures.kind c.args.program.now c.args.program.now
+    (wire (link.received c.args.link.now) (link.sent c.args.link.now)) (wire (link.received c.open.new.self) (link.sent c.open.new.self)) (sink.written c.args.sink.now) c.open.ensures.received)
+
+pub returns-clause-plays : goal.returns-clause-plays
+returns-clause-plays g c =
+    let link = g.L.Link in
+    let sink = g.K.Sink in
+    let config = c.args.config.now in
+    let before = c.args.program.now in
+    let after = c.ask_all.new.self in
+    let new = wire (link.received c.ask_all.new.link) (link.sent c.ask_all.new.link) in
+    let w0 = sink.written c.args.sink.now in
+    let w1 = sink.written c.ask_all.new.sink in
+    let asks = c.ask_all.ensures.asks config.shape config.secret (no_hearing config.shape) c.requires.listens in
+    let of_ops = subst (λ (xs : List Bytes). AsksOps config.shape config.secret xs c.ask_all.result (no_hearing config.shape) before after (wire (link.received c.open.new.self) (link.sent c.open.new.self)) new w0 w1) c.as_slice.ensures asks in
+    let of_received = subst (λ (r : Option (List Receive)). AsksOps config.shape config.secret config.ops c.ask_all.result (no_hearing config.shape) before after (wire r (link.sent c.open.new.self)) new w0 w1) c.open.ensures.received of_ops in
+    let of_sent = subst (λ (x : Option (List (ℕ × Bytes))). AsksOps config.shape config.secret config.ops c.ask_all.result (no_hearing config.shape) before after (wire (link.received c.args.link.now) x) new w0 w1) c.open.ensures.sent of_received in
+    plays_asked config c.ask_all.result before after (wire (link.received c.args.link.now) (link.sent c.args.link.now)) new w0 w1 of_sent
+
+pub returns-clause-spawner_faults : goal.returns-clause-spawner_faults
+returns-clause-spawner_faults g c =
+    let link = g.L.Link in
+    let sink = g.K.Sink in
+    let spawner = g.P.Spawner in
+    let config = c.args.config.now in
+    let asks = c.ask_all.ensures.asks config.shape config.secret (no_hearing config.shape) c.requires.listens in
+    tells_as (spawner.faults c.args.spawner.now) (spawner.faults c.start_nodes.new.spawner) c.in_ok-start_nodes.ensures.faults
+    (λ is. absurd (no_spawn_fault config.shape config.secret c.as_slice.result.now c.ask_all.result (no_hearing config.shape) c.args.program.now c.ask_all.new.self
+    (wire (link.received c.open.new.self) (link.sent c.open.new.self)) (wire (link.received c.ask_all.new.link) (link.sent c.ask_all.new.link)) (sink.written c.args.sink.now) (sink.written c.ask_all.new.sink) asks is))

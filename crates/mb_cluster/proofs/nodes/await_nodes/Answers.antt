@@ -1,0 +1,27 @@
+use Rattle.std.proofs.Common.{◌≡◌, ◌∷◌, ◌++◌, [], ◌<◌, length, take, get_or, sym, ◌∙◌, arith}
+use Rattle.std.proofs.lemmas.List.{take_more, length-take-le}
+use Rattle.mb_cluster.specs.Ends.{after_wait}
+use Rattle.mb_cluster.proofs.FaultLemmas.{tells_both, tells_call}
+use Rattle.mb_cluster.proofs.EndLemmas.{Waited, waited_more, fault_of, well_more}
+use Rattle.mb_cluster.proofs.nodes.await_nodes.Goals as goal
+
+pub loop-child-preserved : goal.loop-child-preserved
+loop-child-preserved g c =
+    let spawner = g.P.Spawner in
+    let now = c.loop-child.invariant in
+    let children = c.args.children.now in
+    let i = c.loop-child.child-index in
+    let lt : i < length children = c.loop-child-test.true in
+    let len : length (take i children) ≡ c.loop-child.host = omega (arith, length-take-le i children, now.host) in
+    let more : Waited (take i children ++ get_or children i 0 ∷ []) (after_wait (length (take i children)) c.wait.result c.loop-child.ended) (spawner.waits c.args.spawner.now) (spawner.waits c.wait.new.self) (spawner.bad_ends c.args.spawner.now) (spawner.bad_ends c.wait.new.self) =
+    waited_more (take i children) (get_or children i 0) c.wait.result c.loop-child.ended (spawner.waits c.args.spawner.now) (spawner.waits c.loop-child.spawner) (spawner.waits c.wait.new.self)
+    (spawner.bad_ends c.args.spawner.now) (spawner.bad_ends c.loop-child.spawner) (spawner.bad_ends c.wait.new.self) now.waited c.wait.ensures.waits c.wait.ensures.bad_ends in
+    record {
+      host = omega (arith, now.host);
+      waited = rw (take_more children i 0, c.after_wait-ended.ensures) (rw len at more);
+      starts = c.wait.ensures.starts ∙ now.starts;
+      well = λ well. (c.wait.ensures.well (now.well well).0, rw c.after_wait-ended.ensures (well_more c.loop-child.host c.wait.result c.loop-child.ended (now.well well).1 (c.wait.ensures.zero (now.well well).0)));
+      faults = tells_both (spawner.faults c.args.spawner.now) (spawner.faults c.loop-child.spawner) (spawner.faults c.wait.new.self) now.faults
+          (tells_call (spawner.faults c.loop-child.spawner) (spawner.faults c.wait.new.self) c.wait.result c.wait.ensures.cause c.wait.ensures.sound c.wait.ensures.quiet)
+          (λ is. fault_of c.loop-child.host c.wait.result c.loop-child.ended (sym c.after_wait-ended.ensures ∙ is));
+    }

@@ -1,0 +1,37 @@
+use Rattle.std.proofs.Common.{◌≡◌, take, drop, length, Some, Ok, refl, ◌∙◌, []}
+use Rattle.std.specs.Prelude.{slice_get, ◌∷◌}
+use Rattle.std.proofs.lemmas.Option.{slice_get_read}
+use Rattle.mb_edge.specs.Told.{with_more}
+use Rattle.mb_cluster.specs.Posts.{to_host}
+use Rattle.mb_cluster.proofs.FaultLemmas.{tells_both, tells_call}
+use Rattle.mb_cluster.proofs.SendLemmas.{sends_one, sends_both, sends_stop, to_host_more, to_host_parts, not_ok}
+use Rattle.mb_cluster.proofs.posting.send_to.Goals as goal
+
+pub loop-piece-preserved : goal.loop-piece-preserved
+loop-piece-preserved g c =
+    let link = g.L.Link in
+    let now = c.loop-piece.invariant in
+    let i = c.loop-piece.piece-index in
+    let host = c.args.host in
+    let pieces = c.args.pieces.now in
+    let piece = c.piece-item.result in
+    let at : slice_get pieces i ≡ Some piece = slice_get_read pieces (length pieces) i piece refl c.loop-piece-test.true c.piece-item.is in
+    let told : link.sent c.send.new.self ≡ with_more (link.sent c.loop-piece.link) ((host, piece) ∷ []) = rw c.as_slice.ensures at c.in_ok-send.ensures.sent in
+    record {
+      sent = rw (to_host_more pieces host i piece at)
+          (sends_both (to_host (take i pieces) host) ((host, piece) ∷ []) (Ok tt) (Ok tt) (link.sent c.args.link.now) (link.sent c.loop-piece.link) (link.sent c.send.new.self) now.sent
+          (sends_one (host, piece) (link.sent c.loop-piece.link) (link.sent c.send.new.self) told));
+      received = c.in_ok-send.ensures.received ∙ now.received;
+      opens = c.in_ok-send.ensures.opens ∙ now.opens;
+      faults = tells_both (link.faults c.args.link.now) (link.faults c.loop-piece.link) (link.faults c.send.new.self) now.faults
+          (tells_call (link.faults c.loop-piece.link) (link.faults c.send.new.self) c.send.result c.send.ensures.cause c.send.ensures.sound c.send.ensures.quiet) (λ no. absurd no);
+    }
+
+pub returns-in_err-send-clause-sent : goal.returns-in_err-send-clause-sent
+returns-in_err-send-clause-sent g c =
+    let link = g.L.Link in
+    let i = c.loop-piece.piece-index in
+    let host = c.args.host in
+    let pieces = c.args.pieces.now in
+    sends_stop (to_host pieces host) (to_host (take i pieces) host) (to_host (drop i pieces) host) (Ok tt) c.from_residual.result (link.sent c.args.link.now) (link.sent c.loop-piece.link) (link.sent c.send.new.self)
+    (to_host_parts pieces host i) c.loop-piece.invariant.sent c.in_err-send.ensures.sent (not_ok _ c.from_residual.result c.from_residual.ensures.1)

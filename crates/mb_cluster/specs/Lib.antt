@@ -1,0 +1,14 @@
+pub mod Stops
+pub mod Hearing
+pub mod Posts
+pub mod Exchanges
+pub mod Sends
+pub mod Nodes
+pub mod Ends
+pub mod Faults
+pub mod Runs
+pub mod Joins
+pub mod Listens
+pub mod Steps
+pub mod Writes
+pub mod Plays

@@ -1,0 +1,102 @@
+//! A whole run.
+
+ghost use Rattle.std.specs.Prelude.{◌≡◌, ◌^◌, ◌<◌, [], length, OnOk, IsErrOf};
+ghost use Rattle.mb_base.specs.Shapes.{host_count};
+ghost use Rattle.mb_cluster.specs.Faults.{TellsFaults};
+ghost use Rattle.mb_cluster.specs.Hearing.{no_hearing};
+ghost use Rattle.mb_cluster.specs.Listens.{Listens};
+ghost use Rattle.mb_cluster.specs.Nodes.{AreStarted, StartsNodes, RunsNodes, EndsAs, spawned};
+ghost use Rattle.mb_cluster.specs.Ends.{EndsWell};
+ghost use Rattle.mb_cluster.specs.Runs.{OpsFit, Asks, Opens, wire};
+ghost use Rattle.mb_cluster.specs.Plays.{Plays};
+
+use crate::asking::Program;
+use crate::nodes::{await_nodes, start_nodes};
+use crate::posting::PROGRAM;
+use crate::stop::{ClusterStop, link_stop};
+use mb_edge::{Child, Link, Sink, Spawner};
+use mb_sched::Config;
+use std::alloc::Global;
+
+/// Runs a cluster. It opens the link at the config's port as peer 255, and starts the node of each host. Then it asks the config's operations as
+/// client 0, one after the other: the request goes to every host, and again at each quiet. A result that f+1 hosts agree on is written as a line
+/// `result SEQ POS HEX`. At the end, and where it stops, it sends STOP three times to every host, and waits for each node that it started. The
+/// answer is that of the first stop.
+///
+/// `Budget` comes exactly where `turns` receives for an operation brought no result. `ChildEnded` comes exactly where nothing else stopped the
+/// run and a node ended with a status other than 0, and names the lowest host of such. The faults come only where the device failed, and
+/// `NoMemory` where memory ran out.
+pub fn run_cluster<K: Sink, L: Link, P: Spawner>(
+    alloc: Global,
+    config: &Config,
+    turns: u64,
+    link: &mut L,
+    spawner: &mut P,
+    sink: &mut K,
+) -> Result<(), ClusterStop>
+    requires { OpsFit config.now.ops }
+    // What is asked and heard, and the results that are written.
+    ensures asks { Asks config.now turns result (wire (L.received link.old) (L.sent link.old)) (wire (L.received link.new) (L.sent link.new)) (K.written sink.old) (K.written sink.new) }
+    ensures opens { Opens config.now result (L.opens link.old) (L.opens link.new) }
+    // The nodes, and how they end.
+    ensures nodes { RunsNodes config.now result (spawned (P.starts spawner.old) (P.waits spawner.old)) (spawned (P.starts spawner.new) (P.waits spawner.new)) }
+    ensures bad_ends { EndsAs result (P.bad_ends spawner.old) (P.bad_ends spawner.new) }
+    ensures well { P.all_end_well spawner.old → EndsWell result }
+    // Each device's faults.
+    ensures link_faults { TellsFaults (L.never_fails link.old) (L.never_fails link.new) (L.faults link.old) (L.faults link.new) (IsErrOf result ClusterStop.LinkFault) }
+    ensures spawner_faults { TellsFaults (P.never_fails spawner.old) (P.never_fails spawner.new) (P.faults spawner.old) (P.faults spawner.new) (IsErrOf result ClusterStop.SpawnFault) }
+    ensures sink_faults { TellsFaults (K.never_fails sink.old) (K.never_fails sink.new) (K.faults sink.old) (K.faults sink.new) (IsErrOf result ClusterStop.SinkFault) }
+{
+    let mut program = Program::make(alloc, config.shape, &config.secret, turns)?;
+    let mut children = Vec::with_capacity(alloc, usize::from(config.shape.n()))?;
+    let played = play(
+        alloc,
+        config,
+        &mut program,
+        &mut children,
+        link,
+        spawner,
+        sink,
+    );
+    let stopped = program.send_stops(&config.shape, &config.secret, link);
+    let awaited = await_nodes(&children, spawner);
+    played?;
+    match stopped {
+        Ok(()) => awaited,
+        Err(cause) => Err(link_stop(cause)),
+    }
+}
+
+/// The run up to its end, or to its first stop. The children of the nodes that were started are kept.
+fn play<K: Sink, L: Link, P: Spawner>(
+    alloc: Global,
+    config: &Config,
+    program: &mut Program,
+    children: &mut Vec<Child>,
+    link: &mut L,
+    spawner: &mut P,
+    sink: &mut K,
+) -> Result<(), ClusterStop>
+    requires ops { OpsFit config.now.ops }
+    requires listens { Listens config.now.shape config.now.secret program.old.listener (no_hearing config.now.shape) }
+    requires none { program.old.listener.asker.number ≡ 0 }
+    requires childless { children.old.items ≡ [] }
+    ensures plays { Plays config.now result program.old program.new (wire (L.received link.old) (L.sent link.old)) (wire (L.received link.new) (L.sent link.new)) (K.written sink.old) (K.written sink.new) }
+    ensures hosts { program.new.post.hosts ≡ program.old.post.hosts }
+    ensures opens { Opens config.now result (L.opens link.old) (L.opens link.new) }
+    ensures starts { StartsNodes config.now result children.new.items (P.starts spawner.old) (P.starts spawner.new) }
+    ensures few { length children.new.items < 2 ^ 8 }
+    ensures waits { P.waits spawner.new ≡ P.waits spawner.old }
+    ensures bad_ends { P.bad_ends spawner.new ≡ P.bad_ends spawner.old }
+    ensures well { P.all_end_well spawner.old → P.all_end_well spawner.new }
+    ensures link_faults { TellsFaults (L.never_fails link.old) (L.never_fails link.new) (L.faults link.old) (L.faults link.new) (IsErrOf result ClusterStop.LinkFault) }
+    ensures spawner_faults { TellsFaults (P.never_fails spawner.old) (P.never_fails spawner.new) (P.faults spawner.old) (P.faults spawner.new) (IsErrOf result ClusterStop.SpawnFault) }
+    ensures sink_faults { TellsFaults (K.never_fails sink.old) (K.never_fails sink.new) (K.faults sink.old) (K.faults sink.new) (IsErrOf result ClusterStop.SinkFault) }
+{
+    match link.open(config.port, PROGRAM) {
+        Ok(()) => {}
+        Err(cause) => return Err(link_stop(cause)),
+    }
+    start_nodes(alloc, config, children, spawner)?;
+    program.ask_all(config.ops.as_slice(), link, sink)
+}

@@ -1,0 +1,108 @@
+//! The nodes, each a child program.
+
+ghost use Rattle.std.specs.Prelude.{◌≡◌, ◌≤◌, ◌^◌, ◌<◌, [], length, map, string_bytes, IfOk, OnOk, IsErrOf};
+ghost use Rattle.mb_base.specs.Shapes.{host_count};
+ghost use Rattle.mb_edge.specs.Told.{with_more, added_by};
+ghost use Rattle.mb_cluster.specs.Faults.{TellsFaults};
+ghost use Rattle.mb_cluster.specs.Nodes.{node_words, node_start, AreStarted, EndsAs};
+ghost use Rattle.mb_cluster.specs.Ends.{IsSpawnStop, AwaitsNodes, EndsWell, after_wait};
+
+use crate::stop::{ClusterStop, spawn_stop};
+use mb_base::{Host, NoMemory};
+use mb_edge::{Child, Failed, Spawner};
+use mb_sched::{Config, print_config};
+use std::alloc::Global;
+
+/// Starts the node of each host, in order. The children come behind those that are there.
+pub(crate) fn start_nodes<P: Spawner>(
+    alloc: Global,
+    config: &Config,
+    children: &mut Vec<Child>,
+    spawner: &mut P,
+) -> Result<(), ClusterStop>
+    requires { children.old.items ≡ [] }
+    ensures few { length children.new.items < 2 ^ 8 }
+    ensures started { OnOk result (AreStarted config.now (host_count config.now.shape) children.new.items (P.starts spawner.old) (P.starts spawner.new)) }
+    ensures kind { IsSpawnStop result }
+    ensures waits { P.waits spawner.new ≡ P.waits spawner.old }
+    ensures bad_ends { P.bad_ends spawner.new ≡ P.bad_ends spawner.old }
+    ensures well { P.all_end_well spawner.old → P.all_end_well spawner.new }
+    ensures faults { TellsFaults (P.never_fails spawner.old) (P.never_fails spawner.new) (P.faults spawner.old) (P.faults spawner.new) (IsErrOf result ClusterStop.SpawnFault) }
+{
+    let text = print_config(alloc, config)?;
+    for host in 0..config.shape.n() {
+        children.push(start_node(alloc, host, &text, spawner)?)?;
+    }
+    Ok(())
+}
+
+/// Starts the node of a host. It is given the config, and its record goes to a file.
+fn start_node<P: Spawner>(
+    alloc: Global,
+    host: Host,
+    config: &[u8],
+    spawner: &mut P,
+) -> Result<Child, ClusterStop>
+    ensures starts { P.starts spawner.new ≡ with_more (P.starts spawner.old) (added_by result (λ child. (child, node_start config.now host))) }
+    ensures kind { IsSpawnStop result }
+    ensures waits { P.waits spawner.new ≡ P.waits spawner.old }
+    ensures bad_ends { P.bad_ends spawner.new ≡ P.bad_ends spawner.old }
+    ensures well { P.all_end_well spawner.old → P.all_end_well spawner.new }
+    ensures faults { TellsFaults (P.never_fails spawner.old) (P.never_fails spawner.new) (P.faults spawner.old) (P.faults spawner.new) (IsErrOf result ClusterStop.SpawnFault) }
+{
+    let words = node_words(alloc, host)?;
+    let output = format!(in alloc; "node-{host}.record")?;
+    match spawner.start(&words, config, output.as_str()) {
+        Ok(child) => Ok(child),
+        Err(cause) => Err(spawn_stop(cause)),
+    }
+}
+
+/// `node H 100000`
+fn node_words(alloc: Global, host: Host) -> Result<Vec<String>, NoMemory>
+    ensures { IfOk result (λ words. map string_bytes words.items ≡ node_words host) }
+{
+    let mut words = Vec::with_capacity(alloc, 3)?;
+    words.push(String::from_str(alloc, "node")?)?;
+    words.push(format!(in alloc; "{host}")?)?;
+    words.push(String::from_str(alloc, "100000")?)?;
+    Ok(words)
+}
+
+/// Waits for each child, in the order of their hosts. Where all waits succeed, the answer is the lowest host whose node ended with another
+/// status than 0.
+pub(crate) fn await_nodes<P: Spawner>(
+    children: &[Child],
+    spawner: &mut P,
+) -> Result<(), ClusterStop>
+    requires { length children.now < 2 ^ 8 }
+    ensures awaited { AwaitsNodes children.now result (P.waits spawner.old) (P.waits spawner.new) }
+    ensures starts { P.starts spawner.new ≡ P.starts spawner.old }
+    ensures bad_ends { EndsAs result (P.bad_ends spawner.old) (P.bad_ends spawner.new) }
+    ensures well { P.all_end_well spawner.old → EndsWell result }
+    ensures faults { TellsFaults (P.never_fails spawner.old) (P.never_fails spawner.new) (P.faults spawner.old) (P.faults spawner.new) (IsErrOf result ClusterStop.SpawnFault) }
+{
+    let mut ended = Ok(());
+    let mut host = 0;
+    for child in children {
+        ended = after_wait(host, spawner.wait(*child), ended);
+        host += 1;
+    }
+    ended
+}
+
+/// How the nodes of a host and of all lower ones ended, by how those of the lower ones did.
+fn after_wait(
+    host: Host,
+    waited: Result<u8, Failed>,
+    before: Result<(), ClusterStop>,
+) -> Result<(), ClusterStop>
+    ensures { result ≡ after_wait host waited before }
+{
+    match (waited, before) {
+        (Ok(0), before) => before,
+        (Ok(status), Ok(())) => Err(ClusterStop::ChildEnded { host, status }),
+        (Err(cause), Ok(()) | Err(ClusterStop::ChildEnded { .. })) => Err(spawn_stop(cause)),
+        (_, before) => before,
+    }
+}

@@ -1,0 +1,78 @@
+//! Messages to every host.
+
+ghost use Rattle.std.specs.Prelude.{◌≡◌, ◌≤◌, ◌%◌, ◌+◌, ◌^◌, ℕ, List, length, map, Ok, Err, OnOk, IsErrOf};
+ghost use Rattle.mb_base.specs.Shapes.{Bytes};
+ghost use Rattle.mb_edge.specs.Told.{with_more};
+ghost use Rattle.mb_cluster.specs.Faults.{TellsFaults};
+ghost use Rattle.mb_cluster.specs.Posts.{next_number, to_host, to_all, AreSome};
+ghost use Rattle.mb_cluster.specs.Sends.{SendsSome, first_failure};
+
+use mb_base::{Host, Items};
+use mb_edge::{Failed, Link};
+use mb_frag::{MESSAGE_LIMIT, cut};
+use std::alloc::Global;
+
+/// The client program as a peer.
+pub const PROGRAM: u8 = 255;
+
+/// What messages are sent with: how many hosts there are, and the number of the next message.
+#[derive(Clone, Copy, Debug)]
+pub(crate) struct Post {
+    pub(crate) hosts: u8,
+    pub(crate) number: u32,
+}
+
+impl Post {
+    /// Sends a message to every host, each of its pieces, under the next number. Where a send fails, the rest of the message to that host is
+    /// left out, and the other hosts get theirs. The answer is that of the first send that failed.
+    pub(crate) fn send<L: Link>(
+        &mut self,
+        alloc: Global,
+        message: &[u8],
+        link: &mut L,
+    ) -> Result<(), Failed>
+        requires some { 1 ≤ length message.now }
+        requires fits { length message.now ≤ MESSAGE_LIMIT }
+        ensures sent { SendsSome (to_all self.old.hosts self.old.number message.now) result (L.sent link.old) (L.sent link.new) }
+        ensures number { self.new.number ≡ next_number self.old.number }
+        ensures hosts { self.new.hosts ≡ self.old.hosts }
+        ensures received { L.received link.new ≡ L.received link.old }
+        ensures opens { L.opens link.new ≡ L.opens link.old }
+        ensures faults { TellsFaults (L.never_fails link.old) (L.never_fails link.new) (L.faults link.old) (L.faults link.new) (IsErrOf result Failed.Device) }
+    {
+        let number = self.number;
+        self.number = number.wrapping_add(1);
+        let pieces = cut(alloc, PROGRAM, number, message)?;
+        let mut sent = Ok(());
+        for host in 0..self.hosts {
+            sent = first_failure(sent, send_to(host, &pieces, link));
+        }
+        sent
+    }
+}
+
+/// The first of two failures.
+pub(crate) fn first_failure(
+    first: Result<(), Failed>,
+    second: Result<(), Failed>,
+) -> Result<(), Failed>
+    ensures { result ≡ first_failure first second }
+{
+    match first {
+        Ok(()) => second,
+        Err(cause) => Err(cause),
+    }
+}
+
+/// Sends datagrams to a host, up to the first that fails.
+fn send_to<L: Link>(host: Host, pieces: &[Items<u8>], link: &mut L) -> Result<(), Failed>
+    ensures sent { SendsSome (to_host pieces.now host) result (L.sent link.old) (L.sent link.new) }
+    ensures received { L.received link.new ≡ L.received link.old }
+    ensures opens { L.opens link.new ≡ L.opens link.old }
+    ensures faults { TellsFaults (L.never_fails link.old) (L.never_fails link.new) (L.faults link.old) (L.faults link.new) (IsErrOf result Failed.Device) }
+{
+    for piece in pieces {
+        link.send(host, piece.as_slice())?;
+    }
+    Ok(())
+}
