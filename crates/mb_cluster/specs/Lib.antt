@@ -5,7 +5,6 @@ pub mod Exchanges
 pub mod Sends
 pub mod Nodes
 pub mod Ends
-pub mod Faults
 pub mod Runs
 pub mod Joins
 pub mod Listens

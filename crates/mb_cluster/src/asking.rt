@@ -4,7 +4,7 @@ ghost use Rattle.std.specs.Prelude.{◌≡◌, ◌≤◌, length, IfOk, IsErrOf}
 ghost use Rattle.mb_base.specs.declared.limits.TheConstants.{MESSAGE_LIMIT};
 ghost use Rattle.mb_cluster.specs.Posts.{stop_bytes};
 ghost use Rattle.mb_cluster.specs.Exchanges.{result_line};
-ghost use Rattle.mb_cluster.specs.Faults.{TellsFaults};
+ghost use Rattle.mb_edge.specs.Faults.{TellsFaults};
 ghost use Rattle.mb_cluster.specs.Writes.{WritesLine};
 
 use crate::lines::result_line;
@@ -41,7 +41,7 @@ impl Program {
     ghost use Rattle.mb_base.specs.declared.shape.Shape.{Shape as ShapeRecord};
     ghost use Rattle.mb_base.specs.declared.limits.TheConstants.{MESSAGE_LIMIT};
     ghost use Rattle.mb_parts.specs.Fits.{FitsText};
-    ghost use Rattle.mb_cluster.specs.Faults.{TellsFaults};
+    ghost use Rattle.mb_edge.specs.Faults.{TellsFaults};
     ghost use Rattle.mb_cluster.specs.Hearing.{Hearing, no_hearing};
     ghost use Rattle.mb_cluster.specs.Posts.{posts, stops};
     ghost use Rattle.mb_cluster.specs.Sends.{SendsSome};

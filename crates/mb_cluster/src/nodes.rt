@@ -3,7 +3,7 @@
 ghost use Rattle.std.specs.Prelude.{◌≡◌, ◌≤◌, ◌^◌, ◌<◌, [], length, map, string_bytes, IfOk, OnOk, IsErrOf};
 ghost use Rattle.mb_base.specs.Shapes.{host_count};
 ghost use Rattle.mb_edge.specs.Told.{with_more, added_by};
-ghost use Rattle.mb_cluster.specs.Faults.{TellsFaults};
+ghost use Rattle.mb_edge.specs.Faults.{TellsFaults};
 ghost use Rattle.mb_cluster.specs.Nodes.{node_words, node_start, AreStarted, EndsAs};
 ghost use Rattle.mb_cluster.specs.Ends.{IsSpawnStop, AwaitsNodes, EndsWell, after_wait};
 

@@ -3,7 +3,7 @@
 ghost use Rattle.std.specs.Prelude.{◌≡◌, ◌≤◌, ◌%◌, ◌+◌, ◌^◌, ℕ, List, length, map, Ok, Err, OnOk, IsErrOf};
 ghost use Rattle.mb_base.specs.Shapes.{Bytes};
 ghost use Rattle.mb_edge.specs.Told.{with_more};
-ghost use Rattle.mb_cluster.specs.Faults.{TellsFaults};
+ghost use Rattle.mb_edge.specs.Faults.{TellsFaults};
 ghost use Rattle.mb_cluster.specs.Posts.{next_number, to_host, to_all, AreSome};
 ghost use Rattle.mb_cluster.specs.Sends.{SendsSome, first_failure};
 

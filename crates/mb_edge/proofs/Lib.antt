@@ -1,3 +1,4 @@
+pub mod FaultLemmas
 pub mod CallLemmas
 pub mod PieceLemmas
 pub mod StartLemmas

@@ -5,11 +5,10 @@ use Rattle.mb_edge.specs.declared.outside.Failed.{Failed}
 use Rattle.mb_edge.specs.declared.outside.Failed.TheVariants as failed
 use Rattle.mb_edge.specs.declared.writing.WriteStop.{WriteStop}
 use Rattle.mb_edge.specs.declared.writing.WriteStop.TheVariants as writing
-use Rattle.mb_edge.specs.Faults.{HasCause, HasNoFault, Rose}
+use Rattle.mb_edge.specs.Faults.{HasCause, HasNoFault, Rose, TellsFaults}
 use Rattle.mb_node.specs.declared.stops.ServeStop.{ServeStop}
 use Rattle.mb_node.specs.declared.stops.ServeStop.TheVariants.{LinkFault, SinkFault, Budget}
 use Rattle.mb_node.specs.Stops.{link_stop, sink_stop}
-use Rattle.mb_node.specs.Outside.{Counts}
 
 -- The count never fell, and stayed at a device that is known not to fail.
 pub record Calm (before now : ℕ) (safe_before safe_now : Type 0) : Type 0 where
@@ -31,11 +30,11 @@ calm_both a b c R S T x y = record {
 pub call_calm : {X : Type 0} (b c : ℕ) (S T : Type 0) (r : Result X Failed) → HasCause b c r → (S → T) → (S → HasNoFault b c (IsErrOf r failed.Device)) → Calm b c S T
 call_calm b c S T r cause sound quiet = record { later = cause.later; sound = sound; kept = λ s. (quiet s).kept }
 
-pub calm_of : (b c : ℕ) (S T told : Type 0) → Counts b c S T told → Calm b c S T
+pub calm_of : (b c : ℕ) (S T told : Type 0) → TellsFaults S T b c told → Calm b c S T
 calm_of b c S T told x = record { later = x.later; sound = x.sound; kept = λ s. (x.quiet s).kept }
 
 -- no fault is told
-pub counts_none : (a c : ℕ) (R T told : Type 0) → Calm a c R T → (told → ⊥) → Counts a c R T told
+pub counts_none : (a c : ℕ) (R T told : Type 0) → Calm a c R T → (told → ⊥) → TellsFaults R T a c told
 counts_none a c R T told x never = record {
   rose = λ t. absurd (never t);
   later = x.later;
@@ -44,7 +43,7 @@ counts_none a c R T told x never = record {
 }
 
 -- the last of some calls
-pub counts_after : (a b c : ℕ) (R S T told : Type 0) → Calm a b R S → Counts b c S T told → Counts a c R T told
+pub counts_after : (a b c : ℕ) (R S T told : Type 0) → Calm a b R S → TellsFaults S T b c told → TellsFaults R T a c told
 counts_after a b c R S T told x y = record {
   rose = λ t. let p : a ≤ b = x.later in let q : Rose b c = y.rose t in omega arith;
   later = let p : a ≤ b = x.later in let q : b ≤ c = y.later in omega arith;
@@ -52,7 +51,7 @@ counts_after a b c R S T told x y = record {
   quiet = λ r. record { kept = (y.quiet (x.sound r)).kept ∙ x.kept r; none = (y.quiet (x.sound r)).none };
 }
 
-pub counts_as : (a c : ℕ) (R T told other : Type 0) → Counts a c R T told → (other → told) → Counts a c R T other
+pub counts_as : (a c : ℕ) (R T told other : Type 0) → TellsFaults R T a c told → (other → told) → TellsFaults R T a c other
 counts_as a c R T told other x f = record {
   rose = λ t. x.rose (f t);
   later = x.later;

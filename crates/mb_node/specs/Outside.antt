@@ -1,8 +1,7 @@
--- What was written and sent, and what is told of faults.
-use Rattle.std.specs.Prelude.{◌≡◌, ◌≢◌, ℕ, ◌≤◌, List, [], ◌++◌, Option, Result, Ok, Err}
+-- What was written and sent.
+use Rattle.std.specs.Prelude.{◌≡◌, ◌≢◌, ℕ, List, [], ◌++◌, Option, Result, Ok, Err}
 use Rattle.std.specs.Io.KnownBytes.{Appends}
 use Rattle.mb_base.specs.Shapes.{Bytes}
-use Rattle.mb_edge.specs.Faults.{Rose, HasNoFault}
 use Rattle.mb_edge.specs.Told.{with_more}
 use Rattle.mb_node.specs.Sends.{Sends}
 
@@ -37,10 +36,3 @@ pub record IsPartOf (lines : Bytes) (all : Sends) (text : Bytes) (datagrams : Se
   pub some_lines : IsFirstPart text lines
   pub some_sent : IsFirstPart datagrams all
   pub lines_first : datagrams ≢ [] → text ≡ lines
-
--- A fault is told only where its count rose. The count never falls. A device that is known not to fail stays so, and none is told.
-pub record Counts (before now : ℕ) (safe_before safe_now told : Type 0) : Type 0 where
-  pub rose : told → Rose before now
-  pub later : before ≤ now
-  pub sound : safe_before → safe_now
-  pub quiet : safe_before → HasNoFault before now told

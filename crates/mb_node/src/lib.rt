@@ -13,7 +13,7 @@
 //! | `node` | one receive, and which event it is | `specs/Events`, `Rounds` |
 //! | `serving` | all receives | `specs/Serving` |
 //! | `retracing` | a record against the host's own steps | `specs/Retracing` |
-//! | `stops` | why serving ended | `specs/Stops`, and of faults `Outside` |
+//! | `stops` | why serving ended | `specs/Stops` |
 //!
 //! What is promised of all receives speaks of the history that a host stands for, whichever it is: the events are those of the receives that the
 //! link tells, none left out; the record has an entry for each; what was sent are the pieces of what the host sends. Where serving ends on the

@@ -3,7 +3,8 @@
 ghost use Rattle.std.specs.Prelude.{◌≡◌, ◌+◌, ◌%◌, ◌^◌, ◌≤◌, length, ℕ, List, OnOk, IsErrOf};
 ghost use Rattle.mb_node.specs.Sends.{to_peer, to_others, datagrams_of, numbered};
 ghost use Rattle.mb_node.specs.Messages.{IsMessage, AreMessages};
-ghost use Rattle.mb_node.specs.Outside.{Delivers, Counts};
+ghost use Rattle.mb_edge.specs.Faults.{TellsFaults};
+ghost use Rattle.mb_node.specs.Outside.{Delivers};
 
 use crate::inbox::CLIENT_PEER;
 use mb_base::{Host, Items};
@@ -36,7 +37,7 @@ impl Outbox {
         ensures who { (self.new.host ≡ self.old.host) × (self.new.hosts ≡ self.old.hosts) }
         ensures received { L.received link.new ≡ L.received link.old }
         ensures opens { L.opens link.new ≡ L.opens link.old }
-        ensures link { Counts (L.faults link.old) (L.faults link.new) (L.never_fails link.old) (L.never_fails link.new) (IsErrOf result Failed.Device) }
+        ensures link { TellsFaults (L.never_fails link.old) (L.never_fails link.new) (L.faults link.old) (L.faults link.new) (IsErrOf result Failed.Device) }
     {
         for message in sent {
             self.send(alloc, link, message)?;
@@ -51,7 +52,7 @@ impl Outbox {
         ensures sends { (n : ℕ) → self.now.number ≡ n % 2 ^ 32 → Delivers (datagrams_of self.now.hosts self.now.host n message.now) (L.sent link.old) (L.sent link.new) result }
         ensures received { L.received link.new ≡ L.received link.old }
         ensures opens { L.opens link.new ≡ L.opens link.old }
-        ensures link { Counts (L.faults link.old) (L.faults link.new) (L.never_fails link.old) (L.never_fails link.new) (IsErrOf result Failed.Device) }
+        ensures link { TellsFaults (L.never_fails link.old) (L.never_fails link.new) (L.faults link.old) (L.faults link.new) (IsErrOf result Failed.Device) }
     {
         let pieces = cut(alloc, self.host, self.number, message.bytes.as_slice())?;
         match message.to {
@@ -66,7 +67,7 @@ impl Outbox {
         ensures sends { Delivers (to_others self.now.hosts self.now.host pieces.now) (L.sent link.old) (L.sent link.new) result }
         ensures received { L.received link.new ≡ L.received link.old }
         ensures opens { L.opens link.new ≡ L.opens link.old }
-        ensures link { Counts (L.faults link.old) (L.faults link.new) (L.never_fails link.old) (L.never_fails link.new) (IsErrOf result Failed.Device) }
+        ensures link { TellsFaults (L.never_fails link.old) (L.never_fails link.new) (L.faults link.old) (L.faults link.new) (IsErrOf result Failed.Device) }
     {
         for peer in 0..self.hosts {
             if peer != self.host {
@@ -82,7 +83,7 @@ fn send_pieces<L: Link>(link: &mut L, peer: u8, pieces: &[Items<u8>]) -> Result<
     ensures sends { Delivers (to_peer pieces.now peer) (L.sent link.old) (L.sent link.new) result }
     ensures received { L.received link.new ≡ L.received link.old }
     ensures opens { L.opens link.new ≡ L.opens link.old }
-    ensures link { Counts (L.faults link.old) (L.faults link.new) (L.never_fails link.old) (L.never_fails link.new) (IsErrOf result Failed.Device) }
+    ensures link { TellsFaults (L.never_fails link.old) (L.never_fails link.new) (L.faults link.old) (L.faults link.new) (IsErrOf result Failed.Device) }
 {
     for piece in pieces {
         link.send(peer, piece.as_slice())?;

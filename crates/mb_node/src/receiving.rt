@@ -30,7 +30,7 @@ pub(crate) struct Receiver {
 impl Receiver {
     ghost use Rattle.std.specs.Prelude.{◌≡◌, [], IfOk, IsErrOf};
     ghost use Rattle.mb_node.specs.Inboxes.{HasReceived};
-    ghost use Rattle.mb_node.specs.Outside.{Counts};
+    ghost use Rattle.mb_edge.specs.Faults.{TellsFaults};
     ghost use Rattle.mb_node.specs.Receiving.{Gives};
 
     /// Nothing was received yet.
@@ -52,7 +52,7 @@ impl Receiver {
         ensures gives { Gives self.old self.new result (L.received link.old) (L.received link.new) }
         ensures sent { L.sent link.new ≡ L.sent link.old }
         ensures opens { L.opens link.new ≡ L.opens link.old }
-        ensures link { Counts (L.faults link.old) (L.faults link.new) (L.never_fails link.old) (L.never_fails link.new) (IsErrOf result Failed.Device) }
+        ensures link { TellsFaults (L.never_fails link.old) (L.never_fails link.new) (L.faults link.old) (L.faults link.new) (IsErrOf result Failed.Device) }
     {
         match link.recv(self.buffer.as_mut_slice()) {
             Got::Failed(cause) => Err(cause),

@@ -2,7 +2,7 @@
 
 ghost use Rattle.std.specs.Prelude.{◌≡◌, ◌≤◌, false, IsErrOf, OnOk};
 ghost use Rattle.mb_core.specs.Represents.{IsAtRest};
-ghost use Rattle.mb_node.specs.Outside.{Counts};
+ghost use Rattle.mb_edge.specs.Faults.{TellsFaults};
 ghost use Rattle.mb_node.specs.Serving.{HasServed};
 
 use crate::node::Node;
@@ -32,8 +32,8 @@ pub fn serve<V: Service + Drop, K: Sink, L: Link>(
         (record { written = K.written out.old; sent = L.sent link.old }) (record { written = K.written out.new; sent = L.sent link.new }) result }
     ensures rests { replica.new.halted ≡ false → IsAtRest V.is_state V.after V.answer V.part_of V.restored replica.new }
     ensures opens { L.opens link.new ≡ L.opens link.old }
-    ensures link { Counts (L.faults link.old) (L.faults link.new) (L.never_fails link.old) (L.never_fails link.new) (IsErrOf result ServeStop.LinkFault) }
-    ensures sink { Counts (K.faults out.old) (K.faults out.new) (K.never_fails out.old) (K.never_fails out.new) (IsErrOf result ServeStop.SinkFault) }
+    ensures link { TellsFaults (L.never_fails link.old) (L.never_fails link.new) (L.faults link.old) (L.faults link.new) (IsErrOf result ServeStop.LinkFault) }
+    ensures sink { TellsFaults (K.never_fails out.old) (K.never_fails out.new) (K.faults out.old) (K.faults out.new) (IsErrOf result ServeStop.SinkFault) }
 {
     let mut node = Node::make(alloc, replica.shape(), replica.host())?;
     for _ in 0..events {

@@ -7,7 +7,7 @@ ghost use Rattle.mb_model.proofs.StepArises.{IsWhole};
 ghost use Rattle.mb_core.specs.Represents.{Represents, Serves, IsAtRest};
 ghost use Rattle.mb_node.specs.Events.{is_stopping, is_patience, executes_none};
 ghost use Rattle.mb_node.specs.Messages.{AreMessages};
-ghost use Rattle.mb_node.specs.Outside.{Counts};
+ghost use Rattle.mb_edge.specs.Faults.{TellsFaults};
 ghost use Rattle.mb_node.specs.Turns.{Steps, Turned};
 
 use crate::entries::lines;
@@ -89,8 +89,8 @@ pub(crate) fn take_turn<V: Service + Drop, K: Sink, L: Link>(
     ensures runs { OnOk result (replica.new.halted ≡ false) }
     ensures received { L.received link.new ≡ L.received link.old }
     ensures opens { L.opens link.new ≡ L.opens link.old }
-    ensures link { Counts (L.faults link.old) (L.faults link.new) (L.never_fails link.old) (L.never_fails link.new) (IsErrOf result ServeStop.LinkFault) }
-    ensures sink { Counts (K.faults out.old) (K.faults out.new) (K.never_fails out.old) (K.never_fails out.new) (IsErrOf result ServeStop.SinkFault) }
+    ensures link { TellsFaults (L.never_fails link.old) (L.never_fails link.new) (L.faults link.old) (L.faults link.new) (IsErrOf result ServeStop.LinkFault) }
+    ensures sink { TellsFaults (K.never_fails out.old) (K.never_fails out.new) (K.faults out.old) (K.faults out.new) (IsErrOf result ServeStop.SinkFault) }
 {
     let step = step_of(alloc, replica, &event)?;
     let turn = Turn {

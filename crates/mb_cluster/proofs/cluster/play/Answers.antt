@@ -4,7 +4,7 @@ use Rattle.mb_base.specs.Shapes.{Bytes}
 use Rattle.mb_cluster.specs.Hearing.{Receive, no_hearing}
 use Rattle.mb_cluster.specs.Runs.{wire}
 use Rattle.mb_cluster.specs.Steps.{AsksOps}
-use Rattle.mb_cluster.proofs.FaultLemmas.{tells_as}
+use Rattle.mb_edge.proofs.FaultLemmas.{tells_as}
 use Rattle.mb_cluster.proofs.PlayLemmas.{plays_unopened, plays_unstarted, plays_asked, no_spawn_fault}
 use Rattle.mb_cluster.proofs.cluster.play.Goals as goal
 

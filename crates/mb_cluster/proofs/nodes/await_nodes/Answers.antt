@@ -1,7 +1,7 @@
 use Rattle.std.proofs.Common.{◌≡◌, ◌∷◌, ◌++◌, [], ◌<◌, length, take, get_or, sym, ◌∙◌, arith}
 use Rattle.std.proofs.lemmas.List.{take_more, length-take-le}
 use Rattle.mb_cluster.specs.Ends.{after_wait}
-use Rattle.mb_cluster.proofs.FaultLemmas.{tells_both, tells_call}
+use Rattle.mb_edge.proofs.FaultLemmas.{tells_both, tells_call}
 use Rattle.mb_cluster.proofs.EndLemmas.{Waited, waited_more, fault_of, well_more}
 use Rattle.mb_cluster.proofs.nodes.await_nodes.Goals as goal
 

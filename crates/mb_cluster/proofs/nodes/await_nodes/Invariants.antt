@@ -1,7 +1,7 @@
 use Rattle.std.proofs.Common.{◌≡◌, take}
 use Rattle.std.specs.Result.{IsErrOf}
 use Rattle.mb_cluster.specs.declared.stop.ClusterStop.TheVariants.{SpawnFault}
-use Rattle.mb_cluster.specs.Faults.{TellsFaults}
+use Rattle.mb_edge.specs.Faults.{TellsFaults}
 use Rattle.mb_cluster.specs.Ends.{EndsWell}
 use Rattle.mb_cluster.proofs.EndLemmas.{Waited}
 use Rattle.mb_cluster.proofs.nodes.await_nodes.Given as goal

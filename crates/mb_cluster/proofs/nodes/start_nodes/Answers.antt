@@ -2,7 +2,7 @@ use Rattle.std.proofs.Common.{◌≡◌, ◌∷◌, [], refl, ◌∙◌}
 use Rattle.mb_edge.specs.Told.{with_more}
 use Rattle.mb_sched.specs.Configs.{config_text}
 use Rattle.mb_cluster.specs.Nodes.{node_start}
-use Rattle.mb_cluster.proofs.FaultLemmas.{tells_both, tells_none}
+use Rattle.mb_edge.proofs.FaultLemmas.{tells_both, tells_none}
 use Rattle.mb_cluster.proofs.EndLemmas.{started_none, started_more}
 use Rattle.mb_cluster.proofs.nodes.start_nodes.Goals as goal
 

@@ -1,5 +1,5 @@
 use Rattle.std.proofs.Common.{◌≡◌}
-use Rattle.mb_cluster.specs.Faults.{TellsFaults}
+use Rattle.mb_edge.specs.Faults.{TellsFaults}
 use Rattle.mb_cluster.specs.Nodes.{AreStarted}
 use Rattle.mb_cluster.proofs.nodes.start_nodes.Given as goal
 

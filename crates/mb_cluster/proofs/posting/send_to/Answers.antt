@@ -3,7 +3,7 @@ use Rattle.std.specs.Prelude.{slice_get, ◌∷◌}
 use Rattle.std.proofs.lemmas.Option.{slice_get_read}
 use Rattle.mb_edge.specs.Told.{with_more}
 use Rattle.mb_cluster.specs.Posts.{to_host}
-use Rattle.mb_cluster.proofs.FaultLemmas.{tells_both, tells_call}
+use Rattle.mb_edge.proofs.FaultLemmas.{tells_both, tells_call}
 use Rattle.mb_cluster.proofs.SendLemmas.{sends_one, sends_both, sends_stop, to_host_more, to_host_parts, not_ok}
 use Rattle.mb_cluster.proofs.posting.send_to.Goals as goal
 

@@ -1,6 +1,6 @@
 use Rattle.std.proofs.Common.{◌≡◌, take, Ok}
 use Rattle.mb_edge.specs.declared.outside.Failed.{Failed}
-use Rattle.mb_cluster.specs.Faults.{TellsFaults}
+use Rattle.mb_edge.specs.Faults.{TellsFaults}
 use Rattle.mb_cluster.specs.Posts.{to_host}
 use Rattle.mb_cluster.specs.Sends.{SendsSome}
 use Rattle.mb_cluster.proofs.posting.send_to.Given as goal

@@ -8,7 +8,7 @@ use Rattle.mb_parts.specs.Fits.{FitsText}
 use Rattle.mb_cluster.specs.Exchanges.{hearing_after}
 use Rattle.mb_cluster.specs.Runs.{wire}
 use Rattle.mb_cluster.specs.Steps.{AsksThese, AsksOps}
-use Rattle.mb_cluster.proofs.FaultLemmas.{tells_both, tells_none}
+use Rattle.mb_edge.proofs.FaultLemmas.{tells_both, tells_none}
 use Rattle.mb_cluster.proofs.SendLemmas.{take_next, parts_at, all_at}
 use Rattle.mb_cluster.proofs.StepLemmas.{asks_none, asks_both, stops_behind}
 use Rattle.mb_cluster.proofs.asking.Program.ask_all.Goals as goal

@@ -1,7 +1,7 @@
 use Rattle.std.proofs.Common.{◌≤◌, ◌+◌, refl, ◌∙◌, arith}
 use Rattle.mb_cluster.specs.Hearing.{hears_all}
 use Rattle.mb_cluster.specs.Runs.{wire}
-use Rattle.mb_cluster.proofs.FaultLemmas.{tells_both, tells_none}
+use Rattle.mb_edge.proofs.FaultLemmas.{tells_both, tells_none}
 use Rattle.mb_cluster.proofs.StepLemmas.{waits_first, nothing_more, answer_more, stops_more}
 use Rattle.mb_cluster.proofs.asking.Program.await_answer.Goals as goal
 

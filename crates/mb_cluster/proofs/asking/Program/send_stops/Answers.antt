@@ -4,7 +4,8 @@ use Rattle.mb_base.specs.Shapes.{Bytes}
 use Rattle.mb_edge.specs.declared.outside.Failed.TheVariants.{Device}
 use Rattle.mb_cluster.specs.Posts.{posts, number_after, stops, to_all, next_number}
 use Rattle.mb_cluster.specs.Sends.{SendsSome}
-use Rattle.mb_cluster.proofs.FaultLemmas.{tells_both, tells_none, either_failed}
+use Rattle.mb_edge.proofs.FaultLemmas.{tells_both, tells_none}
+use Rattle.mb_cluster.proofs.FaultLemmas.{either_failed}
 use Rattle.mb_cluster.proofs.SendLemmas.{sends_none, sends_both, sends_nothing, not_ok, number_after-append, posts_next}
 use Rattle.mb_cluster.proofs.asking.Program.send_stops.Goals as goal
 

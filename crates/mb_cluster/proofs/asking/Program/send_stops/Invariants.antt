@@ -1,7 +1,7 @@
 use Rattle.std.proofs.Common.{◌≡◌, replicate}
 use Rattle.std.specs.Result.{IsErrOf}
 use Rattle.mb_edge.specs.declared.outside.Failed.TheVariants.{Device}
-use Rattle.mb_cluster.specs.Faults.{TellsFaults}
+use Rattle.mb_edge.specs.Faults.{TellsFaults}
 use Rattle.mb_cluster.specs.Posts.{posts, number_after}
 use Rattle.mb_cluster.specs.Sends.{SendsSome}
 use Rattle.mb_cluster.proofs.asking.Program.send_stops.Given as goal

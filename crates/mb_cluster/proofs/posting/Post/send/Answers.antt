@@ -3,7 +3,8 @@ use Rattle.std.specs.List.{flat_map, range_with_len}
 use Rattle.mb_edge.specs.declared.outside.Failed.TheVariants.{Device}
 use Rattle.mb_cluster.specs.Posts.{to_host, to_all}
 use Rattle.mb_cluster.specs.Sends.{SendsSome}
-use Rattle.mb_cluster.proofs.FaultLemmas.{tells_both, tells_none, either_failed}
+use Rattle.mb_edge.proofs.FaultLemmas.{tells_both, tells_none}
+use Rattle.mb_cluster.proofs.FaultLemmas.{either_failed}
 use Rattle.mb_cluster.proofs.SendLemmas.{sends_none, sends_both, sends_nothing, hosts_more, not_ok}
 use Rattle.mb_cluster.proofs.posting.Post.send.Goals as goal
 

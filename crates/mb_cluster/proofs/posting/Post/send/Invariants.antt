@@ -2,7 +2,7 @@ use Rattle.std.proofs.Common.{◌≡◌}
 use Rattle.std.specs.List.{flat_map, range_with_len}
 use Rattle.std.specs.Result.{IsErrOf}
 use Rattle.mb_edge.specs.declared.outside.Failed.TheVariants.{Device}
-use Rattle.mb_cluster.specs.Faults.{TellsFaults}
+use Rattle.mb_edge.specs.Faults.{TellsFaults}
 use Rattle.mb_cluster.specs.Posts.{to_host}
 use Rattle.mb_cluster.specs.Sends.{SendsSome}
 use Rattle.mb_cluster.proofs.posting.Post.send.Given as goal
