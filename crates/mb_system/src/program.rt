@@ -1,0 +1,20 @@
+//! The program's own words and path.
+
+use std::{env, io};
+
+/// The words behind the program's own name. One that isn't UTF-8 is an error, as is want of memory.
+pub fn words_of(rt: &HostRuntime) -> io::Result<Vec<String>> {
+    let mut words = Vec::new(rt.alloc());
+    for word in env::args(rt)?.skip(1) {
+        words.push(word)?;
+    }
+    Ok(words)
+}
+
+/// The path of the program, by which it starts itself. Where the system doesn't tell it, it is empty, and a start fails.
+pub fn own_path(rt: &HostRuntime) -> String {
+    match env::current_exe(rt) {
+        Ok(path) => path.into_string(),
+        Err(_) => String::new(rt.alloc()),
+    }
+}

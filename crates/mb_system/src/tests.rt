@@ -1,0 +1,155 @@
+use super::*;
+use mb_edge::{Failed, Got, Link, ReadStop, Sink, Source, Spawner, read_all};
+use std::io::{ErrorKind, Read, Write};
+use std::test::Fail;
+use std::{fs, io};
+
+/// A stream whose calls end as listed: with a count, or with an error.
+#[derive(Drop)]
+struct Listed {
+    calls: Vec<Result<usize, ErrorKind>>,
+    made: usize,
+}
+
+impl Listed {
+    fn new(rt: &HostRuntime, calls: &[Result<usize, ErrorKind>]) -> Result<Listed, Fail> {
+        let mut listed = Vec::new(rt.alloc());
+        for call in calls {
+            listed.push(*call)?;
+        }
+        Ok(Listed {
+            calls: listed,
+            made: 0,
+        })
+    }
+
+    fn next(&mut self) -> io::Result<usize> {
+        let made = self.made;
+        self.made = made.saturating_add(1);
+        match self.calls.get(made) {
+            Some(Ok(count)) => Ok(*count),
+            Some(Err(kind)) => Err(io::Error::from(*kind)),
+            None => Ok(0),
+        }
+    }
+}
+
+impl Read for Listed {
+    fn read(&mut self, buf: &mut [u8]) -> io::Result<usize> {
+        Ok(self.next()?.min(buf.len()))
+    }
+}
+
+impl Write for Listed {
+    fn write(&mut self, buf: &[u8]) -> io::Result<usize> {
+        Ok(self.next()?.min(buf.len()))
+    }
+
+    fn flush(&mut self) -> io::Result<()> {
+        Ok(())
+    }
+}
+
+const INTERRUPTED: Result<usize, ErrorKind> = Err(ErrorKind::Interrupted);
+
+const BROKEN: Result<usize, ErrorKind> = Err(ErrorKind::BrokenPipe);
+
+#[test]
+fn interrupted_calls_are_made_again(rt: HostRuntime) -> Result<(), Fail> {
+    let calls = [INTERRUPTED, Ok(2), INTERRUPTED, INTERRUPTED, BROKEN, Ok(0)];
+    let mut source = StdSource::new(Listed::new(&rt, &calls)?);
+    let mut sink = StdSink::new(Listed::new(&rt, &calls)?);
+    let mut into = [0u8; 4];
+    assert_eq!(rt; source.read(&mut into), Ok(2));
+    assert_eq!(rt; source.read(&mut into), Err(Failed::Device));
+    assert_eq!(rt; source.read(&mut into), Ok(0));
+    assert_eq!(rt; sink.write(b"abc"), Ok(2));
+    assert_eq!(rt; sink.write(b"c"), Err(Failed::Device));
+    assert_eq!(rt; sink.write(b"c"), Err(Failed::Device));
+    assert_eq!(rt; sink.write(b""), Ok(0));
+    Ok(())
+}
+
+#[test]
+fn a_fault_in_mid_stream_is_told(rt: HostRuntime) -> Result<(), Fail> {
+    let mut source = StdSource::new(Listed::new(&rt, &[Ok(3), BROKEN, Ok(3)])?);
+    match read_all(rt.alloc(), 10, &mut source) {
+        Ok(bytes) => assert_eq!(rt; bytes.len(), 3, "the fault is lost"),
+        Err(e) => assert_eq!(rt; e, ReadStop::Fault),
+    }
+    Ok(())
+}
+
+/// The longest datagram, and one byte more.
+const ROOM: usize = 32_778;
+
+/// Receives until a datagram comes, at most a hundred times.
+fn next_datagram<L: Link>(link: &mut L, into: &mut [u8]) -> Got {
+    for _ in 0..100 {
+        match link.recv(into) {
+            Got::Quiet => {}
+            got => return got,
+        }
+    }
+    Got::Quiet
+}
+
+#[test]
+fn datagrams_come_whole_and_in_order(rt: HostRuntime) -> Result<(), Fail> {
+    let mut first = UdpLink::new(&rt);
+    let mut second = UdpLink::new(&rt);
+    let mut into = [0u8; ROOM];
+    assert_eq!(rt; first.recv(&mut into), Got::Failed(Failed::Device));
+    assert_eq!(rt; first.open(40_000, 0), Ok(()));
+    assert_eq!(rt; second.open(40_000, 1), Ok(()));
+    assert_eq!(rt; second.recv(&mut into), Got::Quiet);
+    for i in 1..=40u8 {
+        let len = if i == 40 { ROOM - 1 } else { i as usize };
+        let out = [i; ROOM];
+        assert_eq!(rt; first.send(1, out.get(..len).unwrap_or(&[])), Ok(()));
+        assert_eq!(rt; next_datagram(&mut second, &mut into), Got::Datagram(len));
+        assert!(rt; into[..len].iter().all(|x| *x == i));
+    }
+    assert_eq!(rt; second.recv(&mut into), Got::Quiet);
+    Ok(())
+}
+
+#[test]
+fn a_port_that_is_taken_or_too_high_is_a_fault(rt: HostRuntime) -> Result<(), Fail> {
+    let mut first = UdpLink::new(&rt);
+    let mut second = UdpLink::new(&rt);
+    assert_eq!(rt; first.open(40_010, 255), Ok(()));
+    assert_eq!(rt; second.open(40_109, 1), Err(Failed::Device));
+    assert_eq!(rt; second.open(65_500, 255), Err(Failed::Device));
+    assert_eq!(rt; second.open(40_109, 2), Ok(()));
+    Ok(())
+}
+
+fn shell(rt: &HostRuntime, script: &str) -> Result<Vec<String>, Fail> {
+    let mut words = Vec::new(rt.alloc());
+    words.push(String::from_str(rt.alloc(), "-c")?)?;
+    words.push(String::from_str(rt.alloc(), script)?)?;
+    Ok(words)
+}
+
+#[test]
+fn children_get_their_words_and_input_and_tell_their_ends(rt: HostRuntime) -> Result<(), Fail> {
+    let rows = [
+        ("cat", 0, "some bytes"),
+        ("echo x; exit 3", 3, "x\n"),
+        ("kill -9 $$", 255, ""),
+    ];
+    let path = String::from_str(rt.alloc(), "/bin/sh")?;
+    let mut spawner = ChildSpawner::new(&rt, rt.alloc(), path);
+    for (script, status, text) in rows {
+        let words = shell(&rt, script)?;
+        match spawner.start(&words, b"some bytes", "child.out") {
+            Ok(child) => assert_eq!(rt; spawner.wait(child), Ok(status)),
+            Err(e) => assert_eq!(rt; Some(e), None),
+        }
+        let found = fs::read_to_string(&rt, "child.out")?;
+        assert_eq!(rt; found.as_str(), text);
+    }
+    assert_eq!(rt; spawner.wait(3), Err(Failed::Device));
+    Ok(())
+}
