@@ -9,8 +9,10 @@ use Rattle.mb_sched.specs.Schedules.{IsScheduleText}
 use Rattle.mb_theory.specs.Stops.{WorldStop}
 use Rattle.mb_top.specs.Runs.{AreUnstopped, IsFirstStopped}
 use Rattle.mb_top.specs.Answers.{IsForgedText, certificate, tag, AnswersSchedule, bad_event, forged, replayed, Answers, too_long, bad_line, right}
-use Rattle.mb_top.specs.Devices.{Device, Says, said, failed, cut_short, Replays, answered, unread, starved}
+use Rattle.mb_answer.specs.Devices.{Device, Says, said, failed, cut_short, IsToldBy, answered, unread, starved}
+use Rattle.mb_top.specs.Responses.{Replays}
 use Rattle.mb_top.specs.Outcomes.{ReportsOn, TellsForged, IsComplete}
+use Rattle.mb_answer.proofs.Statuses.{said_completes}
 use Rattle.mb_top.proofs.OneSchedule.{same_schedule}
 
 -- ---- where an answer was written
@@ -93,14 +95,21 @@ answer_completes text s status out is all (bad_line n short fault two text_is) =
 answer_completes text s status out is all (right t is' answers) =
     schedule_completes t status out (subst (λ (x : Schedule). AreUnstopped x (length x.events)) (same_schedule text s t is is') all) answers
 
-pub said_completes : (wanted : ℕ) (out : Bytes) (status : ℕ) (old new : Device) → wanted ≡ 0 → ¬ Rose old.faults new.faults → Says wanted out status old new → (status ≡ 0) ⊎ (status ≡ 4)
-said_completes wanted out status old new zero none (said same grew) = inl (same ∙ zero)
-said_completes wanted out status old new zero none (failed six rose part) = absurd (none rose)
-said_completes wanted out status old new zero none (cut_short four part) = inr four
-
 pub completes : (text : Bytes) (status : ℕ) (source source' sink sink' : Device) → Replays text status source source' sink sink'
     → IsComplete text status (Rose source.faults source'.faults ⊎ Rose sink.faults sink'.faults)
 completes text status source source' sink sink' (answered wanted out a says) s is all none =
     said_completes wanted out status sink sink' (answer_completes text s wanted out is all a) (λ rose. none (inr rose)) says
 completes text status source source' sink sink' (unread five rose same) s is all none = absurd (none (inl rose))
 completes text status source source' sink sink' (starved four same) s is all none = inr four
+
+-- ---- the statuses
+
+schedule_told : {s : _} (status : ℕ) (out : Bytes) → AnswersSchedule s status out → IsToldBy status
+schedule_told status out (bad_event e first two text_is) = inl (omega (arith, two))
+schedule_told status out (forged e told three) = inl (omega (arith, three))
+schedule_told status out (replayed all zero text_is) = inl (omega (arith, zero))
+
+pub answers_told : (text : Bytes) (status : ℕ) (out : Bytes) → Answers text status out → IsToldBy status
+answers_told text status out (too_long long two text_is) = inl (omega (arith, two))
+answers_told text status out (bad_line n short fault two text_is) = inl (omega (arith, two))
+answers_told text status out (right s is answers) = schedule_told status out answers

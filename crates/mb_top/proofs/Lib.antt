@@ -6,6 +6,6 @@ pub mod Promised
 pub mod StopLaws
 pub mod RunLaws
 pub mod Answered
-pub mod RecordLaws
 pub mod Summaries
 pub mod SoakLaws
+pub mod Doing

@@ -1,8 +1,6 @@
 -- What the words of a command ask for.
 use Rattle.std.specs.Prelude.{ℕ, ◌-◌, ◌^◌, ◌≤◌, Bool, true, false, List, [], ◌∷◌, Option, Some, None, if◌then◌else◌}
 use Rattle.mb_base.specs.Shapes.{Bytes}
-use Rattle.mb_sched.specs.Schedules.{max_text}
-use Rattle.mb_sched.specs.Records.{max_record}
 use Rattle.mb_sched.specs.Words.{◌>>=◌, is, number_in}
 use Rattle.mb_top.specs.declared.command.Command.{Command}
 use Rattle.mb_top.specs.declared.command.Command.TheVariants.{Replay, Soak, Node, Retrace, Cluster}
@@ -41,14 +39,7 @@ IsWithin (Node h n) = (1 ≤ n) × (n ≤ 1000000)
 IsWithin Retrace = Unit {0}
 IsWithin (Cluster n) = (1 ≤ n) × (n ≤ 1000000)
 
--- Another one is not built yet.
-abbrev pub is_built : Command → Bool
-is_built Replay = true
-is_built (Soak seed n) = true
-is_built Retrace = true
-is_built _ = false
-
--- the most bytes that the text it reads may have
-abbrev pub text_limit : Option Command → ℕ
-text_limit (Some Retrace) = max_record
-text_limit _ = max_text
+-- It reads a text.
+abbrev pub reads : Command → Bool
+reads (Soak seed n) = false
+reads _ = true

@@ -1,9 +1,8 @@
 pub mod Commands
-pub mod Texts
 pub mod Systems
 pub mod Runs
 pub mod Answers
 pub mod Soaks
-pub mod Records
-pub mod Devices
+pub mod Responses
 pub mod Outcomes
+pub mod Doings

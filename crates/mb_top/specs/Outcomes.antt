@@ -1,11 +1,14 @@
 -- What a status says of the text of a schedule, and which status has to come.
-use Rattle.std.specs.Prelude.{◌≡◌, ℕ, ◌⊎◌, length, Option}
+use Rattle.std.specs.Prelude.{◌≡◌, ℕ, ◌<◌, ◌⊎◌, length, Option}
 use Rattle.std.specs.Io.KnownBytes.{Appends}
-use Rattle.mb_base.specs.Shapes.{Bytes}
+use Rattle.mb_base.specs.Shapes.{Bytes, host_count}
 use Rattle.mb_sched.specs.declared.schedule.Schedule.{Schedule}
 use Rattle.mb_sched.specs.Schedules.{IsScheduleText}
 use Rattle.mb_sched.specs.declared.records.Record.{Record}
-use Rattle.mb_top.specs.Records.{IsRecordText, IsOwnRecord}
+use Rattle.mb_sched.specs.declared.configs.Config.{Config}
+use Rattle.mb_answer.specs.Clusters.{IsUnbroken}
+use Rattle.mb_answer.specs.Configs.{IsConfigText}
+use Rattle.mb_serving.specs.Records.{IsRecordText, IsOwnRecord}
 use Rattle.mb_top.specs.Runs.{AreUnstopped}
 use Rattle.mb_top.specs.Answers.{final_report, IsForgedText}
 
@@ -28,7 +31,3 @@ pub record TellsForged (text : Bytes) (old new : Option Bytes) : Type 0 where
 -- The text of a schedule is answered by its report where nothing stands in the way of its events, unless memory runs out or a device fails.
 abbrev pub IsComplete : Bytes → ℕ → Type 0 → Type 0
 IsComplete text status fault = (s : Schedule) → IsScheduleText text s → AreUnstopped s (length s.events) → ¬ fault → (status ≡ 0) ⊎ (status ≡ 4)
-
--- The text of a record each of whose entries is that of its host's own step is answered by how many they are, unless memory runs out or a device fails.
-abbrev pub IsRetraced : Bytes → ℕ → Type 0 → Type 0
-IsRetraced text status fault = (r : Record) → IsRecordText text r → IsOwnRecord r → ¬ fault → (status ≡ 0) ⊎ (status ≡ 4)

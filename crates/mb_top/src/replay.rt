@@ -1,19 +1,26 @@
 //! A whole schedule, and the answer to it.
 
-ghost use Rattle.std.specs.Prelude.{◌≡◌, [], false, replicate, IfOk};
+ghost use Rattle.std.specs.Prelude.{◌≡◌, ◌+◌, [], false, replicate, IfOk, IfSome};
+ghost use Rattle.std.specs.Io.KnownBytes.{IsAtEnd};
+ghost use Rattle.mb_answer.specs.Devices.{device, IsLow};
+ghost use Rattle.mb_edge.specs.Faults.{TellsFaults};
+ghost use Rattle.mb_edge.specs.Pieces.{ConsumesBetween};
 ghost use Rattle.mb_sched.specs.Limits.{IsSchedule};
 ghost use Rattle.mb_sched.specs.Report.{report_text};
+ghost use Rattle.mb_sched.specs.Schedules.{max_text};
 ghost use Rattle.mb_theory.specs.World.{World as WorldState, nothing_happened};
 ghost use Rattle.mb_world.specs.Reports.{report_of};
 ghost use Rattle.mb_world.specs.Tables.{RepresentsWorld};
 ghost use Rattle.mb_top.specs.Systems.{system_of};
 ghost use Rattle.mb_top.specs.Runs.{Runs, run_stop_of};
 ghost use Rattle.mb_top.specs.Answers.{AnswersSchedule, Answers};
+ghost use Rattle.mb_top.specs.Responses.{Replays};
 
-use crate::answer::{Answer, DONE, bad_line, forged, forged_tag, too_long};
+use mb_answer::{Answer, DONE, bad_line, forged, forged_tag, respond, tell_unread, too_long};
 use mb_base::{Counter, Host, NoMemory};
+use mb_edge::{Sink, Source, read_all};
 use mb_kv::Kv;
-use mb_sched::{BadText, Schedule, parse_schedule, print_report};
+use mb_sched::{BadText, MAX_TEXT, Schedule, parse_schedule, print_report};
 use mb_world::{World, WorldStop};
 use std::alloc::{AllocError, Global};
 
@@ -151,7 +158,7 @@ fn answer_schedule(alloc: Global, schedule: &Schedule) -> Result<Answer, NoMemor
 }
 
 /// The answer to the text of a schedule.
-pub(crate) fn answer_to(alloc: Global, text: &[u8]) -> Result<Answer, NoMemory>
+fn answer_to(alloc: Global, text: &[u8]) -> Result<Answer, NoMemory>
     ensures { IfOk result (λ a. Answers text.now a.status a.text.items) }
 {
     match parse_schedule(alloc, text) {
@@ -159,5 +166,21 @@ pub(crate) fn answer_to(alloc: Global, text: &[u8]) -> Result<Answer, NoMemory>
         Err(BadText::TooLong) => too_long(alloc),
         Err(BadText::BadLine { number }) => bad_line(alloc, u64::from(number)),
         Err(BadText::NoMemory) => Err(NoMemory),
+    }
+}
+
+/// Reads a schedule, and writes the answer to it.
+pub(crate) fn replay<S: Source, K: Sink>(alloc: Global, source: &mut S, sink: &mut K) -> u8
+    ensures told { IfSome (S.left source.old) (λ text. Replays text result (device (S.left source.old) (S.faults source.old)) (device (S.left source.new) (S.faults source.new))
+        (device (K.written sink.old) (K.faults sink.old)) (device (K.written sink.new) (K.faults sink.new))) }
+    ensures ended { result ≡ 0 → IsAtEnd (S.left source.new) }
+    ensures limit { ConsumesBetween 0 (max_text + 1) (S.left source.old) (S.left source.new) }
+    ensures low { IsLow result }
+    ensures source { TellsFaults (S.never_fails source.old) (S.never_fails source.new) (S.faults source.old) (S.faults source.new) (result ≡ 5) }
+    ensures sink { TellsFaults (K.never_fails sink.old) (K.never_fails sink.new) (K.faults sink.old) (K.faults sink.new) (result ≡ 6) }
+{
+    match read_all(alloc, MAX_TEXT, source) {
+        Ok(text) => respond(sink, answer_to(alloc, &text)),
+        Err(stop) => tell_unread(alloc, sink, stop),
     }
 }

@@ -7,12 +7,16 @@ ghost use Rattle.mb_make.specs.Summary.{of_state, greatest_view, longest_log, al
 ghost use Rattle.mb_theory.specs.World.{World as WorldState, System, nothing_happened};
 ghost use Rattle.mb_world.specs.Tables.{RepresentsWorld};
 ghost use Rattle.mb_world.specs.declared.seen.WorldStop.TheVariants as stop;
+ghost use Rattle.mb_edge.specs.Faults.{TellsFaults};
+ghost use Rattle.mb_answer.specs.Devices.{device, IsLow};
+ghost use Rattle.mb_top.specs.Responses.{Soaks};
 ghost use Rattle.mb_top.specs.Systems.{system_of, world};
 ghost use Rattle.mb_top.specs.Soaks.{soak_shape, soak_of, summed_up, summary_text, soak_text};
 
-use crate::answer::{Answer, DONE};
 use crate::replay::services;
+use mb_answer::{Answer, DONE, respond};
 use mb_base::{Key, NoMemory, Shape, View};
+use mb_edge::Sink;
 use mb_kv::Kv;
 use mb_make::Maker;
 use mb_sched::{ClientLine, HostLine, Report, WorldEvent};
@@ -182,11 +186,22 @@ fn told(alloc: Global, numbers: &Summary) -> Result<Answer, NoMemory>
 }
 
 /// The answer to a soak of so many events from a seed.
-pub(crate) fn answer_soak(alloc: Global, seed: u64, events: u64) -> Result<Answer, NoMemory>
+fn answer_soak(alloc: Global, seed: u64, events: u64) -> Result<Answer, NoMemory>
     requires { events ≤ 100000 }
     ensures { IfOk result (λ a. (a.status ≡ 0) × (a.text.items ≡ soak_text seed events)) }
 {
     let world = soaked(alloc, seed, events)?;
     let report = world.report(alloc)?;
     told(alloc, &summed_up(seed, events, &report))
+}
+
+/// Runs drawn events, and writes the line that sums them up.
+pub(crate) fn soak<K: Sink>(alloc: Global, seed: u64, events: u64, sink: &mut K) -> u8
+    requires { events ≤ 100000 }
+    ensures told { Soaks seed events result (device (K.written sink.old) (K.faults sink.old)) (device (K.written sink.new) (K.faults sink.new)) }
+    ensures low { IsLow result }
+    ensures unread { ¬ (result ≡ 5) }
+    ensures sink { TellsFaults (K.never_fails sink.old) (K.never_fails sink.new) (K.faults sink.old) (K.faults sink.new) (result ≡ 6) }
+{
+    respond(sink, answer_soak(alloc, seed, events))
 }

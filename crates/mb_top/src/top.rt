@@ -1,166 +1,81 @@
-//! The call that `main` makes: the whole program, over any source and sink.
+//! The call that `main` makes: the whole program, over any source, sink, link and spawner.
 
-ghost use Rattle.std.specs.Prelude.{◌≡◌, ℕ, ◌+◌, ◌≤◌, ◌<◌, ◌⊎◌, false, length, map, string_bytes, Some, None, IfSome, IfOk, IsErrOf};
+ghost use Rattle.std.specs.Prelude.{◌≡◌, ℕ, ◌≤◌, ◌<◌, ◌⊎◌, true, length, map, string_bytes, Option, Some, None, IfSome};
 ghost use Rattle.std.specs.Io.KnownBytes.{IsAtEnd};
 ghost use Rattle.mb_base.specs.Shapes.{Bytes};
-ghost use Rattle.mb_edge.specs.Faults.{Rose, HasNoFault};
+ghost use Rattle.mb_edge.specs.Faults.{Rose, TellsFaults};
 ghost use Rattle.mb_edge.specs.Pieces.{ConsumesBetween};
 ghost use Rattle.mb_sched.specs.declared.schedule.Schedule.{Schedule};
-ghost use Rattle.mb_sched.specs.Schedules.{max_text, IsScheduleText};
-ghost use Rattle.mb_sched.specs.Records.{max_record};
+ghost use Rattle.mb_sched.specs.Schedules.{IsScheduleText};
 ghost use Rattle.mb_theory.specs.Hashed.{HashesApart};
 ghost use Rattle.mb_theory.specs.Headline.{Promises};
-ghost use Rattle.mb_top.specs.Commands.{command_of, is_built, text_limit};
-ghost use Rattle.mb_top.specs.Texts.{usage_text, unbuilt_text};
+ghost use Rattle.mb_top.specs.Commands.{command_of, IsWithin, reads};
+ghost use Rattle.mb_answer.specs.Texts.{usage_text};
 ghost use Rattle.mb_top.specs.Systems.{system_of, world};
-ghost use Rattle.mb_top.specs.Answers.{Answers, IsAnswered, IsFirstForged};
-ghost use Rattle.mb_top.specs.Devices.{device, Says, Replays, Retraces, Soaks};
-ghost use Rattle.mb_top.specs.Records.{AnswersRecordText, IsRecordStatus};
+ghost use Rattle.mb_top.specs.Answers.{IsFirstForged};
+ghost use Rattle.mb_answer.specs.Devices.{device, link_state, spawner_state, devices, Says};
+ghost use Rattle.mb_top.specs.Responses.{Replays, Soaks};
+ghost use Rattle.mb_serving.specs.Records.{Retraces, IsRetraced};
 ghost use Rattle.mb_top.specs.Soaks.{soak_of};
-ghost use Rattle.mb_top.specs.Outcomes.{ReportsOn, TellsForged, IsComplete, IsRetraced};
+ghost use Rattle.mb_serving.specs.Nodes.{Nodes, IsServed};
+ghost use Rattle.mb_answer.specs.Clusters.{Clusters, TellsBadEnds, IsRun};
+ghost use Rattle.mb_top.specs.Outcomes.{ReportsOn, TellsForged, IsComplete};
+ghost use Rattle.mb_top.specs.Doings.{Does, IsIdle, most_read};
 
-use crate::answer::{Answer, NO_MEMORY, NOT_BUILT, SINK_FAULT, SOURCE_FAULT, USAGE, too_long};
 use crate::command::{Command, command_in};
-use crate::replay::answer_to;
-use crate::retracing::answer_to_record;
-use crate::soak::answer_soak;
-use mb_base::NoMemory;
-use mb_edge::{ReadStop, Sink, Source, WriteStop, read_all, write_all};
-use mb_sched::{MAX_RECORD, MAX_TEXT};
+use crate::replay::replay;
+use crate::soak::soak;
+use mb_answer::{USAGE, USAGE_TEXT, cluster, say};
+use mb_edge::{Link, Sink, Source, Spawner};
+use mb_serving::{node_of, retrace};
 use std::alloc::Global;
 
-/// Why there is no answer.
-#[derive(Clone, Copy, Debug, PartialEq, Eq)]
-pub(crate) enum Unanswered {
-    SourceFault,
-    NoMemory,
-}
-
-/// The answer to what a source has left.
-fn answer_from<S: Source>(alloc: Global, source: &mut S) -> Result<Answer, Unanswered>
-    ensures told { IfSome (S.left source.old) (λ text. IfOk result (λ a. Answers text a.status a.text.items)) }
-    ensures known { IfOk result (λ a. IsAnswered a.status) }
-    ensures ended { IfOk result (λ a. a.status ≡ 0 → IsAtEnd (S.left source.new)) }
-    ensures limit { ConsumesBetween 0 (max_text + 1) (S.left source.old) (S.left source.new) }
-    ensures fault { IsErrOf result Unanswered.SourceFault → Rose (S.faults source.old) (S.faults source.new) }
-    ensures quiet { S.never_fails source.old → HasNoFault (S.faults source.old) (S.faults source.new) (IsErrOf result Unanswered.SourceFault) }
+/// Does what a command asks for, or tells how the program is used.
+fn run<S: Source, K: Sink, L: Link, P: Spawner>(
+    alloc: Global,
+    command: Option<Command>,
+    source: &mut S,
+    sink: &mut K,
+    link: &mut L,
+    spawner: &mut P,
+) -> u8
+    requires { IfSome command IsWithin }
+    ensures does { Does command result
+        (devices (device (S.left source.old) (S.faults source.old)) (device (K.written sink.old) (K.faults sink.old)) (link_state (L.received link.old) (L.sent link.old) (L.opens link.old) (L.faults link.old))
+        (spawner_state (P.starts spawner.old) (P.waits spawner.old) (P.faults spawner.old) (P.bad_ends spawner.old)))
+        (devices (device (S.left source.new) (S.faults source.new)) (device (K.written sink.new) (K.faults sink.new)) (link_state (L.received link.new) (L.sent link.new) (L.opens link.new) (L.faults link.new))
+        (spawner_state (P.starts spawner.new) (P.waits spawner.new) (P.faults spawner.new) (P.bad_ends spawner.new))) }
+    ensures limit { ConsumesBetween 0 (most_read command) (S.left source.old) (S.left source.new) }
+    ensures source { TellsFaults (S.never_fails source.old) (S.never_fails source.new) (S.faults source.old) (S.faults source.new) (result ≡ 5) }
+    ensures sink { TellsFaults (K.never_fails sink.old) (K.never_fails sink.new) (K.faults sink.old) (K.faults sink.new) (result ≡ 6) }
+    ensures link { TellsFaults (L.never_fails link.old) (L.never_fails link.new) (L.faults link.old) (L.faults link.new) (result ≡ 7) }
+    ensures spawner { TellsFaults (P.never_fails spawner.old) (P.never_fails spawner.new) (P.faults spawner.old) (P.faults spawner.new) (result ≡ 8) }
+    ensures bad_ends { TellsBadEnds (P.all_end_well spawner.old) (P.bad_ends spawner.old) (P.bad_ends spawner.new) (result ≡ 18) }
 {
-    match read_all(alloc, MAX_TEXT, source) {
-        Ok(text) => match answer_to(alloc, &text) {
-            Ok(answer) => Ok(answer),
-            Err(NoMemory) => Err(Unanswered::NoMemory),
-        },
-        Err(ReadStop::TooLong) => match too_long(alloc) {
-            Ok(answer) => Ok(answer),
-            Err(NoMemory) => Err(Unanswered::NoMemory),
-        },
-        Err(ReadStop::Fault) => Err(Unanswered::SourceFault),
-        Err(ReadStop::NoMemory) => Err(Unanswered::NoMemory),
+    match command {
+        Some(Command::Replay) => replay(alloc, source, sink),
+        Some(Command::Soak { seed, events }) => soak(alloc, seed, events, sink),
+        Some(Command::Node { host, events }) => node_of(alloc, host, events, source, sink, link),
+        Some(Command::Retrace) => retrace(alloc, source, sink),
+        Some(Command::Cluster { turns }) => cluster(alloc, turns, source, sink, link, spawner),
+        None => say(sink, USAGE_TEXT, USAGE),
     }
 }
 
-/// Writes a text, and answers a status: the one that goes with the text, or that of a failed write.
-fn say<K: Sink>(sink: &mut K, text: &[u8], status: u8) -> u8
-    ensures says { Says status text.now result (device (K.written sink.old) (K.faults sink.old)) (device (K.written sink.new) (K.faults sink.new)) }
-    ensures quiet { K.never_fails sink.old → HasNoFault (K.faults sink.old) (K.faults sink.new) ((result ≡ 6) × ¬ (status ≡ 6)) }
-{
-    match write_all(sink, text) {
-        Ok(()) => status,
-        Err(WriteStop::Fault) => SINK_FAULT,
-        Err(WriteStop::NoMemory) => NO_MEMORY,
-    }
-}
-
-/// Says that a command is not built yet.
-fn unbuilt<K: Sink>(sink: &mut K) -> u8
-    ensures says { Says 11 unbuilt_text result (device (K.written sink.old) (K.faults sink.old)) (device (K.written sink.new) (K.faults sink.new)) }
-    ensures quiet { K.never_fails sink.old → HasNoFault (K.faults sink.old) (K.faults sink.new) (result ≡ 6) }
-{
-    say(sink, b"unbuilt\n", NOT_BUILT)
-}
-
-/// Reads a schedule, and writes the answer to it.
-fn replay<S: Source, K: Sink>(alloc: Global, source: &mut S, sink: &mut K) -> u8
-    ensures told { IfSome (S.left source.old) (λ text. Replays text result (device (S.left source.old) (S.faults source.old)) (device (S.left source.new) (S.faults source.new))
-        (device (K.written sink.old) (K.faults sink.old)) (device (K.written sink.new) (K.faults sink.new))) }
-    ensures ended { result ≡ 0 → IsAtEnd (S.left source.new) }
-    ensures limit { ConsumesBetween 0 (max_text + 1) (S.left source.old) (S.left source.new) }
-    ensures quiet_source { S.never_fails source.old → HasNoFault (S.faults source.old) (S.faults source.new) (result ≡ 5) }
-    ensures quiet_sink { K.never_fails sink.old → HasNoFault (K.faults sink.old) (K.faults sink.new) (result ≡ 6) }
-    ensures source_fault { result ≡ 5 → Rose (S.faults source.old) (S.faults source.new) }
-    ensures sink_fault { result ≡ 6 → Rose (K.faults sink.old) (K.faults sink.new) }
-{
-    match answer_from(alloc, source) {
-        Ok(answer) => say(sink, &answer.text, answer.status),
-        Err(Unanswered::SourceFault) => SOURCE_FAULT,
-        Err(Unanswered::NoMemory) => NO_MEMORY,
-    }
-}
-
-/// The answer to the record that a source has left.
-fn record_answer_from<S: Source>(alloc: Global, source: &mut S) -> Result<Answer, Unanswered>
-    ensures told { IfSome (S.left source.old) (λ text. IfOk result (λ a. AnswersRecordText text a.status a.text.items)) }
-    ensures known { IfOk result (λ a. IsRecordStatus a.status) }
-    ensures ended { IfOk result (λ a. a.status ≡ 0 → IsAtEnd (S.left source.new)) }
-    ensures limit { ConsumesBetween 0 (max_record + 1) (S.left source.old) (S.left source.new) }
-    ensures fault { IsErrOf result Unanswered.SourceFault → Rose (S.faults source.old) (S.faults source.new) }
-    ensures quiet { S.never_fails source.old → HasNoFault (S.faults source.old) (S.faults source.new) (IsErrOf result Unanswered.SourceFault) }
-{
-    match read_all(alloc, MAX_RECORD, source) {
-        Ok(text) => match answer_to_record(alloc, &text) {
-            Ok(answer) => Ok(answer),
-            Err(NoMemory) => Err(Unanswered::NoMemory),
-        },
-        Err(ReadStop::TooLong) => match too_long(alloc) {
-            Ok(answer) => Ok(answer),
-            Err(NoMemory) => Err(Unanswered::NoMemory),
-        },
-        Err(ReadStop::Fault) => Err(Unanswered::SourceFault),
-        Err(ReadStop::NoMemory) => Err(Unanswered::NoMemory),
-    }
-}
-
-/// Reads a record, and writes whether its host's own steps are what it says.
-fn retrace<S: Source, K: Sink>(alloc: Global, source: &mut S, sink: &mut K) -> u8
-    ensures told { IfSome (S.left source.old) (λ text. Retraces text result (device (S.left source.old) (S.faults source.old)) (device (S.left source.new) (S.faults source.new))
-        (device (K.written sink.old) (K.faults sink.old)) (device (K.written sink.new) (K.faults sink.new))) }
-    ensures ended { result ≡ 0 → IsAtEnd (S.left source.new) }
-    ensures limit { ConsumesBetween 0 (max_record + 1) (S.left source.old) (S.left source.new) }
-    ensures quiet_source { S.never_fails source.old → HasNoFault (S.faults source.old) (S.faults source.new) (result ≡ 5) }
-    ensures quiet_sink { K.never_fails sink.old → HasNoFault (K.faults sink.old) (K.faults sink.new) (result ≡ 6) }
-    ensures source_fault { result ≡ 5 → Rose (S.faults source.old) (S.faults source.new) }
-    ensures sink_fault { result ≡ 6 → Rose (K.faults sink.old) (K.faults sink.new) }
-{
-    match record_answer_from(alloc, source) {
-        Ok(answer) => say(sink, &answer.text, answer.status),
-        Err(Unanswered::SourceFault) => SOURCE_FAULT,
-        Err(Unanswered::NoMemory) => NO_MEMORY,
-    }
-}
-
-/// Runs drawn events, and writes the line that sums them up.
-fn soak<K: Sink>(alloc: Global, seed: u64, events: u64, sink: &mut K) -> u8
-    requires { events ≤ 100000 }
-    ensures told { Soaks seed events result (device (K.written sink.old) (K.faults sink.old)) (device (K.written sink.new) (K.faults sink.new)) }
-    ensures quiet { K.never_fails sink.old → HasNoFault (K.faults sink.old) (K.faults sink.new) (result ≡ 6) }
-    ensures fault { result ≡ 6 → Rose (K.faults sink.old) (K.faults sink.new) }
-{
-    match answer_soak(alloc, seed, events) {
-        Ok(line) => say(sink, &line.text, line.status),
-        Err(NoMemory) => NO_MEMORY,
-    }
-}
-
-/// The whole program: what the words ask for, over a source and a sink. The answer is the exit status.
+/// The whole program: what the words ask for, over a source, a sink, a link and a spawner. The answer is the exit status.
 ///
 /// With the word `replay` it reads a schedule from the source, runs it, and writes the report to the sink. With `soak`, a seed and a number it
 /// runs so many drawn events, and writes one line. With `retrace` it reads a record, takes the steps of its host again, and writes `same` and how many
-/// they are, or where they first differ.
-pub fn minbft<S: Source, K: Sink>(
+/// they are, or where they first differ. With `node`, a host and a number it reads a config, serves as that host over the link for so many receives, and
+/// writes its record. With `cluster` and a number it reads a config, starts a node for each host, asks them the config's operations over the link,
+/// with so many receives for each, and writes the results.
+pub fn minbft<S: Source, K: Sink, L: Link, P: Spawner>(
     alloc: Global,
     words: &[String],
     source: &mut S,
     sink: &mut K,
+    link: &mut L,
+    spawner: &mut P,
 ) -> u8
     // At status 0 the source was read to its end, its bytes are the text of a schedule, nothing stood in the way of any of its events, and the
     // report after all of them was written.
@@ -195,31 +110,47 @@ pub fn minbft<S: Source, K: Sink>(
     ensures retrace { command_of (map string_bytes words.now) ≡ Some Command.Retrace
         → IfSome (S.left source.old) (λ text. Retraces text result (device (S.left source.old) (S.faults source.old)) (device (S.left source.new) (S.faults source.new))
         (device (K.written sink.old) (K.faults sink.old)) (device (K.written sink.new) (K.faults sink.new))) }
-    ensures retrace_ended { command_of (map string_bytes words.now) ≡ Some Command.Retrace → result ≡ 0 → IsAtEnd (S.left source.new) }
     ensures retrace_complete { command_of (map string_bytes words.now) ≡ Some Command.Retrace
         → IfSome (S.left source.old) (λ text. IsRetraced text result (Rose (S.faults source.old) (S.faults source.new) ⊎ Rose (K.faults sink.old) (K.faults sink.new))) }
     // The other words.
     ensures usage { command_of (map string_bytes words.now) ≡ None → Says 1 usage_text result (device (K.written sink.old) (K.faults sink.old)) (device (K.written sink.new) (K.faults sink.new)) }
-    ensures unbuilt { IfSome (command_of (map string_bytes words.now)) (λ c. is_built c ≡ false
-        → Says 11 unbuilt_text result (device (K.written sink.old) (K.faults sink.old)) (device (K.written sink.new) (K.faults sink.new))) }
+    // With the word `node`, a host and a number: that host of the config's system serves, for at most so many receives. Its events are those of what
+    // was received, none left out; the record has the entry of each; what each sends was sent. It ends by a right STOP, at its last receive, or
+    // where a device fails; or there is no such host, or no config.
+    ensures node { (host n : ℕ) → command_of (map string_bytes words.now) ≡ Some (Command.Node host n)
+        → IfSome (S.left source.old) (λ text. Nodes text host n result (device (S.left source.old) (S.faults source.old)) (device (S.left source.new) (S.faults source.new))
+        (device (K.written sink.old) (K.faults sink.old)) (device (K.written sink.new) (K.faults sink.new))
+        (link_state (L.received link.old) (L.sent link.old) (L.opens link.old) (L.faults link.old)) (link_state (L.received link.new) (L.sent link.new) (L.opens link.new) (L.faults link.new))) }
+    ensures node_complete { (host n : ℕ) → command_of (map string_bytes words.now) ≡ Some (Command.Node host n)
+        → IfSome (S.left source.old) (λ text. IsServed text host result (Rose (S.faults source.old) (S.faults source.new) ⊎ (Rose (K.faults sink.old) (K.faults sink.new) ⊎ Rose (L.faults link.old) (L.faults link.new)))) }
+    // With the word `cluster` and a number: a node of each host is started, and then each operation is asked, with at most so many receives. Each
+    // result that is written rests on the replies of f+1 different hosts.
+    ensures cluster { (n : ℕ) → command_of (map string_bytes words.now) ≡ Some (Command.Cluster n)
+        → IfSome (S.left source.old) (λ text. Clusters text n result
+        (devices (device (S.left source.old) (S.faults source.old)) (device (K.written sink.old) (K.faults sink.old)) (link_state (L.received link.old) (L.sent link.old) (L.opens link.old) (L.faults link.old))
+        (spawner_state (P.starts spawner.old) (P.waits spawner.old) (P.faults spawner.old) (P.bad_ends spawner.old)))
+        (devices (device (S.left source.new) (S.faults source.new)) (device (K.written sink.new) (K.faults sink.new)) (link_state (L.received link.new) (L.sent link.new) (L.opens link.new) (L.faults link.new))
+        (spawner_state (P.starts spawner.new) (P.waits spawner.new) (P.faults spawner.new) (P.bad_ends spawner.new)))) }
+    ensures cluster_complete { (n : ℕ) → command_of (map string_bytes words.now) ≡ Some (Command.Cluster n)
+        → IfSome (S.left source.old) (λ text. IsRun text result (Rose (S.faults source.old) (S.faults source.new) ⊎ (Rose (K.faults sink.old) (K.faults sink.new) ⊎ (Rose (L.faults link.old) (L.faults link.new)
+        ⊎ (Rose (P.faults spawner.old) (P.faults spawner.new) ⊎ Rose (P.bad_ends spawner.old) (P.bad_ends spawner.new)))))) }
+    // At status 0 of a word that reads, the source was read to its end.
+    ensures ended { IfSome (command_of (map string_bytes words.now)) (λ c. reads c ≡ true → result ≡ 0 → IsAtEnd (S.left source.new)) }
+    // Only a node and a cluster use the link, and only a cluster the spawner.
+    ensures idle { IsIdle (command_of (map string_bytes words.now))
+        (devices (device (S.left source.old) (S.faults source.old)) (device (K.written sink.old) (K.faults sink.old)) (link_state (L.received link.old) (L.sent link.old) (L.opens link.old) (L.faults link.old))
+        (spawner_state (P.starts spawner.old) (P.waits spawner.old) (P.faults spawner.old) (P.bad_ends spawner.old)))
+        (devices (device (S.left source.new) (S.faults source.new)) (device (K.written sink.new) (K.faults sink.new)) (link_state (L.received link.new) (L.sent link.new) (L.opens link.new) (L.faults link.new))
+        (spawner_state (P.starts spawner.new) (P.waits spawner.new) (P.faults spawner.new) (P.bad_ends spawner.new))) }
     // At most the bytes of the longest text and one more are taken from the source.
-    ensures limit { ConsumesBetween 0 (text_limit (command_of (map string_bytes words.now)) + 1) (S.left source.old) (S.left source.new) }
+    ensures limit { ConsumesBetween 0 (most_read (command_of (map string_bytes words.now))) (S.left source.old) (S.left source.new) }
     // A device's status comes only where its count of faults rose, and never where the device is known not to fail.
-    ensures quiet_source { S.never_fails source.old → HasNoFault (S.faults source.old) (S.faults source.new) (result ≡ 5) }
-    ensures quiet_sink { K.never_fails sink.old → HasNoFault (K.faults sink.old) (K.faults sink.new) (result ≡ 6) }
-    ensures source_fault { result ≡ 5 → Rose (S.faults source.old) (S.faults source.new) }
-    ensures sink_fault { result ≡ 6 → Rose (K.faults sink.old) (K.faults sink.new) }
+    ensures source_faults { TellsFaults (S.never_fails source.old) (S.never_fails source.new) (S.faults source.old) (S.faults source.new) (result ≡ 5) }
+    ensures sink_faults { TellsFaults (K.never_fails sink.old) (K.never_fails sink.new) (K.faults sink.old) (K.faults sink.new) (result ≡ 6) }
+    ensures link_faults { TellsFaults (L.never_fails link.old) (L.never_fails link.new) (L.faults link.old) (L.faults link.new) (result ≡ 7) }
+    ensures spawner_faults { TellsFaults (P.never_fails spawner.old) (P.never_fails spawner.new) (P.faults spawner.old) (P.faults spawner.new) (result ≡ 8) }
+    // Status 18 comes only where a node that was started ended with another status than 0.
+    ensures bad_ends { TellsBadEnds (P.all_end_well spawner.old) (P.bad_ends spawner.old) (P.bad_ends spawner.new) (result ≡ 18) }
 {
-    match command_in(words) {
-        Some(Command::Replay) => replay(alloc, source, sink),
-        Some(Command::Soak { seed, events }) => soak(alloc, seed, events, sink),
-        Some(Command::Node { .. }) => unbuilt(sink),
-        Some(Command::Retrace) => retrace(alloc, source, sink),
-        Some(Command::Cluster { .. }) => unbuilt(sink),
-        None => say(
-            sink,
-            b"usage: minbft replay | soak SEED N | node ID EVENTS | retrace | cluster TURNS\n",
-            USAGE,
-        ),
-    }
+    run(alloc, command_in(words), source, sink, link, spawner)
 }

@@ -3,7 +3,7 @@ use Rattle.std.proofs.lemmas.Result.{IfOk-weaker}
 use Rattle.mb_sched.specs.declared.schedule.BadText.{BadText}
 use Rattle.mb_sched.specs.Schedules.{IsFault}
 use Rattle.mb_sched.proofs.EventLimits.{schedule_fits}
-use Rattle.mb_top.specs.Texts.{bad_line_text}
+use Rattle.mb_answer.specs.Texts.{bad_line_text}
 use Rattle.mb_top.specs.Answers.{bad_line, right}
 use Rattle.mb_top.proofs.replay.answer_to.Goals as goal
 

@@ -1,5 +1,5 @@
 use Rattle.mb_top.specs.Soaks.{soak_shape}
-use Rattle.mb_top.proofs.OneSchedule.{same_shape}
+use Rattle.mb_answer.proofs.SameShapes.{same_shape}
 use Rattle.mb_top.proofs.soak.soak_shape.Goals as goal
 
 pub returns : goal.returns

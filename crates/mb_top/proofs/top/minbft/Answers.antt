@@ -1,45 +1,77 @@
-use Rattle.std.proofs.Common.{Option, Some, IfSome, sym, ap, subst, ◌∙◌}
+use Rattle.std.proofs.Common.{Option, Some, IfSome, ◌∙◌, subst, sym}
 use Rattle.std.proofs.lemmas.Option.{IfSome_then}
 use Rattle.mb_sched.proofs.EventLimits.{schedule_fits}
-use Rattle.mb_top.specs.declared.command.Command.{Command}
-use Rattle.mb_top.specs.declared.command.Command.TheVariants.{Soak}
-use Rattle.mb_top.specs.Commands.{IsWithin}
 use Rattle.mb_top.proofs.Answered.{reports, reported_is_unstopped, tells_forged, completes}
 use Rattle.mb_top.proofs.Promised.{hold_throughout, hold_before_forged}
-use Rattle.mb_top.proofs.SoakLaws.{same_soak, all_hold}
-use Rattle.mb_top.proofs.RecordLaws.{retrace_completes}
+use Rattle.mb_top.proofs.SoakLaws.{all_hold}
+use Rattle.mb_serving.proofs.RecordLaws.{retrace_completes}
+use Rattle.mb_answer.proofs.ConfigLaws.{cluster_completes}
+use Rattle.mb_serving.proofs.NodeLaws.{node_completes}
+use Rattle.mb_top.proofs.Doing.{reads_all, is_idle, replays, replay_ends, soaks, soaks_few, nodes, retraces, clusters, tells_usage}
 use Rattle.mb_top.proofs.top.minbft.Goals as goal
 
-pub returns-in-Some-Replay-clause-report : goal.returns-in-Some-Replay-clause-report
-returns-in-Some-Replay-clause-report g c = λ replay zero.
-    (c.replay.ensures.ended zero, IfSome_then (g.S.Source.left c.args.source.now) c.replay.ensures.told (λ text r. reports text _ _ _ _ _ r zero))
+pub run-requires : goal.run-requires
+run-requires g c = c.command_in.ensures.within
 
-pub returns-in-Some-Replay-clause-history : goal.returns-in-Some-Replay-clause-history
-returns-in-Some-Replay-clause-history g c = λ replay zero text s left is.
-    let told = rw left at c.replay.ensures.told in
+pub returns-clause-report : goal.returns-clause-report
+returns-clause-report g c = λ asked zero.
+    let is = c.command_in.ensures.command ∙ asked in
+    (replay_ends _ _ _ _ c.run.ensures.does is zero, IfSome_then (g.S.Source.left c.args.source.now) (replays _ _ _ _ c.run.ensures.does is) (λ text r. reports text _ _ _ _ _ r zero))
+
+pub returns-clause-history : goal.returns-clause-history
+returns-clause-history g c = λ asked zero text s left is.
+    let told = rw left at (replays _ _ _ _ c.run.ensures.does (c.command_in.ensures.command ∙ asked)) in
     hold_throughout s (schedule_fits text s is) (reported_is_unstopped text s _ _ is (reports text _ _ _ _ _ told zero))
 
-pub returns-in-Some-Replay-clause-forged : goal.returns-in-Some-Replay-clause-forged
-returns-in-Some-Replay-clause-forged g c = λ replay three. IfSome_then (g.S.Source.left c.args.source.now) c.replay.ensures.told (λ text r. tells_forged text _ _ _ _ _ r three)
+pub returns-clause-forged : goal.returns-clause-forged
+returns-clause-forged g c = λ asked three.
+    IfSome_then (g.S.Source.left c.args.source.now) (replays _ _ _ _ c.run.ensures.does (c.command_in.ensures.command ∙ asked)) (λ text r. tells_forged text _ _ _ _ _ r three)
 
-pub returns-in-Some-Replay-clause-history_before : goal.returns-in-Some-Replay-clause-history_before
-returns-in-Some-Replay-clause-history_before g c = λ replay three text s e left is first. hold_before_forged s (schedule_fits text s is) e first
+pub returns-clause-history_before : goal.returns-clause-history_before
+returns-clause-history_before g c = λ asked three text s e left is first. hold_before_forged s (schedule_fits text s is) e first
 
-pub returns-in-Some-Replay-clause-complete : goal.returns-in-Some-Replay-clause-complete
-returns-in-Some-Replay-clause-complete g c = λ replay. IfSome_then (g.S.Source.left c.args.source.now) c.replay.ensures.told (λ text r. completes text _ _ _ _ _ r)
+pub returns-clause-replay : goal.returns-clause-replay
+returns-clause-replay g c = λ asked. replays _ _ _ _ c.run.ensures.does (c.command_in.ensures.command ∙ asked)
 
-pub soak-requires : goal.soak-requires
-soak-requires g c = (subst IsWithin c.in-Some-Soak.field-0-is c.in-Some-Soak.ensures.within).1
+pub returns-clause-complete : goal.returns-clause-complete
+returns-clause-complete g c = λ asked.
+    IfSome_then (g.S.Source.left c.args.source.now) (replays _ _ _ _ c.run.ensures.does (c.command_in.ensures.command ∙ asked)) (λ text r. completes text _ _ _ _ _ r)
 
-pub returns-in-Some-Soak-clause-soak : goal.returns-in-Some-Soak-clause-soak
-returns-in-Some-Soak-clause-soak g c = λ seed n asked.
-    let same = same_soak c.in-Some-Soak.seed seed c.in-Some-Soak.events n (ap Some (sym c.in-Some-Soak.field-0-is) ∙ (c.in-Some-Soak.ensures.command ∙ asked)) in
-    rw (← same.0, ← same.1) c.soak.ensures.told
+pub returns-clause-soak : goal.returns-clause-soak
+returns-clause-soak g c = λ seed n asked. soaks _ _ _ _ c.run.ensures.does seed n (c.command_in.ensures.command ∙ asked)
 
-pub returns-in-Some-Soak-clause-soak_history : goal.returns-in-Some-Soak-clause-soak_history
-returns-in-Some-Soak-clause-soak_history g c = λ seed n asked zero.
-    let within : IfSome (Some (Soak seed n)) IsWithin = subst (λ (o : Option Command). IfSome o IsWithin) (c.in-Some-Soak.ensures.command ∙ asked) c.in-Some-Soak.ensures.within in
-    all_hold seed n within.1
+pub returns-clause-soak_history : goal.returns-clause-soak_history
+returns-clause-soak_history g c = λ seed n asked zero. all_hold seed n (soaks_few _ _ _ _ c.run.ensures.does seed n (c.command_in.ensures.command ∙ asked))
 
-pub returns-in-Some-Retrace-clause-retrace_complete : goal.returns-in-Some-Retrace-clause-retrace_complete
-returns-in-Some-Retrace-clause-retrace_complete g c = λ asked. IfSome_then (g.S.Source.left c.args.source.now) c.retrace.ensures.told (λ text r. retrace_completes text _ _ _ _ _ r)
+pub returns-clause-retrace : goal.returns-clause-retrace
+returns-clause-retrace g c = λ asked. retraces _ _ _ _ c.run.ensures.does (c.command_in.ensures.command ∙ asked)
+
+pub returns-clause-retrace_complete : goal.returns-clause-retrace_complete
+returns-clause-retrace_complete g c = λ asked.
+    IfSome_then (g.S.Source.left c.args.source.now) (retraces _ _ _ _ c.run.ensures.does (c.command_in.ensures.command ∙ asked)) (λ text r. retrace_completes text _ _ _ _ _ r)
+
+pub returns-clause-node : goal.returns-clause-node
+returns-clause-node g c = λ host n asked. nodes _ _ _ _ c.run.ensures.does host n (c.command_in.ensures.command ∙ asked)
+
+pub returns-clause-node_complete : goal.returns-clause-node_complete
+returns-clause-node_complete g c = λ host n asked.
+    IfSome_then (g.S.Source.left c.args.source.now) (nodes _ _ _ _ c.run.ensures.does host n (c.command_in.ensures.command ∙ asked)) (λ text r. node_completes text host n _ _ _ _ _ _ _ r)
+
+pub returns-clause-cluster : goal.returns-clause-cluster
+returns-clause-cluster g c = λ n asked. clusters _ _ _ _ c.run.ensures.does n (c.command_in.ensures.command ∙ asked)
+
+pub returns-clause-cluster_complete : goal.returns-clause-cluster_complete
+returns-clause-cluster_complete g c = λ n asked.
+    IfSome_then (g.S.Source.left c.args.source.now) (clusters _ _ _ _ c.run.ensures.does n (c.command_in.ensures.command ∙ asked)) (λ text r. cluster_completes text n _ _ _ r)
+
+pub returns-clause-usage : goal.returns-clause-usage
+returns-clause-usage g c = λ asked. tells_usage _ _ _ _ c.run.ensures.does (c.command_in.ensures.command ∙ asked)
+
+pub returns-clause-ended : goal.returns-clause-ended
+returns-clause-ended g c = rw (← c.command_in.ensures.command) (reads_all _ _ _ _ c.run.ensures.does)
+
+pub returns-clause-idle : goal.returns-clause-idle
+returns-clause-idle g c = rw (← c.command_in.ensures.command) (is_idle _ _ _ _ c.run.ensures.does)
+
+pub returns-clause-limit : goal.returns-clause-limit
+returns-clause-limit g c = rw (← c.command_in.ensures.command) c.run.ensures.limit

@@ -1,0 +1,3 @@
+pub mod SameShapes
+pub mod Statuses
+pub mod ConfigLaws

@@ -1,0 +1,81 @@
+-- What a call leaves at the devices, and its status.
+use Rattle.std.specs.Prelude.{◌≡◌, ℕ, ◌<◌, ◌⊎◌, List, Option}
+use Rattle.std.specs.Io.KnownBytes.{Appends}
+use Rattle.mb_base.specs.Shapes.{Bytes}
+use Rattle.mb_edge.specs.declared.reading.ReadStop.{ReadStop}
+use Rattle.mb_edge.specs.declared.reading.ReadStop.TheVariants as stop
+use Rattle.mb_edge.specs.declared.spawner.Start.{Start}
+use Rattle.mb_edge.specs.Faults.{Rose}
+use Rattle.mb_edge.specs.Pieces.{AppendsPart}
+use Rattle.mb_answer.specs.Texts.{too_long_text}
+
+-- a source or a sink at a moment: its bytes, where it tells them, and its count of faults
+pub record Device : Type 0 where
+  pub bytes : Option Bytes
+  pub faults : ℕ
+
+abbrev pub device : Option Bytes → ℕ → Device
+device bytes faults = record { bytes = bytes; faults = faults }
+
+-- a link at a moment: what it tells of its receives, sends and opens, and its count of faults
+pub record LinkState : Type 0 where
+  pub received : Option (List (Option Bytes))
+  pub sent : Option (List (ℕ × Bytes))
+  pub opens : Option (List (ℕ × ℕ))
+  pub faults : ℕ
+
+abbrev pub link_state : Option (List (Option Bytes)) → Option (List (ℕ × Bytes)) → Option (List (ℕ × ℕ)) → ℕ → LinkState
+link_state received sent opens faults = record { received = received; sent = sent; opens = opens; faults = faults }
+
+-- a spawner at a moment: what it tells of its starts and waits, and its counts of faults and of bad ends
+pub record SpawnerState : Type 0 where
+  pub starts : Option (List (ℕ × Start))
+  pub waits : Option (List (ℕ × ℕ))
+  pub faults : ℕ
+  pub bad_ends : ℕ
+
+abbrev pub spawner_state : Option (List (ℕ × Start)) → Option (List (ℕ × ℕ)) → ℕ → ℕ → SpawnerState
+spawner_state starts waits faults bad_ends = record { starts = starts; waits = waits; faults = faults; bad_ends = bad_ends }
+
+-- all four at a moment
+pub record Devices : Type 0 where
+  pub source : Device
+  pub sink : Device
+  pub link : LinkState
+  pub spawner : SpawnerState
+
+abbrev pub devices : Device → Device → LinkState → SpawnerState → Devices
+devices source sink link spawner = record { source = source; sink = sink; link = link; spawner = spawner }
+
+-- ---- texts
+
+-- a text is written with a status, or writing fails and leaves a part of it
+pub data Says (wanted : ℕ) (text : Bytes) (status : ℕ) (old new : Device) : Type 0 where
+  said : status ≡ wanted → Appends old.bytes new.bytes text → Says wanted text status old new
+  failed : status ≡ 6 → Rose old.faults new.faults → AppendsPart text old.bytes new.bytes → Says wanted text status old new
+  cut_short : status ≡ 4 → AppendsPart text old.bytes new.bytes → Says wanted text status old new
+
+-- It is, or memory runs out before.
+pub data SaysOrStarves (wanted : ℕ) (text : Bytes) (status : ℕ) (old new : Device) : Type 0 where
+  says : Says wanted text status old new → SaysOrStarves wanted text status old new
+  lacks : status ≡ 4 → old ≡ new → SaysOrStarves wanted text status old new
+
+-- a text that could not be read
+abbrev pub IsUnread : ReadStop → ℕ → Device → Device → Type 0
+IsUnread stop.TooLong status sink sink' = SaysOrStarves 2 too_long_text status sink sink'
+IsUnread stop.Fault status sink sink' = (status ≡ 5) × (sink ≡ sink')
+IsUnread stop.NoMemory status sink sink' = (status ≡ 4) × (sink ≡ sink')
+
+-- the statuses that a text goes with
+abbrev pub IsToldBy : ℕ → Type 0
+IsToldBy status = (status < 4) ⊎ (status ≡ 10)
+
+-- those of the words that use neither link nor spawner
+abbrev pub IsLow : ℕ → Type 0
+IsLow status = (status < 7) ⊎ (status ≡ 10)
+
+-- A text is answered, or reading it fails, or memory runs out before it is answered. The devices are the source and the sink, before and after.
+pub data Responds (answers : ℕ → Bytes → Type 0) (status : ℕ) (source source' sink sink' : Device) : Type 0 where
+  answered : (wanted : ℕ) (out : Bytes) → answers wanted out → Says wanted out status sink sink' → Responds answers status source source' sink sink'
+  unread : status ≡ 5 → Rose source.faults source'.faults → sink ≡ sink' → Responds answers status source source' sink sink'
+  starved : status ≡ 4 → sink ≡ sink' → Responds answers status source source' sink sink'

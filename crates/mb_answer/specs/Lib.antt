@@ -1,0 +1,5 @@
+pub mod Texts
+pub mod Refusals
+pub mod Devices
+pub mod Configs
+pub mod Clusters

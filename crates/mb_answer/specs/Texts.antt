@@ -1,0 +1,22 @@
+-- What is written with a status.
+use Rattle.std.specs.Prelude.{ℕ, ◌++◌, codes}
+use Rattle.std.specs.Fmt.{decimal}
+use Rattle.mb_base.specs.Shapes.{Bytes}
+
+abbrev pub usage_text : Bytes
+usage_text = codes "usage: minbft replay | soak SEED N | node ID EVENTS | retrace | cluster TURNS\n"
+
+abbrev pub too_long_text : Bytes
+too_long_text = codes "too long\n"
+
+-- a line by its number
+abbrev pub bad_line_text : ℕ → Bytes
+bad_line_text line = codes "bad line " ++ (decimal line ++ codes "\n")
+
+-- an event by its number, and the first forged certificate in what it delivers, by its host and counter
+abbrev pub forged_text : ℕ → ℕ → ℕ → Bytes
+forged_text event host counter = codes "forged event " ++ (decimal event ++ (codes " h" ++ (decimal host ++ (codes " " ++ (decimal counter ++ codes "\n")))))
+
+-- an event by its number
+abbrev pub forged_tag_text : ℕ → Bytes
+forged_tag_text event = codes "forged event " ++ (decimal event ++ codes " tag\n")

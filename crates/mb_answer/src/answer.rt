@@ -1,0 +1,95 @@
+//! The statuses, and the texts that go with them.
+
+ghost use Rattle.std.specs.Prelude.{◌≡◌, IfOk};
+ghost use Rattle.mb_answer.specs.Texts.{too_long_text, bad_line_text, forged_text, forged_tag_text};
+ghost use Rattle.mb_answer.specs.Refusals.{IsRefusal};
+
+use mb_base::{Counter, Host, NoMemory};
+use mb_sched::BadText;
+use std::alloc::Global;
+
+/// All is done, and the answer is written.
+pub const DONE: u8 = 0;
+/// The words are no command.
+pub const USAGE: u8 = 1;
+/// The schedule is too long or has a bad line, or an event cannot be.
+pub const BAD_INPUT: u8 = 2;
+/// An event delivers what is forged.
+pub const FORGED: u8 = 3;
+/// Memory ran out.
+pub const NO_MEMORY: u8 = 4;
+/// The source failed.
+pub const SOURCE_FAULT: u8 = 5;
+/// The sink failed.
+pub const SINK_FAULT: u8 = 6;
+/// The link failed.
+pub const LINK_FAULT: u8 = 7;
+/// The spawner failed.
+pub const SPAWN_FAULT: u8 = 8;
+/// All receives are spent.
+pub const BUDGET: u8 = 9;
+/// An entry of a record isn't that of its host's own step.
+pub const DIFFERS: u8 = 10;
+/// A node ended with another status than 0.
+pub const CHILD_ENDED: u8 = 18;
+
+/// How the program is used.
+pub const USAGE_TEXT: &[u8] =
+    b"usage: minbft replay | soak SEED N | node ID EVENTS | retrace | cluster TURNS\n";
+
+/// A status, and what is written with it.
+#[derive(Drop)]
+pub struct Answer {
+    pub status: u8,
+    pub text: Vec<u8>,
+}
+
+pub fn too_long(alloc: Global) -> Result<Answer, NoMemory>
+    ensures { IfOk result (λ a. (a.status ≡ 2) × (a.text.items ≡ too_long_text)) }
+{
+    Ok(Answer {
+        status: BAD_INPUT,
+        text: Vec::from_slice(alloc, b"too long\n")?,
+    })
+}
+
+pub fn bad_line(alloc: Global, number: u64) -> Result<Answer, NoMemory>
+    ensures { IfOk result (λ a. (a.status ≡ 2) × (a.text.items ≡ bad_line_text number)) }
+{
+    let text = format!(in alloc; "bad line {number}\n")?;
+    Ok(Answer {
+        status: BAD_INPUT,
+        text: text.into_bytes(),
+    })
+}
+
+pub fn forged(alloc: Global, event: u64, host: Host, counter: Counter) -> Result<Answer, NoMemory>
+    ensures { IfOk result (λ a. (a.status ≡ 3) × (a.text.items ≡ forged_text event host counter)) }
+{
+    let text = format!(in alloc; "forged event {event} h{host} {counter}\n")?;
+    Ok(Answer {
+        status: FORGED,
+        text: text.into_bytes(),
+    })
+}
+
+pub fn forged_tag(alloc: Global, event: u64) -> Result<Answer, NoMemory>
+    ensures { IfOk result (λ a. (a.status ≡ 3) × (a.text.items ≡ forged_tag_text event)) }
+{
+    let text = format!(in alloc; "forged event {event} tag\n")?;
+    Ok(Answer {
+        status: FORGED,
+        text: text.into_bytes(),
+    })
+}
+
+/// The answer to a text that says nothing.
+pub fn refusal(alloc: Global, fault: BadText) -> Result<Answer, NoMemory>
+    ensures { IfOk result (λ a. IsRefusal fault a.status a.text.items) }
+{
+    match fault {
+        BadText::TooLong => too_long(alloc),
+        BadText::BadLine { number } => bad_line(alloc, u64::from(number)),
+        BadText::NoMemory => Err(NoMemory),
+    }
+}

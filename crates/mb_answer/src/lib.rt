@@ -1,0 +1,22 @@
+//! Answers: the statuses of the program, the texts that go with them, and writing them; and what is done with the text of a config.
+//!
+//! | Module | What it does | Its definitions |
+//! |---|---|---|
+//! | `answer` | the statuses, and the texts that go with them | `specs/Texts`, `Refusals` |
+//! | `saying` | writes an answer | `specs/Devices` |
+//! | `configs` | reads a config, and runs a client program by it | `specs/Configs`, `Clusters` |
+//! | `ends` | how a run ended, as a status | `specs/Clusters` |
+#![tactic(auto)]
+
+mod answer;
+mod configs;
+mod ends;
+mod saying;
+
+pub use answer::{
+    Answer, BAD_INPUT, BUDGET, CHILD_ENDED, DIFFERS, DONE, FORGED, LINK_FAULT, NO_MEMORY,
+    SINK_FAULT, SOURCE_FAULT, SPAWN_FAULT, USAGE, USAGE_TEXT, bad_line, forged, forged_tag,
+    refusal, too_long,
+};
+pub use configs::{cluster, config_from};
+pub use saying::{respond, say, tell_unread};

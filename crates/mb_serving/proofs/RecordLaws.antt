@@ -1,0 +1,128 @@
+-- What a record's text says keeps the limits of its lines, and a text is that of one record. Where all entries are own, none differs.
+use Rattle.std.proofs.Common.{◌≡◌, ℕ, ◌*◌, ◌≤◌, ◌<◌, ◌&&◌, leb, List, [], ◌∷◌, ◌++◌, map, reverse, codes, Option, Some, None, sym, ap, subst, ◌∙◌, append-nil, append_assoc, arith, ◌⊎◌, inl, inr}
+use Rattle.std.specs.Prelude.{slice_get, option_and_then}
+use Rattle.std.proofs.lemmas.Bool.{leb-true, and_parts}
+use Rattle.std.proofs.lemmas.List.{append_cancel_left, map-append, reverse-append}
+use Rattle.mb_base.specs.Shapes.{Bytes, is_within, max_faults, host_count}
+use Rattle.mb_edge.specs.Faults.{Rose}
+use Rattle.mb_model.specs.Histories.{Identity}
+use Rattle.mb_msg.specs.declared.event.Event.{Event}
+use Rattle.mb_node.specs.Events.{left_by}
+use Rattle.mb_node.specs.Recording.{entry_at, entries_of}
+use Rattle.mb_node.specs.Retracing.{events_in, AreOwn, own_entry, Differs}
+use Rattle.mb_sched.specs.declared.configs.Config.{Config}
+use Rattle.mb_sched.specs.declared.records.Entry.{Entry}
+use Rattle.mb_sched.specs.declared.records.Record.{Record}
+use Rattle.mb_sched.specs.Words.{is_decimal, decimal_value, number_in}
+use Rattle.mb_sched.specs.Lines.{lines}
+use Rattle.mb_sched.specs.TextLines.{word_behind}
+use Rattle.mb_sched.specs.Records.{RecordContents, record_contents, id_line}
+use Rattle.mb_sched.proofs.ReadSteps.{ok_is, allowed}
+use Rattle.mb_sched.proofs.ReadWords.{some_is}
+use Rattle.mb_sched.proofs.RecordSpellings.{record_spelled}
+use Rattle.mb_answer.specs.Devices.{Device, IsToldBy, answered, unread, starved}
+use Rattle.mb_serving.specs.Records.{recorded_host, IsRecordText, IsOwnRecord, IsRetraced, Retraces, AnswersRecord, same, differs, AnswersRecordText, too_long, bad_line, right}
+use Rattle.mb_answer.proofs.ConfigLaws.{same_settings}
+use Rattle.mb_answer.proofs.Statuses.{said_completes}
+
+-- ---- the host of a record
+
+number_most : (high n : ℕ) (word : Bytes) → number_in 0 high word ≡ Some n → n ≤ high
+number_most high n word e =
+    let a = allowed (is_decimal word && is_within 0 high (decimal_value word)) (Some (decimal_value word)) n e in
+    let b = and_parts (is_decimal word) (is_within 0 high (decimal_value word)) a.0 in
+    let c = and_parts (leb 0 (decimal_value word)) (leb (decimal_value word) high) b.1 in
+    subst (λ (m : ℕ). m ≤ high) (some_is (decimal_value word) n a.1) (leb-true _ _ c.1)
+
+word_most : (high n : ℕ) (word : Option Bytes) → option_and_then (number_in 0 high) word ≡ Some n → n ≤ high
+word_most high n None e = absurd cc
+word_most high n (Some word) e = number_most high n word e
+
+line_most : (f n : ℕ) (line : Option Bytes) → option_and_then (id_line f) line ≡ Some n → n ≤ 2 * f
+line_most f n None e = absurd cc
+line_most f n (Some line) e = word_most (2 * f) n (word_behind (codes "id") line) e
+
+pub host_below : (text : Bytes) (r : Record) → IsRecordText text r → r.id < host_count r.config.shape
+host_below text r is =
+    let spelled = record_spelled text (record_contents r) is.1 in
+    let most : r.id ≤ 2 * max_faults r.config.shape = line_most (max_faults r.config.shape) r.id (slice_get (lines text) 6) spelled.id in
+    omega (arith, most)
+
+-- ---- one record
+
+abbrev made_of : Config → ℕ → List Entry → Record
+made_of config id entries = record { config = config; id = id; entries = entries }
+
+same_contents : (r s : Record) → record_contents r ≡ record_contents s → r ≡ s
+same_contents r s e =
+    ap (λ (x : Config). made_of x r.id r.entries) (same_settings r.config s.config (ap (λ (c : RecordContents). c.config) e))
+    ∙ ap (λ (x : ℕ). made_of s.config x r.entries) (ap (λ (c : RecordContents). c.id) e)
+    ∙ ap (λ (x : List Entry). made_of s.config s.id x) (ap (λ (c : RecordContents). c.entries) e)
+
+pub same_record : (text : Bytes) (r s : Record) → IsRecordText text r → IsRecordText text s → r ≡ s
+same_record text r s a b = same_contents r s (ok_is {E = ℕ} (record_contents r) (record_contents s) (sym a.1 ∙ b.1))
+
+-- ---- own entries
+
+heads : {A : Type 0} (x y : A) (xs ys : List A) → x ∷ xs ≡ y ∷ ys → x ≡ y
+heads x y xs ys e = cc
+
+abbrev event_of : Entry → Event
+event_of e = e.event
+
+-- the events of entries in two parts
+events_parted : (before later : List Entry) (entry : Entry) → events_in (before ++ entry ∷ later) ≡ events_in later ++ entry.event ∷ events_in before
+events_parted before later entry =
+    let a = map event_of before in
+    let b = map event_of later in
+    ap reverse (map-append event_of before (entry ∷ later)) ∙ (reverse-append a (entry.event ∷ b)
+    ∙ (ap (λ (l : List Event). l ++ reverse a) (reverse-append (entry.event ∷ []) b) ∙ append_assoc (reverse b) (entry.event ∷ []) (reverse a)))
+
+module _ {S : Type 0} (me : Identity S) where
+  -- The entries of the first events begin those of all.
+  begun : (later before : List Event) → (rest : List Entry) × (entries_of me [] (later ++ before) ≡ entries_of me [] before ++ rest)
+  unfolding entries_of
+  begun [] before = ([], sym (append-nil (entries_of me [] before)))
+  begun (e ∷ later) before =
+      let b = begun later before in
+      let last = entry_at me (left_by me [] (later ++ before)) e ∷ [] in
+      (b.0 ++ last, ap (λ (l : List Entry). l ++ last) b.1 ∙ append_assoc (entries_of me [] before) b.0 last)
+
+  none_differs : (entries : List Entry) (number : ℕ) (recorded found : Bytes) → AreOwn me entries → Differs me entries number recorded found → ⊥
+  unfolding entries_of
+  none_differs entries number recorded found own d =
+      let mine = own_entry me d.before d.entry.event in
+      let parted : events_in entries ≡ events_in d.later ++ d.entry.event ∷ events_in d.before = ap events_in d.place ∙ events_parted d.before d.later d.entry in
+      let b = begun (events_in d.later) (d.entry.event ∷ events_in d.before) in
+      let whole : entries ≡ (entries_of me [] (events_in d.before) ++ mine ∷ []) ++ b.0 = own ∙ (ap (entries_of me []) parted ∙ b.1) in
+      let mended : entries ≡ d.before ++ mine ∷ b.0 = whole ∙ (ap (λ (l : List Entry). (l ++ mine ∷ []) ++ b.0) (sym d.own) ∙ append_assoc d.before (mine ∷ []) b.0) in
+      d.other (heads d.entry mine d.later b.0 (append_cancel_left d.before (d.entry ∷ d.later) (mine ∷ b.0) (sym d.place ∙ mended)))
+
+-- ---- which status has to come
+
+record_completes : (r : Record) (status : ℕ) (out : Bytes) → IsOwnRecord r → AnswersRecord r status out → status ≡ 0
+record_completes r status out own (same also zero text_is) = zero
+record_completes r status out own (differs number recorded found d ten text_is) = absurd (none_differs (recorded_host r) r.entries number recorded found own d)
+
+text_completes : (text : Bytes) (r : Record) (status : ℕ) (out : Bytes) → IsRecordText text r → IsOwnRecord r → AnswersRecordText text status out → status ≡ 0
+text_completes text r status out is own (too_long long two text_is) = let short = is.0 in absurd (omega (arith, long, short))
+text_completes text r status out is own (bad_line n short fault two text_is) = let e = sym fault ∙ is.1 in absurd cc
+text_completes text r status out is own (right s is' answers) = record_completes s status out (subst (λ (x : Record). IsOwnRecord x) (same_record text r s is is') own) answers
+
+pub retrace_completes : (text : Bytes) (status : ℕ) (source source' sink sink' : Device) → Retraces text status source source' sink sink'
+    → IsRetraced text status (Rose source.faults source'.faults ⊎ Rose sink.faults sink'.faults)
+retrace_completes text status source source' sink sink' (answered wanted out a says) r is own none =
+    said_completes wanted out status sink sink' (text_completes text r wanted out is own a) (λ rose. none (inr rose)) says
+retrace_completes text status source source' sink sink' (unread five rose kept) r is own none = absurd (none (inl rose))
+retrace_completes text status source source' sink sink' (starved four kept) r is own none = inr four
+
+-- ---- the statuses
+
+record_told : {r : _} (status : ℕ) (out : Bytes) → AnswersRecord r status out → IsToldBy status
+record_told status out (same own zero text_is) = inl (omega (arith, zero))
+record_told status out (differs number recorded found first ten text_is) = inr ten
+
+pub record_answers_told : (text : Bytes) (status : ℕ) (out : Bytes) → AnswersRecordText text status out → IsToldBy status
+record_answers_told text status out (too_long long two text_is) = inl (omega (arith, two))
+record_answers_told text status out (bad_line n short fault two text_is) = inl (omega (arith, two))
+record_answers_told text status out (right r is answers) = record_told status out answers

@@ -1,0 +1,67 @@
+-- What is answered to the text of a record: whether each of its entries is that of its host's own step, from the start on.
+use Rattle.std.specs.Prelude.{◌≡◌, ℕ, ◌≤◌, ◌<◌, ◌⊎◌, ◌++◌, [], length, codes, Ok, Err}
+use Rattle.std.specs.Fmt.{decimal}
+use Rattle.hex.specs.Hex.{encode_lower}
+use Rattle.mb_base.specs.Shapes.{Bytes}
+use Rattle.mb_kv.specs.Pairs.{Pairs}
+use Rattle.mb_kv.specs.Operations.{after, answer}
+use Rattle.mb_kv.specs.Snapshots.{part_of, restored}
+use Rattle.mb_cache.specs.Represents.{machine_of, snapshots_of}
+use Rattle.mb_model.specs.Histories.{Identity}
+use Rattle.mb_node.specs.Retracing.{AreOwn, Differs}
+use Rattle.mb_sched.specs.declared.configs.Config.{Config}
+use Rattle.mb_sched.specs.declared.records.Record.{Record}
+use Rattle.mb_sched.specs.Records.{max_record, record_of, record_contents}
+use Rattle.mb_answer.specs.Devices.{Device, Responds}
+use Rattle.mb_answer.specs.Texts.{too_long_text, bad_line_text}
+
+-- a host of a config's system, made with the key-value service of no keys
+abbrev pub host_of : Config → ℕ → Identity Pairs
+host_of c host = record { shape = c.shape; host = host; secret = c.secret; machine = machine_of after answer; snapshots = snapshots_of part_of restored; initial = [] }
+
+-- the host of a record
+abbrev pub recorded_host : Record → Identity Pairs
+recorded_host r = host_of r.config r.id
+
+-- a text is that of a record
+abbrev pub IsRecordText : Bytes → Record → Type 0
+IsRecordText text r = (length text ≤ max_record) × (record_of text ≡ Ok (record_contents r))
+
+-- Each entry is that of its host's own step.
+abbrev pub IsOwnRecord : Record → Type 0
+IsOwnRecord r = AreOwn (recorded_host r) r.entries
+
+-- ---- what is written
+
+-- so many events
+abbrev pub same_text : ℕ → Bytes
+same_text events = codes "same " ++ (decimal events ++ codes "\n")
+
+-- an entry by its number, with its digest and that of its host's own step
+abbrev pub differs_text : ℕ → Bytes → Bytes → Bytes
+differs_text number recorded found = codes "differs event " ++ (decimal number ++ (codes " " ++ (encode_lower recorded ++ (codes " " ++ (encode_lower found ++ codes "\n")))))
+
+-- ---- answers
+
+-- what is answered to a record
+pub data AnswersRecord (r : Record) (status : ℕ) (out : Bytes) : Type 0 where
+  same : IsOwnRecord r → status ≡ 0 → out ≡ same_text (length r.entries) → AnswersRecord r status out
+  differs : (number : ℕ) (recorded found : Bytes) → Differs (recorded_host r) r.entries number recorded found → status ≡ 10 → out ≡ differs_text number recorded found
+      → AnswersRecord r status out
+
+pub data AnswersRecordText (text : Bytes) (status : ℕ) (out : Bytes) : Type 0 where
+  too_long : max_record < length text → status ≡ 2 → out ≡ too_long_text → AnswersRecordText text status out
+  bad_line : (n : ℕ) → length text ≤ max_record → record_of text ≡ Err n → status ≡ 2 → out ≡ bad_line_text n → AnswersRecordText text status out
+  right : (r : Record) → IsRecordText text r → AnswersRecord r status out → AnswersRecordText text status out
+
+-- the statuses of these answers
+abbrev pub IsRecordStatus : ℕ → Type 0
+IsRecordStatus status = (status ≡ 0) ⊎ ((status ≡ 2) ⊎ (status ≡ 10))
+
+-- ... it is written, or the text could not be read
+abbrev pub Retraces : Bytes → ℕ → Device → Device → Device → Device → Type 0
+Retraces text status source source' sink sink' = Responds (AnswersRecordText text) status source source' sink sink'
+
+-- The text of a record each of whose entries is that of its host's own step is answered by how many they are, unless memory runs out or a device fails.
+abbrev pub IsRetraced : Bytes → ℕ → Type 0 → Type 0
+IsRetraced text status fault = (r : Record) → IsRecordText text r → IsOwnRecord r → ¬ fault → (status ≡ 0) ⊎ (status ≡ 4)

@@ -1,0 +1,88 @@
+//! The word `retrace`: whether each entry of a record is that of its host's own step.
+
+ghost use Rattle.std.specs.Prelude.{◌≡◌, ◌+◌, ◌<◌, IfOk, IfSome};
+ghost use Rattle.std.specs.Io.KnownBytes.{IsAtEnd};
+ghost use Rattle.mb_base.specs.Shapes.{host_count};
+ghost use Rattle.mb_edge.specs.Faults.{TellsFaults};
+ghost use Rattle.mb_edge.specs.Pieces.{ConsumesBetween};
+ghost use Rattle.mb_sched.specs.Records.{max_record};
+ghost use Rattle.mb_answer.specs.Devices.{device, IsLow};
+ghost use Rattle.mb_serving.specs.Records.{AnswersRecord, AnswersRecordText, Retraces, same_text, differs_text};
+
+use mb_answer::{Answer, DIFFERS, DONE, bad_line, respond, tell_unread, too_long};
+use mb_base::{Digest, NoMemory};
+use mb_edge::{Sink, Source, read_all};
+use mb_kv::Kv;
+use mb_node::RetraceStop;
+use mb_sched::{BadText, MAX_RECORD, Record, parse_record};
+use std::alloc::Global;
+
+/// Each of so many entries is that of the host's own step.
+fn same(alloc: Global, events: u64) -> Result<Answer, NoMemory>
+    ensures { IfOk result (λ a. (a.status ≡ 0) × (a.text.items ≡ same_text events)) }
+{
+    let text = format!(in alloc; "same {events}\n")?;
+    Ok(Answer {
+        status: DONE,
+        text: text.into_bytes(),
+    })
+}
+
+/// The entry of this number is the first that isn't, by its digest and that of the host's own step.
+fn differs(alloc: Global, event: u64, recorded: &Digest, found: &Digest) -> Result<Answer, NoMemory>
+    ensures { IfOk result (λ a. (a.status ≡ 10) × (a.text.items ≡ differs_text event recorded.now found.now)) }
+{
+    let recorded = hex::encode(alloc, recorded.as_slice())?;
+    let found = hex::encode(alloc, found.as_slice())?;
+    let text = format!(in alloc; "differs event {event} {recorded} {found}\n")?;
+    Ok(Answer {
+        status: DIFFERS,
+        text: text.into_bytes(),
+    })
+}
+
+/// The answer to a record.
+fn answer_record(alloc: Global, written: &Record) -> Result<Answer, NoMemory>
+    requires { written.now.id < host_count written.now.config.shape }
+    ensures { IfOk result (λ a. AnswersRecord written.now a.status a.text.items) }
+{
+    match mb_node::retrace(alloc, written, Kv::new(alloc)) {
+        Ok(events) => same(alloc, events),
+        Err(
+            RetraceStop::Differs {
+                event,
+                recorded,
+                found,
+            },
+        ) => differs(alloc, event, &recorded, &found),
+        Err(RetraceStop::NoMemory) => Err(NoMemory),
+    }
+}
+
+/// The answer to the text of a record.
+fn answer_to_record(alloc: Global, text: &[u8]) -> Result<Answer, NoMemory>
+    ensures { IfOk result (λ a. AnswersRecordText text.now a.status a.text.items) }
+{
+    match parse_record(alloc, text) {
+        Ok(record) => answer_record(alloc, &record),
+        Err(BadText::TooLong) => too_long(alloc),
+        Err(BadText::BadLine { number }) => bad_line(alloc, u64::from(number)),
+        Err(BadText::NoMemory) => Err(NoMemory),
+    }
+}
+
+/// Reads a record, and writes whether its host's own steps are what it says.
+pub fn retrace<S: Source, K: Sink>(alloc: Global, source: &mut S, sink: &mut K) -> u8
+    ensures told { IfSome (S.left source.old) (λ text. Retraces text result (device (S.left source.old) (S.faults source.old)) (device (S.left source.new) (S.faults source.new))
+        (device (K.written sink.old) (K.faults sink.old)) (device (K.written sink.new) (K.faults sink.new))) }
+    ensures ended { result ≡ 0 → IsAtEnd (S.left source.new) }
+    ensures limit { ConsumesBetween 0 (max_record + 1) (S.left source.old) (S.left source.new) }
+    ensures low { IsLow result }
+    ensures source { TellsFaults (S.never_fails source.old) (S.never_fails source.new) (S.faults source.old) (S.faults source.new) (result ≡ 5) }
+    ensures sink { TellsFaults (K.never_fails sink.old) (K.never_fails sink.new) (K.faults sink.old) (K.faults sink.new) (result ≡ 6) }
+{
+    match read_all(alloc, MAX_RECORD, source) {
+        Ok(text) => respond(sink, answer_to_record(alloc, &text)),
+        Err(stop) => tell_unread(alloc, sink, stop),
+    }
+}

@@ -1,0 +1,95 @@
+-- What a command does, by its words.
+use Rattle.std.proofs.Common.{◌≡◌, ℕ, ◌+◌, ◌≤◌, true, false, Option, Some, None, IfSome, sym, subst, ◌⊎◌, inl, inr}
+use Rattle.std.specs.Io.KnownBytes.{IsAtEnd}
+use Rattle.std.proofs.lemmas.Option.{IfSome_then}
+use Rattle.mb_base.specs.Shapes.{Bytes}
+use Rattle.mb_top.specs.declared.command.Command.{Command}
+use Rattle.mb_top.specs.declared.command.Command.TheVariants.{Replay, Soak, Node, Retrace, Cluster}
+use Rattle.mb_top.specs.Commands.{reads}
+use Rattle.mb_answer.specs.Clusters.{StayIdle, Clusters}
+use Rattle.mb_answer.specs.Devices.{Device, Devices, Says}
+use Rattle.mb_top.specs.Responses.{Replays, Soaks}
+use Rattle.mb_serving.specs.Records.{Retraces}
+use Rattle.mb_top.specs.Doings.{DoesWith, Does, IsIdle}
+use Rattle.mb_serving.specs.Nodes.{Nodes}
+use Rattle.mb_answer.specs.Texts.{usage_text}
+
+-- At the end of a word that reads, the source was read.
+pub reads_all : (o : Option Command) (status : ℕ) (old new : Devices) → Does o status old new → IfSome o (λ c. reads c ≡ true → status ≡ 0 → IsAtEnd new.source.bytes)
+reads_all None status old new does = tt
+reads_all (Some Replay) status old new does = λ it zero. does.0.ended zero
+reads_all (Some (Soak seed n)) status old new does = λ it zero. absurd cc
+reads_all (Some (Node host n)) status old new does = λ it zero. does.0.ended zero
+reads_all (Some Retrace) status old new does = λ it zero. does.0.ended zero
+reads_all (Some (Cluster n)) status old new does = λ it zero. does.ended zero
+
+pub is_idle : (o : Option Command) (status : ℕ) (old new : Devices) → Does o status old new → IsIdle o old new
+is_idle None status old new does = does.1
+is_idle (Some Replay) status old new does = does.1
+is_idle (Some (Soak seed n)) status old new does = does.1.1
+is_idle (Some (Node host n)) status old new does = does.1
+is_idle (Some Retrace) status old new does = does.1
+is_idle (Some (Cluster n)) status old new does = tt
+
+module _ (o : Option Command) (status : ℕ) (old new : Devices) (does : Does o status old new) where
+  does_as : (p : Option Command) → o ≡ p → Does p status old new
+  does_as p is = subst (λ (q : Option Command). Does q status old new) is does
+
+  pub replays : o ≡ Some Replay → IfSome old.source.bytes (λ text. Replays text status old.source new.source old.sink new.sink)
+  replays is = (does_as (Some Replay) is).0.told
+
+  pub replay_ends : o ≡ Some Replay → status ≡ 0 → IsAtEnd new.source.bytes
+  replay_ends is = (does_as (Some Replay) is).0.ended
+
+  pub soaks : (seed n : ℕ) → o ≡ Some (Soak seed n) → Soaks seed n status old.sink new.sink
+  soaks seed n is = (does_as (Some (Soak seed n)) is).0
+
+  pub soaks_few : (seed n : ℕ) → o ≡ Some (Soak seed n) → n ≤ 100000
+  soaks_few seed n is = (does_as (Some (Soak seed n)) is).1.0
+
+  pub nodes : (host n : ℕ) → o ≡ Some (Node host n) → IfSome old.source.bytes (λ text. Nodes text host n status old.source new.source old.sink new.sink old.link new.link)
+  nodes host n is = (does_as (Some (Node host n)) is).0.told
+
+  pub retraces : o ≡ Some Retrace → IfSome old.source.bytes (λ text. Retraces text status old.source new.source old.sink new.sink)
+  retraces is = (does_as (Some Retrace) is).0.told
+
+  pub clusters : (n : ℕ) → o ≡ Some (Cluster n) → IfSome old.source.bytes (λ text. Clusters text n status old new)
+  clusters n is = (does_as (Some (Cluster n)) is).told
+
+  pub tells_usage : o ≡ None → Says 1 usage_text status old.sink new.sink
+  tells_usage is = (does_as None is).0
+
+-- ---- what each command does, from its pieces
+
+module _ (status : ℕ) (old new : Devices) where
+  -- Link and spawner stayed.
+  stay : old.link ≡ new.link → old.spawner ≡ new.spawner → StayIdle old new
+  stay link spawner = record { link = link; spawner = spawner }
+
+  with_text : (does : Bytes → Type 0) → IfSome old.source.bytes does → (status ≡ 0 → IsAtEnd new.source.bytes) → DoesWith does status old.source new.source
+  with_text does told ended = record { told = told; ended = ended }
+
+  pub does_replay : IfSome old.source.bytes (λ text. Replays text status old.source new.source old.sink new.sink) → (status ≡ 0 → IsAtEnd new.source.bytes) → old.link ≡ new.link → old.spawner ≡ new.spawner
+      → Does (Some Replay) status old new
+  does_replay told ended link spawner = (with_text (λ text. Replays text status old.source new.source old.sink new.sink) told ended, stay link spawner)
+
+  pub does_soak : (seed n : ℕ) → Soaks seed n status old.sink new.sink → n ≤ 100000 → old.link ≡ new.link → old.spawner ≡ new.spawner → Does (Some (Soak seed n)) status old new
+  does_soak seed n told few link spawner = (told, (few, stay link spawner))
+
+  pub does_node : (host n : ℕ) → IfSome old.source.bytes (λ text. Nodes text host n status old.source new.source old.sink new.sink old.link new.link) → (status ≡ 0 → IsAtEnd new.source.bytes) → old.spawner ≡ new.spawner
+      → Does (Some (Node host n)) status old new
+  does_node host n told ended spawner = (with_text (λ text. Nodes text host n status old.source new.source old.sink new.sink old.link new.link) told ended, spawner)
+
+  pub does_retrace : IfSome old.source.bytes (λ text. Retraces text status old.source new.source old.sink new.sink) → (status ≡ 0 → IsAtEnd new.source.bytes) → old.link ≡ new.link → old.spawner ≡ new.spawner
+      → Does (Some Retrace) status old new
+  does_retrace told ended link spawner = (with_text (λ text. Retraces text status old.source new.source old.sink new.sink) told ended, stay link spawner)
+
+  pub does_cluster : (n : ℕ) → IfSome old.source.bytes (λ text. Clusters text n status old new) → (status ≡ 0 → IsAtEnd new.source.bytes) → Does (Some (Cluster n)) status old new
+  does_cluster n told ended = with_text (λ text. Clusters text n status old new) told ended
+
+  pub does_usage : Says 1 usage_text status old.sink new.sink → old.link ≡ new.link → old.spawner ≡ new.spawner → Does None status old new
+  does_usage told link spawner = (told, stay link spawner)
+
+  -- ... by the name under which it was asked
+  pub does_asked : (o p : Option Command) → o ≡ p → Does p status old new → Does o status old new
+  does_asked o p is does = subst (λ (q : Option Command). Does q status old new) (sym is) does

@@ -1,0 +1,44 @@
+-- What each command does at the devices.
+use Rattle.std.specs.Prelude.{◌≡◌, ℕ, ◌+◌, ◌≤◌, Option, Some, None, IfSome}
+use Rattle.std.specs.Io.KnownBytes.{IsAtEnd}
+use Rattle.mb_base.specs.Shapes.{Bytes}
+use Rattle.mb_sched.specs.Schedules.{max_text}
+use Rattle.mb_sched.specs.Configs.{max_config}
+use Rattle.mb_sched.specs.Records.{max_record}
+use Rattle.mb_top.specs.declared.command.Command.{Command}
+use Rattle.mb_top.specs.declared.command.Command.TheVariants.{Replay, Soak, Node, Retrace, Cluster}
+use Rattle.mb_answer.specs.Clusters.{StayIdle, Clusters}
+use Rattle.mb_answer.specs.Devices.{Device, Devices, Says}
+use Rattle.mb_top.specs.Responses.{Replays, Soaks}
+use Rattle.mb_serving.specs.Records.{Retraces}
+use Rattle.mb_serving.specs.Nodes.{Nodes}
+use Rattle.mb_answer.specs.Texts.{usage_text}
+
+-- the most bytes that are taken from the source: those of the longest text and one more
+abbrev pub most_read : Option Command → ℕ
+most_read None = 0
+most_read (Some Replay) = max_text + 1
+most_read (Some (Soak seed n)) = 0
+most_read (Some (Node host n)) = max_config + 1
+most_read (Some Retrace) = max_record + 1
+most_read (Some (Cluster n)) = max_config + 1
+
+-- This is done with the text that the source tells. At status 0 the source was read to its end.
+pub record DoesWith (does : Bytes → Type 0) (status : ℕ) (old new : Device) : Type 0 where
+  pub told : IfSome old.bytes does
+  pub ended : status ≡ 0 → IsAtEnd new.bytes
+
+-- what the words of a command do, or words that are none
+abbrev pub Does : Option Command → ℕ → Devices → Devices → Type 0
+Does None status old new = Says 1 usage_text status old.sink new.sink × StayIdle old new
+Does (Some Replay) status old new = DoesWith (λ text. Replays text status old.source new.source old.sink new.sink) status old.source new.source × StayIdle old new
+Does (Some (Soak seed n)) status old new = Soaks seed n status old.sink new.sink × ((n ≤ 100000) × StayIdle old new)
+Does (Some (Node host n)) status old new = DoesWith (λ text. Nodes text host n status old.source new.source old.sink new.sink old.link new.link) status old.source new.source × (old.spawner ≡ new.spawner)
+Does (Some Retrace) status old new = DoesWith (λ text. Retraces text status old.source new.source old.sink new.sink) status old.source new.source × StayIdle old new
+Does (Some (Cluster n)) status old new = DoesWith (λ text. Clusters text n status old new) status old.source new.source
+
+-- Only a node and a cluster use the link, and only a cluster the spawner.
+abbrev pub IsIdle : Option Command → Devices → Devices → Type 0
+IsIdle (Some (Cluster n)) old new = Unit {0}
+IsIdle (Some (Node host n)) old new = old.spawner ≡ new.spawner
+IsIdle _ old new = StayIdle old new
