@@ -1,0 +1,103 @@
+//! Rows: runs of the whole program with their answers.
+//!
+//! The file `rows.txt` in the current folder has a row on each line: `STATUS INPUT OUTPUT OUTSIDE WORDS..`. The program is run with these words
+//! over the bytes of the file INPUT. It has to end with STATUS and to write the bytes of the file OUTPUT. The file OUTSIDE says what the outside
+//! does in the run, and what has to come of it: `outside.rt` lists its lines. A `-` stands for no file. A line `beginnings INPUT` is a row for
+//! each beginning of a schedule. Lines that begin with `#` say what the rows below them show.
+//!
+//! No answer was taken from this program. Reports, and what nodes and clients send, are another program's, which was written from the same rules.
+//!
+//! A line is printed for each row: that all was as expected, or what was not.
+#![tactic(auto)]
+
+mod beginnings;
+mod devices;
+mod files;
+mod outside;
+mod row;
+mod stop;
+mod trial;
+
+use beginnings::wrong_beginning;
+use row::{Line, Row, line_of};
+use std::alloc::Global;
+use std::io;
+use std::process::ExitCode;
+use stop::Stop;
+use trial::difference;
+
+/// The file of the rows.
+const ROWS: &str = "rows.txt";
+
+/// The status where a row is not as expected, or the rows cannot be run.
+const FAILED: u8 = 1;
+
+/// What is said of a row that is as it has to be.
+fn as_expected(alloc: Global) -> Result<String, Stop> {
+    Ok(String::from_str(alloc, "as expected")?)
+}
+
+/// Runs a row, and prints how it went.
+fn run_row(rt: &HostRuntime, row: &Row) -> Result<bool, Stop> {
+    let differs = difference(rt, row)?;
+    let holds = differs.is_none();
+    let said = match differs {
+        Some(differs) => differs,
+        None => as_expected(rt.alloc())?,
+    };
+    println!(rt; "{}: {said}", row.name)?;
+    Ok(holds)
+}
+
+/// Runs the beginnings of a schedule, and prints how it went.
+fn run_beginnings(rt: &HostRuntime, input: &str) -> Result<bool, Stop> {
+    let wrong = wrong_beginning(rt, input)?;
+    match wrong {
+        Some(count) => println!(rt; "{input} beginnings: the one of {count} bytes differs")?,
+        None => println!(rt; "{input} beginnings: as expected")?,
+    }
+    Ok(wrong.is_none())
+}
+
+/// Runs what a line says. A remark always holds.
+fn run_line(rt: &HostRuntime, line: &Line) -> Result<bool, Stop> {
+    match line {
+        Line::Remark => Ok(true),
+        Line::Row(row) => run_row(rt, row),
+        Line::Beginnings(input) => run_beginnings(rt, input.as_str()),
+    }
+}
+
+/// Runs all rows, and answers whether all were as expected.
+fn run_rows(rt: &HostRuntime) -> Result<bool, Stop> {
+    let text = files::text_of(rt, ROWS)?;
+    let mut all_hold = true;
+    for line in text.as_str().lines() {
+        let Some(parsed) = line_of(rt.alloc(), line)? else {
+            println!(rt; "no row: {line}")?;
+            return Ok(false);
+        };
+        all_hold = run_line(rt, &parsed)? && all_hold;
+    }
+    Ok(all_hold)
+}
+
+/// Prints why the rows cannot be run.
+fn tell(rt: &HostRuntime, stop: Stop) -> io::Result<()> {
+    match stop {
+        Stop::NoMemory => println!(rt; "memory ran out"),
+        Stop::Unread(name) => println!(rt; "{name} cannot be read"),
+        Stop::Unprinted(error) => Err(error),
+    }
+}
+
+fn main(rt: HostRuntime) -> io::Result<ExitCode> {
+    match run_rows(&rt) {
+        Ok(true) => Ok(ExitCode::SUCCESS),
+        Ok(false) => Ok(ExitCode::from(FAILED)),
+        Err(stop) => {
+            tell(&rt, stop)?;
+            Ok(ExitCode::from(FAILED))
+        }
+    }
+}
