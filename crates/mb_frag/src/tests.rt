@@ -94,6 +94,24 @@ fn a_message_of_another_number_or_count_is_dropped(rt: HostRuntime) -> Result<()
     Ok(())
 }
 
+#[test]
+fn a_first_piece_that_comes_again_begins_anew(rt: HostRuntime) -> Result<(), Fail> {
+    let mut reassembler = Reassembler::make(rt.alloc())?;
+    let first = datagram(&rt, 0, 128, PIECE)?;
+    for _ in 0..1_000 {
+        assert_eq!(rt;
+            reassembler.push(first.as_slice()),
+            Pushed::NotYet { next: 1 }
+        );
+    }
+    let third = datagram(&rt, 2, 128, PIECE)?;
+    assert_eq!(rt;
+        reassembler.push(third.as_slice()),
+        Pushed::Dropped { expected: 1 }
+    );
+    Ok(())
+}
+
 /// The rows: index, count, how many bytes are behind the header, where the datagram is cut off, and the offset of the fault.
 #[test]
 fn a_bad_piece_is_told_by_its_offset(rt: HostRuntime) -> Result<(), Fail> {
