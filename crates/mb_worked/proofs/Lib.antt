@@ -14,3 +14,9 @@ mod ComingBack
 mod ChangingView
 pub mod Worlds
 mod FaultyWorlds
+mod FloorsThatDiffer
+mod ForgedTags
+mod Corners
+mod LimitsOfHosts
+mod BadWorlds
+mod InsideOfMessages
