@@ -13,7 +13,7 @@ use Rattle.mb_msg.specs.declared.normal.Reply.{Reply}
 use Rattle.mb_model.specs.Clients.{Asker, taken, takes, is_right, is_awaited, completes, agrees, agreeing, counted}
 use Rattle.mb_model.proofs.Members.{In, in_contained, all_in, any_in}
 use Rattle.mb_model.proofs.PlanLaws.{one_more}
-use Rattle.mb_model.proofs.StepRounds.{tally_more}
+use Rattle.mb_steps.proofs.StepRounds.{tally_more}
 use Rattle.mb_client.specs.Replies.{has_host, AreOfDifferentHosts}
 use Rattle.mb_client.specs.Accepted.{ClientEvent, Asked, Given, replies_in, asker_after, tells_same, host_told, AcceptedHaveQuorum}
 

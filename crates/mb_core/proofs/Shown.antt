@@ -15,7 +15,7 @@ use Rattle.mb_model.specs.GateChecks.{valid}
 use Rattle.mb_model.specs.PlainChecks.{log_refusal, is_certified_floor}
 use Rattle.mb_model.specs.Sending.{Progress, write}
 use Rattle.mb_model.specs.Stable.{stable_of, low_of}
-use Rattle.mb_model.proofs.StepPassed.{passes_log}
+use Rattle.mb_steps.proofs.StepPassed.{passes_log}
 use Rattle.mb_change.specs.Written.{with_shown}
 use Rattle.mb_gate.specs.declared.gate.Gate.{Gate}
 use Rattle.mb_searches.proofs.Certified.{stable_in_log}

@@ -14,7 +14,7 @@ use Rattle.mb_model.specs.HostStep.{on_patience, wish_onward}
 use Rattle.mb_model.specs.Sending.{Progress, write}
 use Rattle.mb_model.specs.PlainChecks.{wish_refusal}
 use Rattle.mb_model.proofs.ShapesFit.{shape_fits}
-use Rattle.mb_model.proofs.StepPassed.{passes_wish}
+use Rattle.mb_steps.proofs.StepPassed.{passes_wish}
 use Rattle.mb_change.specs.Searches.{with_wish}
 use Rattle.mb_change.specs.Represents.{StandsWith}
 use Rattle.mb_fitting.proofs.Answers.{patience_sent}

@@ -6,7 +6,7 @@ use Rattle.mb_parts.specs.declared.batch.Batch.{Batch}
 use Rattle.mb_msg.specs.declared.event.Placed.{Placed}
 use Rattle.mb_model.specs.Histories.{Identity}
 use Rattle.mb_model.specs.Sending.{Progress}
-use Rattle.mb_model.proofs.StepArises.{JustExecuted}
+use Rattle.mb_steps.proofs.StepArises.{JustExecuted}
 use Rattle.mb_searches.proofs.SoundRules.{IsServing}
 use Rattle.mb_fetch.specs.Snapshots.{Snapshot, StandsWith}
 use Rattle.mb_core.specs.declared.replica.Replica.{Replica}

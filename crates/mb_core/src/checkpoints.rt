@@ -20,7 +20,7 @@ impl<V: Service + Drop> Replica<V> {
     ghost use Rattle.mb_model.specs.States.{state_digest};
     ghost use Rattle.mb_model.specs.OwnLog.{has_room};
     ghost use Rattle.mb_model.specs.Sending.{Progress, stamp};
-    ghost use Rattle.mb_model.proofs.StepArises.{JustExecuted};
+    ghost use Rattle.mb_steps.proofs.StepArises.{JustExecuted};
     ghost use Rattle.mb_core.specs.Represents.{Represents, StandsAt};
 
     pub(crate) fn checkpoint_refusal(&self, pos: Pos) -> Option<Outcome>

@@ -39,7 +39,7 @@ impl<V: Service + Drop> Replica<V> {
     ghost use Rattle.mb_msg.specs.AsStamped.{stamped_digest};
     ghost use Rattle.mb_log.specs.Logs.{has_room_for, appended};
     ghost use Rattle.mb_model.specs.Sending.{signed, to_all};
-    ghost use Rattle.mb_model.proofs.StepArises.{Adds};
+    ghost use Rattle.mb_steps.proofs.StepArises.{Adds};
     ghost use Rattle.mb_searches.specs.Sound.{IsSound};
     ghost use Rattle.mb_standing.specs.Stands.{GatesStand};
     ghost use Rattle.mb_core.specs.Represents.{IsHost, as_sent, Represents};

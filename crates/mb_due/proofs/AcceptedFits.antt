@@ -20,7 +20,7 @@ use Rattle.mb_model.specs.HostStep.{transition}
 use Rattle.mb_model.specs.EnabledRules.{greatest_in_slots, window, unordered_of, unordered}
 use Rattle.mb_model.proofs.ShapesFit.{shape_fits}
 use Rattle.mb_model.proofs.Options.{if_some}
-use Rattle.mb_model.proofs.StepPlanBases.{all_found}
+use Rattle.mb_steps.proofs.StepPlanBases.{all_found}
 use Rattle.mb_theory.specs.World.{System, self_of}
 use Rattle.mb_theory.specs.WorldSteps.{world}
 use Rattle.mb_theory.proofs.KeptByWorlds.{world_keeps}

@@ -33,10 +33,10 @@ use Rattle.mb_model.specs.Given.{closing, offer_prepare, named_prepare, casts_vo
 use Rattle.mb_model.specs.HostStep.{is_taken, rules_follow, asks_on, low_rose, with_fetch, transition}
 use Rattle.mb_model.proofs.Options.{option_cases}
 use Rattle.mb_model.proofs.ShapesFit.{shape_fits}
-use Rattle.mb_model.proofs.StepArises.{ArisesWhole}
-use Rattle.mb_model.proofs.StepGivenArise.{give_arises}
-use Rattle.mb_model.proofs.StepEventsArise.{transition_arises}
-use Rattle.mb_model.proofs.StepQuiescent.{begins_quiescent, stays_quiescent}
+use Rattle.mb_steps.proofs.StepArises.{ArisesWhole}
+use Rattle.mb_steps.proofs.StepGivenArise.{give_arises}
+use Rattle.mb_steps.proofs.StepEventsArise.{transition_arises}
+use Rattle.mb_steps.proofs.StepQuiescent.{begins_quiescent, stays_quiescent}
 use Rattle.mb_theory.specs.World.{System, self_of}
 use Rattle.mb_theory.specs.WorldSteps.{world}
 use Rattle.mb_theory.specs.NothingLeft.{has_vote, slot_of, IsNext, Lacks, Executes, ExecutesWithCommit, ExecutesWithPrepare}

@@ -19,10 +19,10 @@ use Rattle.mb_model.specs.EnabledRules.{Rule, rule_where, with_batch, next_posit
 use Rattle.mb_model.specs.EnabledRules as rule
 use Rattle.mb_model.specs.CarriedOut.{execute, serve_all, carry_out, run_rules}
 use Rattle.mb_model.proofs.Options.{option_cases, or_some, or_none, if_some, map_some}
-use Rattle.mb_model.proofs.StepArises.{Arises, Arisen, Executes}
-use Rattle.mb_model.proofs.StepRulesArise.{run_arises}
-use Rattle.mb_model.proofs.StepPotential.{served_keeps, execution_leaves}
-use Rattle.mb_model.proofs.StepUnchanged.{served_enabled}
+use Rattle.mb_steps.proofs.StepArises.{Arises, Arisen, Executes}
+use Rattle.mb_steps.proofs.StepRulesArise.{run_arises}
+use Rattle.mb_steps.proofs.StepPotential.{served_keeps, execution_leaves}
+use Rattle.mb_steps.proofs.StepUnchanged.{served_enabled}
 use Rattle.mb_theory.specs.NothingLeft.{IsInWindow, has_vote}
 use Rattle.mb_theory.proofs.Words.{window_is}
 use Rattle.mb_theory.proofs.KeptByEvents.{execution_keeps}

@@ -18,7 +18,7 @@ use Rattle.mb_model.specs.OwnLog.{is_normal, own_log, has_other_room, is_unspent
 use Rattle.mb_model.specs.Positions.{exec_of}
 use Rattle.mb_model.specs.Sending.{signed}
 use Rattle.mb_model.specs.EnabledRules.{Rule, ChangeView, Join, rule_where, target, change_enabled, join_enabled, has_evidence, lags_behind, is_past_plan}
-use Rattle.mb_model.proofs.StepPotential.{quorum_same, max_none, log_with}
+use Rattle.mb_steps.proofs.StepPotential.{quorum_same, max_none, log_with}
 
 -- a rule that is not enabled, by its test
 test_off : (t : Bool) (r : Rule) → rule_where t (Some r) ≡ None → t ≡ false

@@ -12,7 +12,7 @@ use Rattle.mb_parts.specs.declared.request.Request.{Request}
 use Rattle.mb_parts.specs.Fits.{IsCounter, IsPlace, FitsText, FitsRequest}
 use Rattle.mb_msg.specs.Fits.{Fits}
 use Rattle.mb_model.specs.States.{service_parts, table_bytes, parts_of}
-use Rattle.mb_model.proofs.StepPlanBases.{all_append}
+use Rattle.mb_steps.proofs.StepPlanBases.{all_append}
 use Rattle.mb_model.specs.declared.known.LastReply.{LastReply}
 use Rattle.mb_model.specs.Service.{Served as ServedState, reply_of, is_fresh, served}
 use Rattle.mb_model.specs.Given.{stored_reply}

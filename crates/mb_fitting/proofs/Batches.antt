@@ -29,8 +29,8 @@ use Rattle.mb_model.specs.Execution.{state_of, pending, if_fresh}
 use Rattle.mb_model.specs.EnabledRules.{greatest_in_slots, window, unordered_of, unordered}
 use Rattle.mb_model.specs.Positions.{batch_from, slot_of_plan, slot_of_prepare, slot_of_open, slot_by, slot_in}
 use Rattle.mb_model.proofs.Options.{if_some, map_some}
-use Rattle.mb_model.proofs.StepOwnSteady.{found_slot}
-use Rattle.mb_model.proofs.StepPlanBases.{all_found, all_any}
+use Rattle.mb_steps.proofs.StepOwnSteady.{found_slot}
+use Rattle.mb_steps.proofs.StepPlanBases.{all_found, all_any}
 use Rattle.mb_known.proofs.Cases.{some_is, then_some_of, whole_is}
 use Rattle.mb_known.proofs.Found.{above_is}
 use Rattle.mb_known.proofs.Rests.{Each}

@@ -26,7 +26,7 @@ use Rattle.mb_model.specs.Histories.{Entry, Accepted, Stamped, History, Identity
 use Rattle.mb_model.specs.Plans.{ShownLog, ShownVote, newest, vote_with, plan_vote, vote_since}
 use Rattle.mb_model.specs.UsableLogs.{is_whole}
 use Rattle.mb_model.proofs.Options.{or_some, if_some, map_some}
-use Rattle.mb_model.proofs.StepPlanBases.{all_append, all_filter, all_found}
+use Rattle.mb_steps.proofs.StepPlanBases.{all_append, all_filter, all_found}
 use Rattle.mb_known.proofs.Cases.{some_is, whole_is}
 use Rattle.mb_known.proofs.Found.{all_newest}
 use Rattle.mb_known.proofs.Rests.{Each}

@@ -12,7 +12,7 @@ use Rattle.mb_model.specs.Histories.{History, Identity}
 use Rattle.mb_model.specs.Held.{change_in, arrived, changes_of, by_rising_host, chosen}
 use Rattle.mb_model.proofs.Options.{if_some}
 use Rattle.mb_model.proofs.RisingLists.{RiseFrom, rise_found}
-use Rattle.mb_model.proofs.StepPlanBases.{all_filter}
+use Rattle.mb_steps.proofs.StepPlanBases.{all_filter}
 use Rattle.mb_known.proofs.Cases.{all_taken, or_false, some_is}
 
 -- ---- VIEW_CHANGEs of different hosts, by rising host, are as many

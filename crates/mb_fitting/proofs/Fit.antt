@@ -21,8 +21,8 @@ use Rattle.mb_model.specs.OwnLog.{has_room}
 use Rattle.mb_model.specs.Sending.{Progress, signed}
 use Rattle.mb_model.proofs.ShapesFit.{shape_fits}
 use Rattle.mb_model.proofs.Options.{option_cases}
-use Rattle.mb_model.proofs.StepArises.{JustExecuted, Makes, IsWhole, Adds, Arises}
-use Rattle.mb_model.proofs.StepGivenArise.{give_arises}
+use Rattle.mb_steps.proofs.StepArises.{JustExecuted, Makes, IsWhole, Adds, Arises}
+use Rattle.mb_steps.proofs.StepGivenArise.{give_arises}
 use Rattle.mb_theory.proofs.KeptByEvents.{event_keeps}
 use Rattle.mb_theory.proofs.RoomForRules.{HasRoomFor, room_for}
 use Rattle.mb_known.proofs.Cases.{some_is}

@@ -23,7 +23,7 @@ use Rattle.mb_model.specs.Histories as entry
 use Rattle.mb_model.specs.Execution.{part_in, if_restored, state_from, state_of, part_of, part_held, missing, parts_held}
 use Rattle.mb_model.specs.Stable.{low_of}
 use Rattle.mb_model.proofs.Options.{or_some, if_some}
-use Rattle.mb_model.proofs.StepPlanBases.{all_found, all_any}
+use Rattle.mb_steps.proofs.StepPlanBases.{all_found, all_any}
 use Rattle.mb_known.proofs.Cases.{all_taken}
 use Rattle.mb_known.proofs.Rests.{Each}
 use Rattle.mb_known.proofs.Yields.{IsYield, bytes_yield, checked_yield, repeat_yield}

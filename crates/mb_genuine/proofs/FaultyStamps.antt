@@ -32,8 +32,8 @@ use Rattle.mb_msg.proofs.Injective.{bare_fits}
 use Rattle.mb_msg.proofs.Messages.{as_message_fits}
 use Rattle.mb_model.specs.Batches.{batch_bytes_limit, has_place}
 use Rattle.mb_model.proofs.Members.{In}
-use Rattle.mb_model.proofs.StepPlanBases.{all_append}
-use Rattle.mb_model.proofs.StepRounds.{ui_under, bare_under}
+use Rattle.mb_steps.proofs.StepPlanBases.{all_append}
+use Rattle.mb_steps.proofs.StepRounds.{ui_under, bare_under}
 use Rattle.mb_sched.specs.declared.schedule.Schedule.{Schedule}
 use Rattle.mb_sched.specs.Limits.{is_faulty}
 use Rattle.mb_theory.specs.Inside.{sender_claim, claims_in_stamped, stamped_claims, stamped_requests, requests_in}

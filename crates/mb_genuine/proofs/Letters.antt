@@ -17,7 +17,7 @@ use Rattle.mb_model.specs.CarriedOut.{placed_in, with_reply, serve, serve_all, s
 use Rattle.mb_model.specs.Given.{stored_reply}
 use Rattle.mb_model.specs.HostStep.{transition}
 use Rattle.mb_model.proofs.Members.{In}
-use Rattle.mb_model.proofs.StepPlanBases.{all_append}
+use Rattle.mb_steps.proofs.StepPlanBases.{all_append}
 use Rattle.mb_known.proofs.Cases.{all_more}
 use Rattle.mb_genuine.proofs.Walks.{is_plain, IsWalked, walked}
 

@@ -14,15 +14,15 @@ use Rattle.mb_model.specs.declared.known.Vote.{Vote}
 use Rattle.mb_model.specs.Votes.{is_vote}
 use Rattle.mb_model.specs.Committed.{vote_by, vote_in}
 use Rattle.mb_model.specs.Histories.{Accepted, Executed, History, Identity, origin, taken_of, gate, said, view_of, is_open, here, stamped as all_stamped}
-use Rattle.mb_model.specs.OwnLists.{AreNumbered}
+use Rattle.mb_steps.specs.OwnLists.{AreNumbered}
 use Rattle.mb_model.specs.Positions.{in_window, slot_in, slot_vote, vote_of, matching, vote_at}
 use Rattle.mb_model.proofs.Members.{in_contained}
 use Rattle.mb_model.proofs.Options.{if_some}
-use Rattle.mb_model.proofs.StepArises.{Arises}
-use Rattle.mb_model.proofs.Stays.{is_vote_is}
-use Rattle.mb_model.proofs.StepOwnFloor.{open_from}
-use Rattle.mb_model.proofs.StepOwnList.{stands_here}
-use Rattle.mb_model.proofs.StepOwnStamped.{steady}
+use Rattle.mb_steps.proofs.StepArises.{Arises}
+use Rattle.mb_agreement.proofs.Stays.{is_vote_is}
+use Rattle.mb_steps.proofs.StepOwnFloor.{open_from}
+use Rattle.mb_steps.proofs.StepOwnList.{stands_here}
+use Rattle.mb_steps.proofs.StepOwnStamped.{steady}
 use Rattle.mb_theory.specs.WorldEvents.{IsCorrect}
 use Rattle.mb_theory.specs.World.{World, System, self_of}
 use Rattle.mb_theory.specs.WorldRecord.{issued, plans, prefix, IsConsistent}

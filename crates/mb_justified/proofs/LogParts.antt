@@ -26,7 +26,7 @@ use Rattle.mb_model.specs.GateChecks.{valid}
 use Rattle.mb_model.specs.Stable.{log_floor, floor_counter}
 use Rattle.mb_model.specs.OwnLog.{own_log, log_start}
 use Rattle.mb_model.proofs.Options.{if_some}
-use Rattle.mb_model.proofs.StepPotential.{start_bounded}
+use Rattle.mb_steps.proofs.StepPotential.{start_bounded}
 use Rattle.mb_theory.specs.WorldEvents.{IsCorrect}
 use Rattle.mb_theory.specs.World.{World, System, self_of}
 use Rattle.mb_theory.specs.WorldRecord.{issued}

@@ -21,8 +21,8 @@ use Rattle.mb_model.specs.Making.{checkpoint, present_parts, floors_under}
 use Rattle.mb_model.specs.States.{state_digest}
 use Rattle.mb_msg.specs.declared.message.Body.TheVariants.{Whole}
 use Rattle.mb_model.proofs.Options.{or_some, if_some}
-use Rattle.mb_model.proofs.StepArises.{Adds, JustExecuted}
-use Rattle.mb_model.proofs.StepHeldEvidence.{some_is, then_some_of}
+use Rattle.mb_steps.proofs.StepArises.{Adds, JustExecuted}
+use Rattle.mb_steps.proofs.StepHeldEvidence.{some_is, then_some_of}
 use Rattle.mb_theory.specs.WorldEvents.{IsCorrect}
 use Rattle.mb_theory.specs.World.{World, System, self_of}
 use Rattle.mb_known.proofs.Cases.{some_or}

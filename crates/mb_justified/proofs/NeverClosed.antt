@@ -20,8 +20,8 @@ use Rattle.mb_msg.specs.Stamps.{ui_of, bare_of, as_message}
 use Rattle.mb_model.specs.Verified.{verifies}
 use Rattle.mb_model.specs.Histories.{Closed, History, origin, taken_of, gate, closed_at, said, stamped as all_stamped}
 use Rattle.mb_model.specs.GateChecks.{stamp_claim}
-use Rattle.mb_model.specs.OwnLists.{AreNumbered}
-use Rattle.mb_model.proofs.StepOwnStamped.{steady}
+use Rattle.mb_steps.specs.OwnLists.{AreNumbered}
+use Rattle.mb_steps.proofs.StepOwnStamped.{steady}
 use Rattle.mb_theory.specs.WorldEvents.{IsCorrect}
 use Rattle.mb_theory.specs.World.{World, System, self_of}
 use Rattle.mb_theory.specs.WorldRecord.{issued}

@@ -30,16 +30,16 @@ use Rattle.mb_model.specs.Histories.{Stamped, History, Identity, said, view_of, 
 use Rattle.mb_model.specs.GateChecks.{valid}
 use Rattle.mb_model.specs.Stable.{low_of, log_floor}
 use Rattle.mb_model.specs.OwnLog.{is_normal, kept_forms, as_shown, own_log, log_start, log_kept, proof_of, has_other_room}
-use Rattle.mb_model.specs.OwnLists.{AreNumbered}
+use Rattle.mb_steps.specs.OwnLists.{AreNumbered}
 use Rattle.mb_model.specs.Sending.{next_ui}
 use Rattle.mb_model.specs.Making.{view_change}
 use Rattle.mb_model.specs.EnabledRules.{ChangeView, change_enabled, target}
 use Rattle.mb_model.proofs.Members.{In, in_contained}
 use Rattle.mb_model.proofs.Options.{if_some}
-use Rattle.mb_model.proofs.StepHeldStable.{stable_checks}
-use Rattle.mb_model.proofs.StepOwnList.{stands_here}
-use Rattle.mb_model.proofs.StepOwnStamped.{steady}
-use Rattle.mb_model.proofs.StepPotential.{not_above}
+use Rattle.mb_steps.proofs.StepHeldStable.{stable_checks}
+use Rattle.mb_steps.proofs.StepOwnList.{stands_here}
+use Rattle.mb_steps.proofs.StepOwnStamped.{steady}
+use Rattle.mb_steps.proofs.StepPotential.{not_above}
 use Rattle.mb_theory.proofs.LogLimits.{InLimits}
 use Rattle.mb_theory.specs.WorldEvents.{IsCorrect}
 use Rattle.mb_theory.specs.World.{World, System, self_of}

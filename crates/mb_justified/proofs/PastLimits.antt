@@ -12,7 +12,7 @@ use Rattle.mb_model.specs.UsableLogs.{normal_limit, other_limit}
 use Rattle.mb_model.specs.Histories.{Entry, Accepted, Stamped, Jumped, Closed, Served, Executed, Installed, DroppedParts, LostPatience, Nudged, History, Identity, stamped as all_stamped, counter_of}
 use Rattle.mb_model.specs.Stable.{low_of, log_floor, floor_counter, floor_from, cut_by, is_kept, checkpoint_in}
 use Rattle.mb_model.specs.OwnLog.{own_log, log_start, is_normal, is_unspent, has_room, has_other_room}
-use Rattle.mb_model.proofs.StepPotential.{start_bounded}
+use Rattle.mb_steps.proofs.StepPotential.{start_bounded}
 use Rattle.mb_theory.specs.World.{System, self_of}
 use Rattle.mb_theory.specs.WorldSteps.{world}
 use Rattle.mb_theory.proofs.LogLimits.{InLimits}

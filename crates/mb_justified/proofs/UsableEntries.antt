@@ -23,7 +23,7 @@ use Rattle.mb_msg.specs.Stamps.{bare_of, ui_of, bare_of_shown, ui_of_shown}
 use Rattle.mb_model.specs.UsableLogs.{bares, entry_claim, entry_fault, entries_fault, is_opening_entry, has_body, shows_body, height, is_sound_body, same_truth}
 use Rattle.mb_model.specs.OwnLog.{as_shown}
 use Rattle.mb_model.specs.GateChecks.{stamp_claim}
-use Rattle.mb_model.proofs.StepPotential.{not_above}
+use Rattle.mb_steps.proofs.StepPotential.{not_above}
 use Rattle.mb_justified.proofs.ShownForms.{shorten, shorten_where, opens, shown_forms, form_bare, forms_bare, forms_length}
 
 -- ---- what the forms leave as it is

@@ -21,7 +21,7 @@ use Rattle.mb_msg.specs.declared.stamped.Stamped.TheVariants as stamped
 use Rattle.mb_msg.specs.Bodies.{body_digest}
 use Rattle.mb_msg.specs.Stamps.{ui_of, bare_of, as_message}
 use Rattle.mb_msg.specs.Plans.{plan_digest}
-use Rattle.mb_model.specs.Agreement.{text_of}
+use Rattle.mb_agreement.specs.Agreement.{text_of}
 use Rattle.mb_model.specs.declared.known.Vote.{Vote}
 use Rattle.mb_model.specs.Committed.{planned, vote_by as votes_by}
 use Rattle.mb_model.specs.Histories.{Entry, Accepted, Stamped, History, Identity}

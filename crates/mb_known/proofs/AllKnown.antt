@@ -33,12 +33,12 @@ use Rattle.mb_msg.specs.Spelling.{floors_body_bytes}
 use Rattle.mb_msg.specs.Stamps.{bare_of, ui_of, as_message}
 use Rattle.mb_model.specs.GateChecks.{stamp_claim, valid}
 use Rattle.mb_model.specs.Histories.{Entry, Accepted, Stamped, Jumped, Closed, Served, Executed, Installed, DroppedParts, LostPatience, Nudged, History, said, view_of, counter_of, stamped as all_stamped}
-use Rattle.mb_model.specs.OwnLists.{AreNumbered, own_ui}
+use Rattle.mb_steps.specs.OwnLists.{AreNumbered, own_ui}
 use Rattle.mb_model.specs.Positions.{slot_in, in_window}
 use Rattle.mb_model.specs.Verified.{verifies}
 use Rattle.mb_model.proofs.Members.{In}
 use Rattle.mb_model.proofs.Options.{if_some}
-use Rattle.mb_model.proofs.StepArises.{Arises}
+use Rattle.mb_steps.proofs.StepArises.{Arises}
 use Rattle.mb_theory.specs.Inside.{strings_in}
 use Rattle.mb_theory.specs.Inside.{bodies_in}
 use Rattle.mb_theory.specs.WorldEvents.{IsCorrect}

@@ -12,7 +12,7 @@ use Rattle.mb_msg.specs.declared.message.Body.TheVariants.{Whole, Bare as Short}
 use Rattle.mb_model.specs.UsableLogs.{is_whole}
 use Rattle.mb_model.proofs.Members.{In, in_left, in_right}
 use Rattle.mb_msg.specs.Bodies.{whole_body}
-use Rattle.mb_model.proofs.StepPlanBases.{all_append}
+use Rattle.mb_steps.proofs.StepPlanBases.{all_append}
 
 -- ---- Booleans
 

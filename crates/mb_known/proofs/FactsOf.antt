@@ -7,12 +7,12 @@ use Rattle.mb_msg.specs.declared.event.Event.{Event}
 use Rattle.mb_msg.specs.Reading.{message_of}
 use Rattle.mb_msg.specs.Fits.{FitsFields}
 use Rattle.mb_model.specs.Histories.{History, stamped}
-use Rattle.mb_model.specs.OwnLists.{AreNumbered}
+use Rattle.mb_steps.specs.OwnLists.{AreNumbered}
 use Rattle.mb_model.specs.HostStep.{transition, after as after_events}
 use Rattle.mb_model.proofs.ShapesFit.{shape_fits}
-use Rattle.mb_model.proofs.StepArises.{Arises}
-use Rattle.mb_model.proofs.StepEventsArise.{after_arises}
-use Rattle.mb_model.proofs.OwnListsOrdered.{own_lists}
+use Rattle.mb_steps.proofs.StepArises.{Arises}
+use Rattle.mb_steps.proofs.StepEventsArise.{after_arises}
+use Rattle.mb_steps.proofs.OwnListsOrdered.{own_lists}
 use Rattle.mb_theory.specs.Hashed.{HashesApart}
 use Rattle.mb_sched.specs.Limits.{IsSchedule}
 use Rattle.mb_theory.specs.World.{World, System, self_of, if_read}

@@ -16,7 +16,7 @@ use Rattle.mb_msg.specs.declared.stamped.Stamped.{Stamped as StampedMessage}
 use Rattle.mb_msg.specs.Stamps.{bare_of, ui_of}
 use Rattle.mb_model.specs.GateChecks.{stamp_claim}
 use Rattle.mb_model.specs.Histories.{Stamped, History, Identity, said, stamped as all_stamped}
-use Rattle.mb_model.specs.OwnLists.{AreNumbered, own_ui}
+use Rattle.mb_steps.specs.OwnLists.{AreNumbered, own_ui}
 use Rattle.mb_theory.specs.WorldEvents.{IsCorrect}
 use Rattle.mb_theory.specs.World.{World, System, self_of, stamps}
 use Rattle.mb_theory.specs.WorldRecord.{issued}

@@ -22,7 +22,7 @@ use Rattle.mb_model.specs.Histories.{Stamped, History, Identity, counter_of, sta
 use Rattle.mb_model.specs.OwnLog.{as_shown, behind, behind_opening, behind_change, kept_forms, log_kept, log_start, proof_of}
 use Rattle.mb_model.specs.Stable.{stable_of, log_floor}
 use Rattle.mb_model.specs.UsableLogs.{entry_claim}
-use Rattle.mb_model.proofs.StepPlanBases.{all_append}
+use Rattle.mb_steps.proofs.StepPlanBases.{all_append}
 use Rattle.mb_known.proofs.Cases.{all_reverse, all_right, all_taken, all_flat}
 use Rattle.mb_known.proofs.Rests.{Each}
 use Rattle.mb_known.proofs.PlanFits.{OfBody, OfEntry}

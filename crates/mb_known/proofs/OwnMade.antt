@@ -33,11 +33,11 @@ use Rattle.mb_model.specs.OwnLog.{has_room, has_other_room, proof_of}
 use Rattle.mb_model.specs.Positions.{slot_in, slot_at, in_window, position_limit}
 use Rattle.mb_model.specs.Stable.{stable_of, low_of}
 use Rattle.mb_model.proofs.Options.{if_some, map_some}
-use Rattle.mb_model.proofs.StepArises.{Arises}
-use Rattle.mb_model.proofs.StepHeldEvidence.{announce_seen, open_seen}
-use Rattle.mb_model.proofs.StepOwnList.{stands_here}
-use Rattle.mb_model.proofs.StepOwnStamped.{steady}
-use Rattle.mb_model.proofs.StepPlanBases.{all_append}
+use Rattle.mb_steps.proofs.StepArises.{Arises}
+use Rattle.mb_steps.proofs.StepHeldEvidence.{announce_seen, open_seen}
+use Rattle.mb_steps.proofs.StepOwnList.{stands_here}
+use Rattle.mb_steps.proofs.StepOwnStamped.{steady}
+use Rattle.mb_steps.proofs.StepPlanBases.{all_append}
 use Rattle.mb_known.proofs.Cases.{same_whole, some_is}
 use Rattle.mb_known.proofs.Found.{opened_plan, in_view, commit_shape}
 use Rattle.mb_known.proofs.Rests.{Each}

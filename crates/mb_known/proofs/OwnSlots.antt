@@ -27,13 +27,13 @@ use Rattle.mb_msg.specs.Stamps.{bare_of, ui_of}
 use Rattle.mb_model.specs.declared.known.KnownSlot.{KnownSlot}
 use Rattle.mb_model.specs.GateChecks.{stamp_claim}
 use Rattle.mb_model.specs.Histories.{Entry, Accepted, Stamped, History, Identity, origin, taken_of, said, stamped as all_stamped}
-use Rattle.mb_model.specs.OwnLists.{inner}
+use Rattle.mb_steps.specs.OwnLists.{inner}
 use Rattle.mb_model.specs.Positions.{batch_from, slot_of_plan, slot_of_prepare, slot_of_open, slot_by, slot_in}
 use Rattle.mb_model.proofs.Options.{if_some, map_some}
-use Rattle.mb_model.proofs.StepArises.{Arises, Makes}
-use Rattle.mb_model.proofs.StepOwnSteady.{found_slot}
-use Rattle.mb_model.proofs.StepHeldEvidence.{prepare_by_primary}
-use Rattle.mb_model.proofs.StepOwnStamped.{steady}
+use Rattle.mb_steps.proofs.StepArises.{Arises, Makes}
+use Rattle.mb_steps.proofs.StepOwnSteady.{found_slot}
+use Rattle.mb_steps.proofs.StepHeldEvidence.{prepare_by_primary}
+use Rattle.mb_steps.proofs.StepOwnStamped.{steady}
 use Rattle.mb_known.proofs.Cases.{some_is}
 use Rattle.mb_known.proofs.Rests.{Each}
 use Rattle.mb_known.proofs.Knows.{own_claim_in}

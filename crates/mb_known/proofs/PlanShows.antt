@@ -10,7 +10,7 @@ use Rattle.mb_parts.specs.declared.certificates.StableCert.{StableCert}
 use Rattle.mb_model.specs.Plans.{ShownLog, ShownVote, newest, base_shown, vote_since, log_of, by_host, of_view, highest_view, opened_view, same_view, lowest_vote, if_voted, batches_from, stable_of, opening_bases, greatest_position, cert_at, no_base, all_bases, base_of, plan_in_order, plan_of}
 use Rattle.mb_model.proofs.Members.{all_in}
 use Rattle.mb_model.proofs.PlanLaws.{lowest_from}
-use Rattle.mb_model.proofs.StepPlanBases.{all_filter, all_append, all_found, all_any}
+use Rattle.mb_steps.proofs.StepPlanBases.{all_filter, all_append, all_found, all_any}
 use Rattle.mb_known.proofs.Cases.{some_is}
 
 module _ (P : StableCert → Type 0) (Q : Batch → Type 0) where

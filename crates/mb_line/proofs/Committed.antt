@@ -31,9 +31,9 @@ use Rattle.mb_model.specs.GateChecks.{valid}
 use Rattle.mb_model.specs.Positions.{batch_from, slot_of_plan, slot_of_prepare, slot_of_open, slot_by, slot_vote, counts_at, in_window, vote_of, vote_at, slot_in, matching}
 use Rattle.mb_model.specs.Passed.{PassesStamped}
 use Rattle.mb_model.proofs.Options.{or_some, if_some, map_some}
-use Rattle.mb_model.proofs.StepHeldEvidence.{prepare_by_primary}
-use Rattle.mb_model.proofs.Stays.{is_vote_is}
-use Rattle.mb_model.proofs.WholeLists.{prepare_is, open_is}
+use Rattle.mb_steps.proofs.StepHeldEvidence.{prepare_by_primary}
+use Rattle.mb_agreement.proofs.Stays.{is_vote_is}
+use Rattle.mb_agreement.proofs.WholeLists.{prepare_is, open_is}
 use Rattle.mb_theory.specs.WorldEvents.{IsCorrect}
 use Rattle.mb_theory.specs.World.{World, System, self_of}
 use Rattle.mb_theory.specs.WorldRecord.{issued, prefix, plans, IsConsistent}

@@ -22,7 +22,7 @@ use Rattle.mb_model.specs.Plans.{ShownVote, ShownLog, newest, vote_with, plan_vo
 use Rattle.mb_model.proofs.Options.{or_none, if_some, map_some}
 use Rattle.mb_model.proofs.UsableLaws.{map_none}
 use Rattle.mb_model.proofs.PlanLaws.{lowest_from}
-use Rattle.mb_model.proofs.StepPlanBases.{all_filter}
+use Rattle.mb_steps.proofs.StepPlanBases.{all_filter}
 use Rattle.mb_model.proofs.Members.{all_in}
 use Rattle.mb_known.proofs.Cases.{some_is}
 use Rattle.mb_known.proofs.Found.{all_newest}

@@ -11,7 +11,7 @@ use Rattle.mb_base.specs.Shapes.{host_count}
 use Rattle.mb_base.specs.declared.shape.Shape.{Shape}
 use Rattle.mb_parts.specs.Claims.{are_rising}
 use Rattle.mb_model.specs.Plans.{ShownLog, log_of, by_host, plan_in_order}
-use Rattle.mb_model.specs.Agreement.{AreOfOneEach, PlansIgnoreOrder}
+use Rattle.mb_model.specs.PlanOrder.{AreOfOneEach, PlansIgnoreOrder}
 use Rattle.mb_model.proofs.Options.{option_cases}
 use Rattle.mb_model.proofs.Members.{In, in_contained, contained}
 

@@ -6,8 +6,7 @@ pub mod Verified
 pub mod Committed
 pub mod UsableLogs
 pub mod Plans
-pub mod Agreement
-pub mod ViewChangeRecord
+pub mod PlanOrder
 pub mod CarriedLogs
 pub mod States
 pub mod Histories
@@ -28,5 +27,3 @@ pub mod CarriedOut
 pub mod Given
 pub mod HostStep
 pub mod Clients
-pub mod NothingUndone
-pub mod OwnLists

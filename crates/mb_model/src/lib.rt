@@ -5,7 +5,4 @@ mod known;
 mod laws;
 
 pub use known::{KnownSlot, LastReply, Vote};
-pub use laws::{
-    logs_carry_over, nothing_is_left_undone, own_lists_are_ordered, plans_ignore_order,
-    quorums_meet, records_have_view_changes, views_agree,
-};
+pub use laws::{logs_carry_over, plans_ignore_order, quorums_meet};

@@ -19,7 +19,7 @@ use Rattle.mb_model.specs.OwnLog.{own_log, log_kept, log_start, log_longest}
 use Rattle.mb_model.specs.Positions.{exec_of, slot_in, slot_at, vote_of, vote_at, counts_at, matching}
 use Rattle.mb_model.specs.declared.known.Vote.{Vote}
 use Rattle.mb_model.specs.Votes.{is_vote}
-use Rattle.mb_model.proofs.StepPotential.{max_none, tally_same}
+use Rattle.mb_steps.proofs.StepPotential.{max_none, tally_same}
 use Rattle.mb_searches.specs.Speaks.{is_by, moves_gate, closes_gate, is_stamp, speaks_of_slots, speaks_of_votes, speaks_of_checkpoints, speaks_of_stable, speaks_of_wishes, speaks_of_changes, speaks_of_enters, speaks_of_opened, speaks_of_new_views, speaks_of_evidence, speaks_of_plans, speaks_of_executed, speaks_of_state, speaks_of_requests, speaks_of_snapshots, speaks_of_parts, is_nudge}
 
 -- ---- gates

@@ -24,15 +24,15 @@ use Rattle.mb_model.specs.Histories.{Entry, Accepted, Stamped, Jumped, Closed, S
 use Rattle.mb_model.specs.Sending.{Progress, next_of as next_in, signed, next_ui}
 use Rattle.mb_model.specs.GateChecks.{valid, conviction, is_stale, is_ahead, is_permitted, gate_refusal, is_bad_ui, is_own_future, identifier_refusal}
 use Rattle.mb_model.specs.Given.{jump}
-use Rattle.mb_model.specs.OwnLists.{IsOwn}
+use Rattle.mb_steps.specs.OwnLists.{IsOwn}
 use Rattle.mb_model.specs.Making.{view_change, new_view, enter, opening, join, commit, prepare, checkpoint}
 use Rattle.mb_model.specs.KindChecks.{kind_refusal, stamped_refusal}
 use Rattle.mb_model.specs.Passed.{PassesGate}
-use Rattle.mb_model.proofs.StepArises.{Makes, Arises}
-use Rattle.mb_model.proofs.StepOwnList.{stands_here}
-use Rattle.mb_model.proofs.StepOwnStamped.{steady}
-use Rattle.mb_model.proofs.StepPotential.{not_above}
-use Rattle.mb_model.proofs.StepRounds.{ui_under}
+use Rattle.mb_steps.proofs.StepArises.{Makes, Arises}
+use Rattle.mb_steps.proofs.StepOwnList.{stands_here}
+use Rattle.mb_steps.proofs.StepOwnStamped.{steady}
+use Rattle.mb_steps.proofs.StepPotential.{not_above}
+use Rattle.mb_steps.proofs.StepRounds.{ui_under}
 use Rattle.mb_searches.specs.Speaks.{is_by, moves_gate, closes_gate}
 use Rattle.mb_searches.specs.Gates.{log_of, GatesMove, refusal_of}
 use Rattle.mb_searches.proofs.Framing.{origin_stays, taken_stays, closed_stays, floors_stay}

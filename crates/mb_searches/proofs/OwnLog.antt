@@ -8,7 +8,7 @@ use Rattle.mb_msg.specs.declared.stamped.Stamped.{Stamped as StampedMessage}
 use Rattle.mb_model.specs.Histories.{Entry, Stamped, History, Identity, stamped as all_stamped, counter_of}
 use Rattle.mb_model.specs.Stable.{low_of, checkpoint_in, is_kept, floor_counter, floor_from, cut_by, log_floor}
 use Rattle.mb_model.specs.OwnLog.{behind, kept_forms, own_log, log_kept, log_start, log_longest}
-use Rattle.mb_model.proofs.StepPotential.{start_bounded}
+use Rattle.mb_steps.proofs.StepPotential.{start_bounded}
 use Rattle.mb_searches.specs.Speaks.{is_stamp}
 use Rattle.mb_searches.proofs.Framing.{stamped_stay}
 

@@ -25,11 +25,11 @@ use Rattle.mb_model.specs.CarriedOut.{just_served, placed_in, serve, serve_all, 
 use Rattle.mb_model.specs.Given.{Answer, give}
 use Rattle.mb_model.specs.HostStep.{on_patience, on_nudge, on_message, on_bytes, low_rose, with_fetch, finished_where, transition}
 use Rattle.mb_model.proofs.Options.{option_cases, map_some, if_some}
-use Rattle.mb_model.proofs.StepArises.{IsWhole, ArisesWhole, none_served}
-use Rattle.mb_model.proofs.StepEventsArise.{transition_arises}
-use Rattle.mb_model.proofs.StepPotential.{served_history}
-use Rattle.mb_model.proofs.StepRulesArise.{run_arises}
-use Rattle.mb_model.proofs.StepUnchanged.{served_enabled}
+use Rattle.mb_steps.proofs.StepArises.{IsWhole, ArisesWhole, none_served}
+use Rattle.mb_steps.proofs.StepEventsArise.{transition_arises}
+use Rattle.mb_steps.proofs.StepPotential.{served_history}
+use Rattle.mb_steps.proofs.StepRulesArise.{run_arises}
+use Rattle.mb_steps.proofs.StepUnchanged.{served_enabled}
 use Rattle.mb_searches.specs.Gates.{GatesMove}
 use Rattle.mb_searches.specs.Sound.{IsSound}
 use Rattle.mb_searches.proofs.Framing.{exec_stays}

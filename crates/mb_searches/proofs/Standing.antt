@@ -12,13 +12,13 @@ use Rattle.mb_msg.specs.declared.stamped.Stamped.TheVariants as stamped
 use Rattle.mb_msg.specs.Stamps.{ui_of, bare_of}
 use Rattle.mb_msg.specs.declared.change.ViewChange.{ViewChange}
 use Rattle.mb_model.specs.Histories.{Entry, Accepted, Stamped, Jumped, Closed, Served, Executed, Installed, DroppedParts, LostPatience, Nudged, History, Identity, stamped as all_stamped, said, here, view_of}
-use Rattle.mb_model.specs.OwnLists.{IsOwn, inner}
+use Rattle.mb_steps.specs.OwnLists.{IsOwn, inner}
 use Rattle.mb_model.specs.Sending.{signed, next_ui}
 use Rattle.mb_model.specs.Making.{view_change, new_view, enter, opening, join, commit, prepare, checkpoint}
-use Rattle.mb_model.proofs.StepArises.{Adds, Arises, Makes}
-use Rattle.mb_model.proofs.StepOwnList.{own_passed, stands_here}
-use Rattle.mb_model.proofs.StepOwnStamped.{steady}
-use Rattle.mb_model.proofs.StepRounds.{ui_under}
+use Rattle.mb_steps.proofs.StepArises.{Adds, Arises, Makes}
+use Rattle.mb_steps.proofs.StepOwnList.{own_passed, stands_here}
+use Rattle.mb_steps.proofs.StepOwnStamped.{steady}
+use Rattle.mb_steps.proofs.StepRounds.{ui_under}
 use Rattle.mb_searches.specs.Speaks.{moves_gate, is_stamp, changes_view}
 use Rattle.mb_searches.proofs.Framing.{here_stays}
 

@@ -15,7 +15,7 @@ use Rattle.mb_msg.specs.declared.stamped.Stamped.TheVariants as stamped
 use Rattle.mb_model.specs.UsableLogs.{is_whole}
 use Rattle.mb_model.specs.Histories.{Accepted, Stamped, LostPatience, History, Identity, view_of}
 use Rattle.mb_model.specs.Held.{is_current, change_fault, wish_of, changes_of, enter_of, opened_by, new_view_of, evidence_of, with_news, plan_held, plan_in_new_view, plan_in_open, gives_plan}
-use Rattle.mb_model.proofs.StepPotential.{max_none}
+use Rattle.mb_steps.proofs.StepPotential.{max_none}
 
 same_either_way : (a b : ℕ) → (a == b) ≡ (b == a)
 same_either_way a b = elim (cases_Bool (b == a)) [

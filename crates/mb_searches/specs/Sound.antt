@@ -6,12 +6,12 @@ use Rattle.mb_msg.specs.declared.normal.Checkpoint.{Checkpoint}
 use Rattle.mb_model.specs.declared.known.Vote.{Vote}
 use Rattle.mb_model.specs.declared.known.KnownSlot.{KnownSlot}
 use Rattle.mb_model.specs.Histories.{History, Identity, view_of, closed_at, counter_of}
-use Rattle.mb_model.specs.OwnLists.{IsOwnList}
+use Rattle.mb_steps.specs.OwnLists.{IsOwnList}
 use Rattle.mb_model.specs.Stable.{checkpoint_of, low_of}
 use Rattle.mb_model.specs.OwnLog.{log_start}
 use Rattle.mb_model.specs.Positions.{exec_of, slot_in, vote_of}
 use Rattle.mb_model.specs.Execution.{pending, parts_after, part_of}
-use Rattle.mb_model.proofs.StepArises.{Arises}
+use Rattle.mb_steps.proofs.StepArises.{Arises}
 use Rattle.mb_searches.specs.Gates.{GatesMove}
 
 module _ {S : Type 0} (self : Identity S) where

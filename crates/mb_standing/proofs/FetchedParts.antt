@@ -14,7 +14,7 @@ use Rattle.mb_model.specs.Stable.{stable_of, low_of}
 use Rattle.mb_model.specs.Positions.{is_behind}
 use Rattle.mb_model.specs.Execution.{part_in, part_of, part_held, missing}
 use Rattle.mb_model.specs.PlainChecks.{is_wanted, are_all_held}
-use Rattle.mb_model.proofs.StepPotential.{grown_low}
+use Rattle.mb_steps.proofs.StepPotential.{grown_low}
 use Rattle.mb_fetch.specs.Fetched.{Fetched}
 use Rattle.mb_fetch.specs.Parts.{Represents, StandsWith, joined}
 use Rattle.mb_searches.specs.Speaks.{speaks_of_parts}

@@ -10,7 +10,7 @@ use Rattle.mb_model.specs.Stable.{low_of}
 use Rattle.mb_model.specs.Positions.{slot_vote, exec_of, slot_in, slot_at, in_window, matching}
 use Rattle.mb_model.specs.EnabledRules.{next_rule, IsQuiescent, execute_enabled, rule_where, if_committed, is_committed, Execute}
 use Rattle.mb_model.proofs.Options.{or_none}
-use Rattle.mb_model.proofs.StepQuiescent.{begins_quiescent, stays_quiescent}
+use Rattle.mb_steps.proofs.StepQuiescent.{begins_quiescent, stays_quiescent}
 use Rattle.mb_theory.specs.World.{self_of}
 use Rattle.mb_theory.specs.WorldSteps.{world}
 use Rattle.mb_theory.specs.NothingLeft.{has_vote, ExecutesAtQuorum, StampsCheckpoints, InstallsState}

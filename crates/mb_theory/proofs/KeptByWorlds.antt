@@ -13,8 +13,8 @@ use Rattle.mb_msg.specs.declared.event.Event.{Event}
 use Rattle.mb_msg.specs.declared.event.Event.TheVariants as event
 use Rattle.mb_model.specs.Histories.{History}
 use Rattle.mb_model.specs.HostStep.{transition}
-use Rattle.mb_model.proofs.StepArises.{Arises, ArisesWhole}
-use Rattle.mb_model.proofs.StepEventsArise.{transition_arises}
+use Rattle.mb_steps.proofs.StepArises.{Arises, ArisesWhole}
+use Rattle.mb_steps.proofs.StepEventsArise.{transition_arises}
 use Rattle.mb_sched.specs.declared.schedule.Name.TheVariants as name
 use Rattle.mb_sched.specs.declared.schedule.WorldEvent.{WorldEvent}
 use Rattle.mb_sched.specs.declared.schedule.WorldEvent.TheVariants.{Ask, Give, Take, Raw, Patience, Nudge, Sign, TagReply, TagWish, StampPrepare, StampCommit, StampCheckpoint, StampChange, StampAs, StampRaw}

@@ -21,8 +21,8 @@ use Rattle.mb_model.specs.Sending.{Progress, write}
 use Rattle.mb_model.specs.PlainChecks.{state_refusal, is_wanted}
 use Rattle.mb_model.specs.Given.{give_state, install_where_all}
 use Rattle.mb_model.proofs.Options.{option_cases}
-use Rattle.mb_model.proofs.StepPotential.{grown_low}
-use Rattle.mb_model.proofs.StepPassed.{passes_state}
+use Rattle.mb_steps.proofs.StepPotential.{grown_low}
+use Rattle.mb_steps.proofs.StepPassed.{passes_state}
 use Rattle.mb_theory.proofs.KeptByEvents.{is_plain, IsKept, execution_keeps}
 
 not-eqb : (a b : ℕ) → (a ≡ b → ⊥) → eqb a b ≡ false

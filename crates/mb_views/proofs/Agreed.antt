@@ -1,7 +1,7 @@
 -- The record of what all hosts stamped in a world is consistent, so views agree.
 use Rattle.std.proofs.Common.{ℕ}
 use Rattle.mb_parts.proofs.IssuedLaws.{are_prefixes}
-use Rattle.mb_model.proofs.Agree.{agrees}
+use Rattle.mb_agreement.proofs.Agree.{agrees}
 use Rattle.mb_theory.specs.WorldEvents.{IsCorrect}
 use Rattle.mb_theory.specs.World.{World, System, stamps}
 use Rattle.mb_theory.specs.WorldRecord.{issued, prefix, plans, IsConsistent, ViewsAgree}

@@ -25,7 +25,7 @@ use Rattle.mb_msg.specs.declared.stamped.Stamped.TheVariants as stamped
 use Rattle.mb_msg.specs.Bodies.{body_digest}
 use Rattle.mb_msg.specs.Spelling.{new_view_body_bytes}
 use Rattle.mb_msg.specs.Stamps.{bare_of}
-use Rattle.mb_model.specs.Agreement.{IsMadeOf}
+use Rattle.mb_agreement.specs.Agreement.{IsMadeOf}
 use Rattle.mb_model.specs.Histories.{Entry, Accepted, Stamped, History, Identity, view_of, is_changing, is_primary}
 use Rattle.mb_model.specs.Held.{is_current, new_view_in, new_view_of, new_view_in_view, logs_of}
 use Rattle.mb_model.specs.UsableLogs.{is_whole}
@@ -35,8 +35,8 @@ use Rattle.mb_model.specs.Making.{enter}
 use Rattle.mb_model.specs.EnabledRules.{Enter, enter_enabled}
 use Rattle.mb_model.specs.Plans.{ShownLog}
 use Rattle.mb_model.proofs.Options.{or_some, if_some, map_some}
-use Rattle.mb_model.proofs.StepArises.{Makes}
-use Rattle.mb_model.proofs.StepHeldEvidence.{new_view_checks}
+use Rattle.mb_steps.proofs.StepArises.{Makes}
+use Rattle.mb_steps.proofs.StepHeldEvidence.{new_view_checks}
 use Rattle.mb_theory.specs.WorldEvents.{IsCorrect}
 use Rattle.mb_theory.specs.World.{World, System, self_of, stamps}
 use Rattle.mb_theory.specs.WorldRecord.{issued, prefix, plans}

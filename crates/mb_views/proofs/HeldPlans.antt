@@ -17,7 +17,7 @@ use Rattle.mb_msg.specs.declared.stamped.Stamped.TheVariants as stamped
 use Rattle.mb_msg.specs.Bodies.{FitsBody, whole_body}
 use Rattle.mb_msg.specs.Fits.{FitsOpen, FitsOpenBody}
 use Rattle.mb_msg.specs.Plans.{plan_text, plan_digest}
-use Rattle.mb_model.specs.Agreement.{text_of}
+use Rattle.mb_agreement.specs.Agreement.{text_of}
 use Rattle.mb_model.specs.Histories.{Entry, Accepted, Stamped, History, Identity}
 use Rattle.mb_model.specs.Held.{is_current, plan_from, logs_of, plan_in_new_view, plan_in_open, gives_plan, plan_in, plan_held, plan_of_view, plan_at}
 use Rattle.mb_model.specs.UsableLogs.{is_comparable_body}

@@ -17,8 +17,8 @@ use Rattle.mb_model.specs.GateChecks.{stamp_claim}
 use Rattle.mb_model.specs.Stable.{checkpoint_in, checkpoint_by, checkpoint_of, first_agreed, checkpoints_at, same_state, stable_member, stable_cert, agreed_at, agreed_above}
 use Rattle.mb_model.proofs.Members.{In}
 use Rattle.mb_model.proofs.Options.{or_some, if_some}
-use Rattle.mb_model.proofs.StepHeldEvidence.{some_is, then_some_of}
-use Rattle.mb_model.proofs.StepPlanBases.{all_found, all_any}
+use Rattle.mb_steps.proofs.StepHeldEvidence.{some_is, then_some_of}
+use Rattle.mb_steps.proofs.StepPlanBases.{all_found, all_any}
 use Rattle.mb_theory.specs.WorldEvents.{IsCorrect}
 use Rattle.mb_theory.specs.World.{World, System, self_of}
 use Rattle.mb_theory.specs.Justification.{IsKnown}

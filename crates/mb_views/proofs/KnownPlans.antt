@@ -25,7 +25,7 @@ use Rattle.mb_msg.specs.declared.stamped.Shown.{Shown}
 use Rattle.mb_msg.specs.declared.stamped.Shown.TheVariants as shown
 use Rattle.mb_msg.specs.Stamps.{bare_of_shown, ui_of_shown}
 use Rattle.mb_msg.specs.Plans.{plan_text, plan_string}
-use Rattle.mb_model.specs.Agreement.{IsKnownPlan, IsKnownBody}
+use Rattle.mb_agreement.specs.Agreement.{IsKnownPlan, IsKnownBody}
 use Rattle.mb_model.specs.UsableLogs.{shows_body, has_body, is_opening_entry, same_truth, height, bares, entry_claim, is_comparable_body, is_plan_body, is_sound_body, is_ill_founded, is_too_long, entry_fault, entries_fault, fault_from, floor_of, log_fault}
 use Rattle.mb_model.specs.Histories.{Identity}
 use Rattle.mb_model.specs.GateChecks.{valid}

@@ -21,8 +21,8 @@ use Rattle.mb_model.specs.Plans.{ShownLog, body_base, base_shown, no_base}
 use Rattle.mb_model.specs.Histories.{Accepted, History, Identity}
 use Rattle.mb_model.specs.Held.{shown_log, logs_of, plan_from}
 use Rattle.mb_model.proofs.Members.{In, in_left, in_right}
-use Rattle.mb_model.proofs.StepHeldEvidence.{some_is}
-use Rattle.mb_model.proofs.StepPlanBases.{all_found}
+use Rattle.mb_steps.proofs.StepHeldEvidence.{some_is}
+use Rattle.mb_steps.proofs.StepPlanBases.{all_found}
 use Rattle.mb_theory.specs.Inside.{claims_in, shown_claims, change_claims, member_claims, open_body_claims, open_claims, join_claims}
 use Rattle.mb_theory.specs.WorldEvents.{IsCorrect}
 use Rattle.mb_theory.specs.World.{World, System, self_of}

@@ -12,7 +12,7 @@ use Rattle.mb_msg.specs.declared.change.ChangeBody.{ChangeBody}
 use Rattle.mb_msg.specs.declared.change.ViewChange.{ViewChange}
 use Rattle.mb_msg.specs.declared.change.Plan.{Plan}
 use Rattle.mb_msg.specs.Plans.{plan_end, plan_digest}
-use Rattle.mb_model.specs.Agreement.{IsMadeOf, IsUsableLog}
+use Rattle.mb_agreement.specs.Agreement.{IsMadeOf, IsUsableLog}
 use Rattle.mb_model.specs.Held.{shown_log, logs_of}
 use Rattle.mb_model.specs.Plans.{ShownLog, plan_of}
 use Rattle.mb_theory.specs.WorldEvents.{IsCorrect}

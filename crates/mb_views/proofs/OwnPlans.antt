@@ -25,9 +25,9 @@ use Rattle.mb_model.specs.Making.{new_view}
 use Rattle.mb_model.proofs.Members.{In}
 use Rattle.mb_model.proofs.Options.{if_some}
 use Rattle.mb_model.proofs.RisingLists.{RiseFrom, rise_found}
-use Rattle.mb_model.proofs.StepArises.{Makes}
-use Rattle.mb_model.proofs.StepHeldEvidence.{announce_seen}
-use Rattle.mb_model.proofs.StepPlanBases.{all_filter, all_append, all_found, all_any}
+use Rattle.mb_steps.proofs.StepArises.{Makes}
+use Rattle.mb_steps.proofs.StepHeldEvidence.{announce_seen}
+use Rattle.mb_steps.proofs.StepPlanBases.{all_filter, all_append, all_found, all_any}
 use Rattle.mb_theory.specs.WorldEvents.{IsCorrect}
 use Rattle.mb_theory.specs.World.{World, System, self_of}
 use Rattle.mb_known.proofs.Cases.{all_taken, none_is, or_false, some_is, whole_of}

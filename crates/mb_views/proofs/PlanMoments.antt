@@ -8,7 +8,7 @@ use Rattle.mb_model.specs.Histories.{Entry, Accepted, Stamped, History, Identity
 use Rattle.mb_model.specs.Held.{plan_in, plan_held}
 use Rattle.mb_model.specs.Stable.{stable_of, low_of, learnt_in, further}
 use Rattle.mb_model.proofs.Options.{or_some}
-use Rattle.mb_model.proofs.StepPotential.{further_both, grown_low}
+use Rattle.mb_steps.proofs.StepPotential.{further_both, grown_low}
 use Rattle.mb_known.proofs.Moments.{IsPast}
 
 -- The stable position only grows.

@@ -23,7 +23,7 @@ use Rattle.mb_parts.specs.Reading.{digest_at}
 use Rattle.mb_parts.proofs.Fields.{digest_field}
 use Rattle.mb_msg.specs.declared.change.Plan.{Plan}
 use Rattle.mb_msg.specs.Plans.{plan_string, plan_text, plan_digest}
-use Rattle.mb_model.specs.Agreement.{text_of}
+use Rattle.mb_agreement.specs.Agreement.{text_of}
 use Rattle.mb_model.proofs.Members.{In, contained}
 use Rattle.mb_theory.specs.Hashed.{HashesApart}
 use Rattle.mb_theory.specs.WorldRecord.{plan_text_at, plan_text_of, plan_with_digest, plans_of}

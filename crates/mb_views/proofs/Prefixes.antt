@@ -25,7 +25,7 @@ use Rattle.mb_parts.proofs.OrderedParts.{head, tail, ordered_cons, ordered_nil}
 use Rattle.mb_parts.proofs.LongestOrdered.{prefix_whole}
 use Rattle.mb_model.specs.Verified.{verifies}
 use Rattle.mb_model.specs.Histories.{said}
-use Rattle.mb_model.proofs.StepOwnStamped.{steady}
+use Rattle.mb_steps.proofs.StepOwnStamped.{steady}
 use Rattle.mb_theory.specs.WorldEvents.{IsCorrect}
 use Rattle.mb_theory.specs.World.{World, System, self_of}
 use Rattle.mb_theory.specs.WorldRecord.{issued, prefix}

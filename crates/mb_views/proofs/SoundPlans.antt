@@ -26,8 +26,8 @@ use Rattle.mb_model.specs.Held.{change_fault, shown_log, logs_of, plan_from}
 use Rattle.mb_model.specs.GateChecks.{valid}
 use Rattle.mb_model.proofs.Options.{or_none, then_none, map_some, if_some}
 use Rattle.mb_model.proofs.UsableLaws.{AreSound, all_sound}
-use Rattle.mb_model.proofs.StepHeldEvidence.{some_is, join_inside, join_stable_valid}
-use Rattle.mb_model.proofs.StepPlanBases.{all_found}
+use Rattle.mb_steps.proofs.StepHeldEvidence.{some_is, join_inside, join_stable_valid}
+use Rattle.mb_steps.proofs.StepPlanBases.{all_found}
 use Rattle.mb_known.proofs.Found.{all_newest}
 use Rattle.mb_known.proofs.PlanFits.{FitsBases, OfBody, OfEntry}
 use Rattle.mb_known.proofs.PlanShows.{ShowsSound, plan_holds}

@@ -17,7 +17,7 @@ use Rattle.mb_msg.specs.declared.change.ViewChange.{ViewChange}
 use Rattle.mb_msg.specs.declared.stamped.Stamped.TheVariants as stamped
 use Rattle.mb_msg.specs.Bodies.{body_digest}
 use Rattle.mb_msg.specs.Spelling.{change_body_bytes}
-use Rattle.mb_model.specs.Agreement.{IsSoundFloor, IsUsableLog, IsKnownPlan}
+use Rattle.mb_agreement.specs.Agreement.{IsSoundFloor, IsUsableLog, IsKnownPlan}
 use Rattle.mb_model.specs.Compared.{compared_in_body}
 use Rattle.mb_model.specs.GateChecks.{stamp_claim}
 use Rattle.mb_model.specs.UsableLogs.{log_fault}

@@ -8,7 +8,7 @@ use Rattle.mb_base.specs.declared.shape.Shape.{Shape}
 use Rattle.mb_base.specs.Shapes.{tally, host_count, quorum}
 use Rattle.mb_model.specs.declared.known.Vote.{Vote}
 use Rattle.mb_model.specs.Votes.{is_vote}
-use Rattle.mb_model.proofs.StepPotential.{tally_same}
+use Rattle.mb_steps.proofs.StepPotential.{tally_same}
 use Rattle.mb_window.specs.Places.{item_at, flat}
 use Rattle.mb_votes.specs.declared.votes.Votes.{Votes}
 use Rattle.mb_votes.specs.Ballots.{Ballots, kept_in, vote_at}

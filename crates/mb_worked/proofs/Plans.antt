@@ -16,7 +16,7 @@ use Rattle.mb_msg.specs.declared.stamped.Shown.TheVariants as shown
 use Rattle.mb_msg.specs.Plans.{plan_digest, plan_end}
 use Rattle.mb_model.specs.Plans.{ShownLog, highest_view, opened_view, plan_of}
 use Rattle.mb_model.proofs.OnRecords.{logs_on_literals}
-use Rattle.mb_model.proofs.ViewChangeData.{three, at_zero, asked, plan_1, log_1, log_2}
+use Rattle.mb_agreement.proofs.ViewChangeData.{three, at_zero, asked, plan_1, log_1, log_2}
 
 -- ---- the logs of h1 and h2 as they leave view 0: h1 voted for the batch at position 1
 

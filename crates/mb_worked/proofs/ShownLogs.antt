@@ -23,7 +23,7 @@ use Rattle.mb_model.specs.Verified.{verifies}
 use Rattle.mb_model.specs.UsableLogs.{Fault, log_fault}
 use Rattle.mb_model.proofs.Hex.{unhex}
 use Rattle.mb_model.proofs.OnRecords.{logs_on_literals}
-use Rattle.mb_model.proofs.ViewChangeData.{secret, three, at_zero, asked_0, asked_1, asked, plan_1, prepare_cert, shown_by_2, change_entry, enter_entry, open_entry, log_1, log_2}
+use Rattle.mb_agreement.proofs.ViewChangeData.{secret, three, at_zero, asked_0, asked_1, asked, plan_1, prepare_cert, shown_by_2, change_entry, enter_entry, open_entry, log_1, log_2}
 
 -- ---- logs with tags that verify
 

@@ -12,7 +12,7 @@ use Rattle.mb_msg.specs.Fits.{FitsStamped}
 use Rattle.mb_msg.specs.Spelling.{spelling}
 use Rattle.mb_msg.specs.Stamps.{bare_of, with_ui, as_message}
 use Rattle.mb_model.specs.Histories.{History}
-use Rattle.mb_model.proofs.StepRounds.{bare_under}
+use Rattle.mb_steps.proofs.StepRounds.{bare_under}
 use Rattle.mb_sched.specs.declared.schedule.Schedule.{Schedule}
 use Rattle.mb_sched.specs.Limits.{is_faulty}
 use Rattle.mb_core.specs.declared.replica.Replica.{Replica}

@@ -44,8 +44,8 @@ use Rattle.mb_base.specs.Shapes.{IsShape, host_count}
 use Rattle.mb_base.specs.declared.shape.Shape.{Shape}
 use Rattle.std.specs.List.{AllByRecursion}
 use Rattle.mb_msg.specs.Fits.{Fits}
-use Rattle.mb_model.proofs.StepArises.{IsWhole}
-use Rattle.mb_model.proofs.StepPlanBases.{all_append}
+use Rattle.mb_steps.proofs.StepArises.{IsWhole}
+use Rattle.mb_steps.proofs.StepPlanBases.{all_append}
 use Rattle.mb_searches.specs.Sound.{IsSound}
 use Rattle.mb_searches.proofs.SoundRules.{transition_sound}
 use Rattle.mb_fitting.specs.Fitting.{AreFit}

@@ -6,7 +6,7 @@ use Rattle.mb_msg.specs.declared.event.Event.{Event}
 use Rattle.mb_msg.specs.declared.event.Step.{Step}
 use Rattle.mb_model.specs.Histories.{History}
 use Rattle.mb_model.specs.Given.{Answer}
-use Rattle.mb_model.proofs.StepArises.{IsWhole}
+use Rattle.mb_steps.proofs.StepArises.{IsWhole}
 use Rattle.mb_model.specs.HostStep.{transition}
 use Rattle.mb_sched.specs.declared.schedule.Schedule.{Schedule}
 use Rattle.mb_sched.specs.Limits.{is_faulty}

@@ -1,6 +1,6 @@
 use Rattle.std.proofs.Common.{◌≡◌, ◌≤◌, ◌∙◌, List, [], ◌∷◌, ◌++◌, length, sym, subst, arith}
 use Rattle.mb_base.specs.Shapes.{Bytes}
-use Rattle.mb_model.proofs.StepPlanBases.{all_append}
+use Rattle.mb_steps.proofs.StepPlanBases.{all_append}
 use Rattle.mb_cache.specs.Represents.{joined, snapshots_of}
 use Rattle.mb_keeper.specs.Keeping.{AreShort}
 use Rattle.mb_keeper.proofs.Shelved.{part_more, with_table}

@@ -7,7 +7,7 @@ use Rattle.mb_msg.specs.Fits.{FitsLog}
 use Rattle.mb_model.specs.Given.{jump, floor_shown}
 use Rattle.mb_model.specs.Histories.{Accepted}
 use Rattle.mb_model.specs.Sending.{Progress}
-use Rattle.mb_model.proofs.StepPassed.{passes_log}
+use Rattle.mb_steps.proofs.StepPassed.{passes_log}
 use Rattle.mb_change.specs.Written.{with_shown}
 use Rattle.mb_core.specs.Represents.{StandsAt}
 use Rattle.mb_core.proofs.Behind.{stands_behind_entry}

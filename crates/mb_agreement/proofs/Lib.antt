@@ -1,0 +1,10 @@
+pub mod WholeLists
+pub mod ShownPrefixes
+pub mod FoundVotes
+pub mod ShownOpenings
+pub mod Leading
+pub mod ReadyLogs
+pub mod Stays
+pub mod Agree
+pub mod ViewChangeData
+pub mod ViewChangeWitness

@@ -1,5 +1,0 @@
-use Rattle.mb_model.proofs.OwnListsOrdered.{own_lists}
-use Rattle.mb_model.proofs.laws.own_lists_are_ordered.Goals as goal
-
-pub returns : goal.returns
-returns g c = own_lists _

@@ -1,0 +1,2 @@
+pub mod NothingUndone
+pub mod OwnLists
