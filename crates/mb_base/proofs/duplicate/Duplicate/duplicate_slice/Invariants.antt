@@ -1,5 +1,5 @@
 use Rattle.std.proofs.Common.{◌≡◌, take}
-use Rattle.mb_base.proofs.duplicate.duplicate_all.Given as goal
+use Rattle.mb_base.proofs.duplicate.Duplicate.duplicate_slice.Given as goal
 
 abbrev pub invariant-loop-item : goal.invariant-loop-item
 invariant-loop-item g l = l.copies.items ≡ take l.item-index l.items
