@@ -1,3 +1,4 @@
+pub mod ReadyKeys
 mod Fronts
 pub mod Laws
 pub mod SmallBytes

@@ -1,15 +1,17 @@
 //! The keys that are made of the system's secret.
 
-ghost use Rattle.std.specs.Prelude.{◌≡◌, ◌≤◌, ◌<◌, ℕ, [], slice_index_or};
+ghost use Rattle.std.specs.Prelude.{◌≡◌, ◌<◌, ℕ};
+ghost use Rattle.mb_usig.specs.KeyedHash.{IsReady, AreReady};
 ghost use Rattle.mb_usig.specs.Tags.{usig_key, client_key};
 
-use crate::keyed_hash::hmac;
+use crate::keyed_hash::{HmacKey, hmac};
 use mb_base::{Client, Digest, Key, Shape};
+use std::array;
 
 const MAX_CLIENTS: usize = Shape::MAX_CLIENTS as usize;
 
 /// A key for each client that a system may have.
-pub(crate) type ClientKeys = [Digest; MAX_CLIENTS];
+pub(crate) type ClientKeys = [HmacKey; MAX_CLIENTS];
 
 /// The key that a client shares with the trusted parts.
 #[tactic(auto, unfolding(crate::specs::Tags::client_key, mb_base::specs::Spelling::number))]
@@ -27,14 +29,16 @@ pub(crate) fn usig_key_of(secret: &Key) -> Digest
     hmac(secret.as_slice(), b"U")
 }
 
-/// The keys of the clients below a number, which is at most 64.
-pub(crate) fn client_keys_of(secret: &Key, clients: u8) -> ClientKeys
-    requires { clients ≤ 64 }
-    ensures { (client : ℕ) → client < clients → slice_index_or result client [] ≡ client_key secret.now client }
+/// The key that a client shares with the trusted parts, ready for use.
+pub(crate) fn ready_key_of(secret: &Key, client: Client) -> HmacKey
+    ensures { IsReady result (client_key secret.now client) }
 {
-    let mut keys = [[0u8; 32]; MAX_CLIENTS];
-    for client in 0..clients {
-        keys[usize::from(client)] = client_key_of(secret, client);
-    }
-    keys
+    HmacKey::new(client_key_of(secret, client).as_slice())
+}
+
+/// The keys of all clients that a system may have.
+pub(crate) fn client_keys_of(secret: &Key) -> ClientKeys
+    ensures { AreReady result secret.now }
+{
+    array::from_fn(|client| ready_key_of(secret, client as u8))
 }

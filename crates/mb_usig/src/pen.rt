@@ -8,7 +8,7 @@ ghost use Rattle.mb_usig.specs.Hmac.{hmac_of};
 ghost use Rattle.mb_usig.specs.Tags.{client_key, same_bytes, signed_request, signed_reply, stop_tag};
 
 use crate::keyed_hash::HmacKey;
-use crate::keys::client_key_of;
+use crate::keys::ready_key_of;
 use mb_base::{Client, Digest, Key};
 use std::marker::Model;
 
@@ -38,11 +38,10 @@ impl Pen {
     pub fn new(secret: &Key, client: Client) -> Pen
         ensures { result ≡ record { client = client; secret = secret.now } }
     {
-        let client_key = client_key_of(secret, client);
         Pen {
             client,
             secret: *secret,
-            key: HmacKey::new(client_key.as_slice()),
+            key: ready_key_of(secret, client),
         }
     }
 

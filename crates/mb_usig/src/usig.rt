@@ -67,7 +67,7 @@ impl Usig {
             secret: *secret,
             counter: 0,
             key: HmacKey::new(usig_key.as_slice()),
-            client_keys: client_keys_of(secret, shape.clients()),
+            client_keys: client_keys_of(secret),
         }
     }
 
@@ -134,8 +134,7 @@ impl Usig {
         requires { client < client_count self.now.shape }
         ensures { result ≡ hmac_of (client_key self.now.secret client) (front.now ++ rest.now) }
     {
-        let key = self.client_keys[usize::from(client)];
-        HmacKey::new(key.as_slice()).tag(front, rest)
+        self.client_keys[usize::from(client)].tag(front, rest)
     }
 
     /// Whether a client's tag is the one of its request, of which the text behind the letter is given.
