@@ -12,9 +12,10 @@ use Rattle.mb_line.proofs.InWorlds.{worlds_have_one_list}
 use Rattle.mb_justified.specs.Worlds.{HoldsOfTheCorrect}
 use Rattle.mb_justified.proofs.InWorlds.{worlds_are_justified}
 use Rattle.mb_due.proofs.Taken.{hosts_take_what_passes}
+use Rattle.mb_due.proofs.TakesValid.{hosts_take_what_is_valid}
 use Rattle.mb_due.proofs.OrdersAll.{orders_all_that_fit}
 use Rattle.mb_due.proofs.OpensCount.{counts_opens_of}
-use Rattle.mb_due.proofs.Completing.{hosts_execute_with_commit, hosts_execute_with_prepare}
+use Rattle.mb_due.proofs.Completing.{hosts_execute_with_commit, hosts_execute_with_prepare, hosts_execute_with_both}
 
 -- Nothing that is due is left undone, whoever is faulty and whatever is forged.
 pub nothing_left : (S : Type 0) → HostsLeaveNothing S
@@ -35,12 +36,14 @@ nothing_left S system k h =
       joins_past = c.joins_past;
       installs = c.installs;
       takes = hosts_take_what_passes system k h;
+      takes_valid = hosts_take_what_is_valid system k h;
       keeps_slots = c.keeps_slots;
       counts_prepares = c.counts_prepares;
       counts_commits = c.counts_commits;
       counts_opens = counts_opens_of system k h;
       executes_with_commit = hosts_execute_with_commit system k h;
       executes_with_prepare = hosts_execute_with_prepare system k h;
+      executes_with_both = hosts_execute_with_both system k h;
     }
 
 pub all_stay_one : (S : Type 0) → HostsStayOne S

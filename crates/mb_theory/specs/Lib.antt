@@ -9,6 +9,7 @@ pub mod Forged
 pub mod Stops
 pub mod Refusals
 pub mod Justification
+pub mod TakesValid
 pub mod NothingLeft
 pub mod CarriedOut
 pub mod Safety

@@ -2,7 +2,7 @@
 -- it carries out; but for the list of the requests that wait, which is the rules' own.
 use Rattle.std.specs.Prelude.{◌≡◌, ℕ, ◌+◌, ◌-◌, ◌*◌, ◌^◌, ◌%◌, Bool, not, count_by, ◌≤◌, ◌<◌, ◌⊎◌, ◌↔◌, true, false, List, [], ◌∷◌, ◌++◌, length, filter, nat_le, ◌==◌, is_some, Some, None, Ok, Contains}
 use Rattle.std.specs.List.{flat_map}
-use Rattle.mb_base.specs.Shapes.{Bytes, HasQuorum, max_faults, quorum, tally, interval, span, host_count, client_count}
+use Rattle.mb_base.specs.Shapes.{Bytes, HasQuorum, max_faults, quorum, primary, tally, interval, span, host_count, client_count}
 use Rattle.mb_parts.specs.declared.request.Request.{Request}
 use Rattle.mb_parts.specs.declared.batch.Batch.{Batch}
 use Rattle.mb_parts.specs.declared.certificates.Evidence.{Evidence}
@@ -38,10 +38,12 @@ use Rattle.mb_model.specs.Positions.{exec_of, slot_in, slot_vote, vote_of, batch
 use Rattle.mb_model.specs.Execution.{state_of, pending, missing}
 use Rattle.mb_model.specs.Making.{present_parts}
 use Rattle.mb_model.specs.EnabledRules.{unordered}
-use Rattle.mb_model.specs.Passed.{PassesStamped, Passes}
+use Rattle.mb_model.specs.Passed.{Passes}
+use Rattle.mb_model.specs.Given.{named_prepare}
 use Rattle.mb_model.specs.HostStep.{transition}
 use Rattle.mb_theory.specs.World.{System, self_of}
 use Rattle.mb_theory.specs.WorldSteps.{world}
+use Rattle.mb_theory.specs.TakesValid.{AreTagged, IsNextOfSender, TakesWhatIsValid}
 
 -- A batch is the beginning of this list of requests, and it has no place for the next one: there are 16, or all would have more than 2,048 bytes.
 pub record IsFull (l : List Request) (b : Batch) : Type 0 where
@@ -261,15 +263,27 @@ module _ {S : Type 0} (self : Identity S) (d : History) where
 
   -- by a COMMIT, where the slot is there
   abbrev pub ExecutesWithCommit : Type 0
-  ExecutesWithCommit = (bytes : Bytes) (m : Commit) (k : KnownSlot) (b : Batch) → message_of self.shape bytes ≡ Ok (message.Commit m) → PassesStamped self d (stamped.Commit m)
-      → IsNext m.view m.pos → HasSlot self d m.pos k b → m.counter ≡ k.counter → body_digest batch_bytes m.body ≡ k.digest
+  ExecutesWithCommit = (bytes : Bytes) (m : Commit) (k : KnownSlot) (b c : Batch) → message_of self.shape bytes ≡ Ok (message.Commit m) → IsNextOfSender self d (stamped.Commit m)
+      → IsNext m.view m.pos → m.body ≡ Whole c → AreTagged self c → HasSlot self d m.pos k b → m.counter ≡ k.counter → batch_digest c ≡ k.digest
       → Lacks m.ui.host m.pos (slot_vote k) → Executes bytes m.pos b
 
   -- by the PREPARE itself
   abbrev pub ExecutesWithPrepare : Type 0
-  ExecutesWithPrepare = (bytes : Bytes) (m : Prepare) (b : Batch) → message_of self.shape bytes ≡ Ok (message.Prepare m) → PassesStamped self d (stamped.Prepare m)
-      → IsNext m.view m.pos → slot_in self d m.view m.pos ≡ None → m.body ≡ Whole b
+  ExecutesWithPrepare = (bytes : Bytes) (m : Prepare) (b : Batch) → message_of self.shape bytes ≡ Ok (message.Prepare m) → IsNextOfSender self d (stamped.Prepare m)
+      → IsNext m.view m.pos → m.body ≡ Whole b → AreTagged self b → slot_in self d m.view m.pos ≡ None
       → Lacks m.ui.host m.pos (record { counter = m.ui.counter; request = batch_digest b }) → Executes bytes m.pos b
+
+  -- Neither of two hosts has a vote here, and with theirs f+1 hosts have this one.
+  pub record LackBoth (g h pos : ℕ) (x : Vote) : Type 0 where
+    pub first : vote_of self d g (view_of self d) pos ≡ None
+    pub second : vote_of self d h (view_of self d) pos ≡ None
+    pub others : max_faults self.shape ≤ tally (has_vote self d pos x) (host_count self.shape) + 1
+
+  -- by a COMMIT that brings its PREPARE, which is the next of the primary
+  abbrev pub ExecutesWithBoth : Type 0
+  ExecutesWithBoth = (bytes : Bytes) (m : Commit) (b : Batch) → message_of self.shape bytes ≡ Ok (message.Commit m) → IsNextOfSender self d (stamped.Commit m)
+      → IsNextOfSender self d (stamped.Prepare (named_prepare self m)) → IsNext m.view m.pos → m.body ≡ Whole b → AreTagged self b → slot_in self d m.view m.pos ≡ None
+      → LackBoth m.ui.host (primary self.shape m.view) m.pos (record { counter = m.counter; request = batch_digest b }) → Executes bytes m.pos b
 
   -- ---- all of it
 
@@ -288,12 +302,14 @@ module _ {S : Type 0} (self : Identity S) (d : History) where
     pub joins_past : JoinsPast
     pub installs : InstallsState
     pub takes : TakesWhatPasses
+    pub takes_valid : TakesWhatIsValid self d
     pub keeps_slots : KeepsSlots
     pub counts_prepares : CountsPrepares
     pub counts_commits : CountsCommits
     pub counts_opens : CountsOpens
     pub executes_with_commit : ExecutesWithCommit
     pub executes_with_prepare : ExecutesWithPrepare
+    pub executes_with_both : ExecutesWithBoth
 
 -- After any events, whoever is faulty and whatever is forged, no host has left anything undone.
 abbrev pub HostsLeaveNothing : Type 0 → Type 0
