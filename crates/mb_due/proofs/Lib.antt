@@ -2,7 +2,9 @@
 -- passes them (`TakesValid`). What was accepted has the values of
 -- the grammar (`AcceptedFits`), so a batch holds all that fits (`FullBatches`, `OrdersAll`). The votes of OPENs count at each position of their plan
 -- (`OpensCount`). A taken vote leaves slots, votes and view as they were for the rules behind it (`Staying`, `Voted`), and a position that waits is executed
--- before the rules end (`Running`), so the vote that completes f+1 executes in its step (`Completing`).
+-- before the rules end (`Running`), so the vote that completes f+1 executes in its step (`Completing`). What came is found until something takes its place
+-- (`KeptTables`): requests and wishes (`KeptRequests`), parts of a state and snapshots (`KeptParts`), VIEW_CHANGEs and ENTERs (`KeptChanges`), OPENs, NEW_VIEWs,
+-- plans and evidence (`KeptOpenings`), CHECKPOINTs and what is stable by them (`KeptStable`).
 pub mod Taken
 pub mod TakesValid
 pub mod AcceptedFits
@@ -13,3 +15,9 @@ pub mod Staying
 pub mod Voted
 pub mod Running
 pub mod Completing
+pub mod KeptRequests
+pub mod KeptParts
+pub mod KeptChanges
+pub mod KeptOpenings
+pub mod KeptStable
+pub mod KeptTables

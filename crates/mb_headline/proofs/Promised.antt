@@ -16,6 +16,7 @@ use Rattle.mb_due.proofs.TakesValid.{hosts_take_what_is_valid}
 use Rattle.mb_due.proofs.OrdersAll.{orders_all_that_fit}
 use Rattle.mb_due.proofs.OpensCount.{counts_opens_of}
 use Rattle.mb_due.proofs.Completing.{hosts_execute_with_commit, hosts_execute_with_prepare, hosts_execute_with_both}
+use Rattle.mb_due.proofs.KeptTables.{keeps_tables}
 
 -- Nothing that is due is left undone, whoever is faulty and whatever is forged.
 pub nothing_left : (S : Type 0) → HostsLeaveNothing S
@@ -41,6 +42,7 @@ nothing_left S system k h =
       counts_prepares = c.counts_prepares;
       counts_commits = c.counts_commits;
       counts_opens = counts_opens_of system k h;
+      keeps = keeps_tables (self_of system h) ((world system k).histories h);
       executes_with_commit = hosts_execute_with_commit system k h;
       executes_with_prepare = hosts_execute_with_prepare system k h;
       executes_with_both = hosts_execute_with_both system k h;

@@ -27,7 +27,7 @@ not_left false r x t s e = absurd cc
 
 -- ---- lists
 
-in_range : (from n c : ℕ) → from ≤ c → c < from + n → In (range_with_len from n) c
+pub in_range : (from n c : ℕ) → from ≤ c → c < from + n → In (range_with_len from n) c
 in_range from zero c le lt = absurd (omega (arith, le, lt))
 in_range from (suc n) c le lt = elim (cases_Bool (eqb from c)) [
   | inl same ↦ inl (eqb-true from c same)

@@ -10,6 +10,7 @@ pub mod Stops
 pub mod Refusals
 pub mod Justification
 pub mod TakesValid
+pub mod KeepsTables
 pub mod NothingLeft
 pub mod CarriedOut
 pub mod Safety

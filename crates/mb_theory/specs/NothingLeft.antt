@@ -44,6 +44,7 @@ use Rattle.mb_model.specs.HostStep.{transition}
 use Rattle.mb_theory.specs.World.{System, self_of}
 use Rattle.mb_theory.specs.WorldSteps.{world}
 use Rattle.mb_theory.specs.TakesValid.{AreTagged, IsNextOfSender, TakesWhatIsValid}
+use Rattle.mb_theory.specs.KeepsTables.{KeepsTables}
 
 -- A batch is the beginning of this list of requests, and it has no place for the next one: there are 16, or all would have more than 2,048 bytes.
 pub record IsFull (l : List Request) (b : Batch) : Type 0 where
@@ -307,6 +308,7 @@ module _ {S : Type 0} (self : Identity S) (d : History) where
     pub counts_prepares : CountsPrepares
     pub counts_commits : CountsCommits
     pub counts_opens : CountsOpens
+    pub keeps : KeepsTables self d
     pub executes_with_commit : ExecutesWithCommit
     pub executes_with_prepare : ExecutesWithPrepare
     pub executes_with_both : ExecutesWithBoth
