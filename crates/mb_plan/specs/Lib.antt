@@ -3,3 +3,4 @@ pub mod Behind
 pub mod Lent
 pub mod Planned
 pub mod NewViews
+pub mod Looked

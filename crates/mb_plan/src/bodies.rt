@@ -1,23 +1,27 @@
 //! What stands inside stamped messages: certificates, and the bodies of OPENs.
 
 ghost use Rattle.std.specs.Prelude.{◌≡◌, ◌≤◌, IfOk};
-ghost use Rattle.mb_parts.specs.Fits.{FitsEvidence, FitsBatch};
+ghost use Rattle.mb_parts.specs.Fits.{FitsEvidence};
 ghost use Rattle.mb_parts.specs.Bares.{Open as BareOpen, Join as BareJoin, Commit as BareCommit};
 ghost use Rattle.mb_parts.specs.Spelling.{batch_bytes};
 ghost use Rattle.mb_parts.specs.Certificates.{inner_valid};
+ghost use Rattle.mb_parts.specs.Bares.{bare_bytes};
 ghost use Rattle.mb_parts.specs.Claims.{prepare_claim};
 ghost use Rattle.mb_msg.specs.Bodies.{body_digest, FitsBody};
 ghost use Rattle.mb_msg.specs.Fits.{FitsOpenParts, FitsOpenBody, FitsCommit, FitsJoin, FitsShown, FitsStamped};
 ghost use Rattle.mb_msg.specs.AsStamped.{stamped_digest};
 ghost use Rattle.mb_msg.specs.Stamps.{bare_of, bare_of_shown};
 ghost use Rattle.mb_model.specs.Verified.{verifies};
-ghost use Rattle.mb_model.specs.UsableLogs.{is_comparable_body, is_plan_body, is_sound_batch, is_sound_plan, is_sound_body};
+ghost use Rattle.mb_model.specs.UsableLogs.{is_comparable_body, is_plan_body, is_sound_plan, is_sound_body};
+ghost use Rattle.mb_plan.specs.Looked.{IsEntryFound};
 
 use crate::certificates::{is_evidence, is_stable};
-use crate::tags::{are_batches_tagged, is_batch_tagged};
+use crate::looked::Found;
+use crate::tags::are_batches_tagged;
 use mb_base::{Digest, NoMemory, Pos, Shape, Ui};
 use mb_msg::{
-    Batch, Body, Commit, Evidence, Join, OpenBody, Shown, Stamped, digest_of_plan, prepare_bare,
+    Body, Commit, Evidence, Join, OpenBody, Shown, Stamped, commit_bare, digest_of_plan,
+    prepare_bare,
 };
 use mb_usig::Usig;
 use std::alloc::Global;
@@ -118,33 +122,42 @@ pub fn inner_valid(
     }
 }
 
-/// The same of an entry of a shown log.
-#[tactic(auto, using(mb_msg::proofs::Opened::body_has_digest), unfolding(mb_parts::specs::Certificates::inner_valid))]
+/// What the certificate of an entry of a shown log covers. `found` is what was found of its batch.
+#[tactic(auto, using(mb_msg::proofs::Opened::body_has_digest))]
+pub(crate) fn shown_bare(
+    alloc: Global,
+    shape: &Shape,
+    usig: &Usig,
+    entry: &Shown,
+    found: &Found,
+) -> Result<Vec<u8>, NoMemory>
+    requires { FitsShown shape.now entry.now × IsEntryFound shape.now usig.now.secret entry.now found.now }
+    ensures { IfOk result (λ v. v.items ≡ bare_bytes (bare_of_shown entry.now)) }
+{
+    match entry {
+        Shown::Prepare(m) => prepare_bare(alloc, m.view, m.pos, &found.digest),
+        Shown::Commit(m) => { commit_bare(alloc, m.view, m.pos, m.counter, &m.cert, &found.digest) }
+        _ => entry.bare(alloc, shape),
+    }
+}
+
+/// Whether the certificates in an entry of a shown log verify. `found` is what was found of its batch.
+#[tactic(auto, unfolding(mb_parts::specs::Certificates::inner_valid))]
 pub(crate) fn shown_inner_valid(
     alloc: Global,
     shape: &Shape,
     usig: &Usig,
     entry: &Shown,
+    found: &Found,
 ) -> Result<bool, NoMemory>
-    requires { FitsShown shape.now entry.now }
+    requires { FitsShown shape.now entry.now × IsEntryFound shape.now usig.now.secret entry.now found.now }
     ensures { IfOk result (λ right. right ≡ inner_valid shape.now (verifies usig.now.secret) (bare_of_shown entry.now)) }
 {
     match entry {
-        Shown::Commit(m) => is_prepared(alloc, shape, usig, m, &m.body.batch_digest()),
+        Shown::Commit(m) => is_prepared(alloc, shape, usig, m, &found.digest),
         Shown::Open(m) => Ok(is_evidence(shape, usig, &m.evidence)),
         Shown::Join(m) => Ok(is_joined(shape, usig, m)),
         _ => Ok(true),
-    }
-}
-
-/// Whether a batch is rightly tagged, where it is shown.
-fn is_sound_batch(alloc: Global, usig: &Usig, body: &Body<Batch>) -> Result<bool, NoMemory>
-    requires { FitsBody (FitsBatch usig.now.shape) body.now }
-    ensures { IfOk result (λ right. right ≡ is_sound_batch usig.now.shape usig.now.secret (verifies usig.now.secret) body.now) }
-{
-    match body {
-        Body::Whole(batch) => is_batch_tagged(alloc, usig, batch),
-        Body::Bare(_) => Ok(true),
     }
 }
 
@@ -165,19 +178,19 @@ fn is_sound_plan(
     }
 }
 
-/// Whether what an entry shows beside its digest is right.
+/// Whether what an entry shows beside its digest is right. `found` is what was found of its batch.
 pub(crate) fn is_sound_body(
     alloc: Global,
     shape: &Shape,
     usig: &Usig,
     entry: &Shown,
+    found: &Found,
 ) -> Result<bool, NoMemory>
-    requires { (usig.now.shape ≡ shape.now) × FitsShown shape.now entry.now }
+    requires { (usig.now.shape ≡ shape.now) × FitsShown shape.now entry.now × IsEntryFound shape.now usig.now.secret entry.now found.now }
     ensures { IfOk result (λ right. right ≡ is_sound_body shape.now usig.now.secret (verifies usig.now.secret) entry.now) }
 {
     match entry {
-        Shown::Prepare(m) => is_sound_batch(alloc, usig, &m.body),
-        Shown::Commit(m) => is_sound_batch(alloc, usig, &m.body),
+        Shown::Prepare(_) | Shown::Commit(_) => Ok(found.tagged),
         Shown::Open(m) => is_sound_plan(alloc, shape, usig, &m.evidence, &m.body),
         _ => Ok(true),
     }

@@ -5,10 +5,12 @@ ghost use Rattle.std.specs.List.{AllByRecursion};
 ghost use Rattle.mb_msg.specs.Fits.{FitsViewChange, FitsMember, FitsNewViewBody, FitsNewView};
 ghost use Rattle.mb_msg.specs.Plans.{CanHash};
 ghost use Rattle.mb_model.specs.KindChecks.{is_member, member_fault, members_fault, announces};
+ghost use Rattle.mb_plan.specs.Looked.{AreFound};
 ghost use Rattle.mb_plan.specs.NewViews.{checker, AnswersMembers, Announced, OfMembers, FollowsFrom, Follows};
 
+use crate::looked::{Looked, PLACES};
 use crate::planning::{PlanFault, plan_of};
-use crate::shown::{BadProof, usable};
+use crate::shown::{BadProof, usable_beside};
 use mb_base::{NoMemory, Shape, View};
 use mb_msg::{Body, NewView, NewViewBody, Plan, ViewChange};
 use mb_usig::Usig;
@@ -55,21 +57,24 @@ fn is_member(
     Ok(member.view == view && usig.verify_ui(bare.as_slice(), &member.ui))
 }
 
-/// The reason that fails for a member: 10 where it is none.
-fn member_fault(
+/// The reason that fails for a member: 10 where it is none. `looked` is what was found of the batches of other members.
+fn member_fault<'a>(
     alloc: Global,
     shape: &Shape,
     usig: &Usig,
+    looked: &mut [Option<Looked<'a>>],
     view: View,
-    member: &ViewChange,
+    member: &'a ViewChange,
 ) -> Result<Option<u8>, NoMemory>
-    requires { (usig.now.shape ≡ shape.now) × FitsViewChange shape.now member.now }
-    ensures { IfOk result (λ reason. reason ≡ member_fault (checker shape.now usig.now.secret) view member.now) }
+    requires fits { (usig.now.shape ≡ shape.now) × FitsViewChange shape.now member.now }
+    requires looked { AreFound usig.now.secret looked.old }
+    ensures looked { AreFound usig.now.secret looked.new }
+    ensures fault { IfOk result (λ reason. reason ≡ member_fault (checker shape.now usig.now.secret) view member.now) }
 {
     if !is_member(alloc, shape, usig, view, member)? {
         return Ok(Some(NO_MEMBER));
     }
-    match usable(alloc, shape, usig, member) {
+    match usable_beside(alloc, shape, usig, looked, member) {
         Ok(()) => Ok(None),
         Err(BadProof::At { reason, .. }) => Ok(Some(reason)),
         Err(BadProof::NoMemory) => Err(NoMemory),
@@ -87,8 +92,10 @@ fn check_members(
     requires { (usig.now.shape ≡ shape.now) × AllByRecursion (FitsMember shape.now) members.now × (length members.now < 255) }
     ensures { AnswersMembers (members_fault (checker shape.now usig.now.secret) view 0 members.now) result }
 {
+    let mut looked = [None; PLACES];
     for index in 0..members.len() {
-        if let Some(reason) = member_fault(alloc, shape, usig, view, &members[index])? {
+        let member = &members[index];
+        if let Some(reason) = member_fault(alloc, shape, usig, &mut looked, view, member)? {
             let index = index as u8;
             return Err(NewViewFault::Unusable { index, reason });
         }

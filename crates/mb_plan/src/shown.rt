@@ -16,11 +16,13 @@ ghost use Rattle.mb_gate.specs.SenderLogs.{SenderLog, log_from, standing, may_st
 ghost use Rattle.mb_model.specs.Verified.{verifies};
 ghost use Rattle.mb_model.specs.UsableLogs.{floor_of, floor_position, is_ill_founded, is_too_long, is_normal_kind, entries_fault, newest_first, log_fault, fault_from, entry_claim, bares};
 ghost use Rattle.mb_plan.specs.Faults.{Answers};
+ghost use Rattle.mb_plan.specs.Looked.{IsEntryFound, AreFound};
 ghost use Rattle.mb_plan.specs.Behind.{log_of, taking, is_next, gate_reason, body_reason, behind_founding};
 
-use crate::bodies::{is_sound_body, shown_inner_valid};
+use crate::bodies::{is_sound_body, shown_bare, shown_inner_valid};
 use crate::certificates::{certified_floor, is_stable};
 use crate::entries::{has_body, height, is_normal, opened_from, shows_body};
+use crate::looked::{Found, Looked, find_vote};
 use mb_base::{Host, NoMemory, Pos, Shape, Ui, View};
 use mb_gate::{Gate, Offer};
 use mb_msg::{Body, ChangeBody, Shown, ViewChange};
@@ -147,7 +149,8 @@ fn takes(gate: &mut Gate, entry: &Shown, inner: bool) -> bool
     }
 }
 
-/// The first reason that fails for an entry by its counter, its identifier, and the gate. The gate takes an entry that may stand there.
+/// The first reason that fails for an entry by its counter, its identifier, and the gate. The gate takes an entry that may stand there. `found` is
+/// what was found of its batch.
 fn gate_reason(
     alloc: Global,
     shape: &Shape,
@@ -155,8 +158,9 @@ fn gate_reason(
     host: Host,
     gate: &mut Gate,
     entry: &Shown,
+    found: &Found,
 ) -> Result<Option<u8>, NoMemory>
-    requires { FitsShown shape.now entry.now }
+    requires { FitsShown shape.now entry.now × IsEntryFound shape.now usig.now.secret entry.now found.now }
     ensures reason { (log : SenderLog) → Represents gate.old log → log.shape ≡ shape.now → log.sender ≡ host → log.closed ≡ None
         → IfOk result (λ reason. reason ≡ gate_reason (verifies usig.now.secret) log entry.now) }
     ensures stands { (log : SenderLog) → Represents gate.old log → log.shape ≡ shape.now → log.sender ≡ host → log.closed ≡ None
@@ -166,11 +170,11 @@ fn gate_reason(
     if !is_next(gate, ui.counter) {
         return Ok(Some(3));
     }
-    let bare = entry.bare(alloc, shape)?;
+    let bare = shown_bare(alloc, shape, usig, entry, found)?;
     if !is_claimed(usig, host, &ui, bare.as_slice()) {
         return Ok(Some(4));
     }
-    let inner = shown_inner_valid(alloc, shape, usig, entry)?;
+    let inner = shown_inner_valid(alloc, shape, usig, entry, found)?;
     if !takes(gate, entry, inner) {
         return Ok(Some(5));
     }
@@ -185,8 +189,9 @@ fn body_reason(
     stable: Pos,
     last: bool,
     entry: &Shown,
+    found: &Found,
 ) -> Result<Option<u8>, NoMemory>
-    requires { (usig.now.shape ≡ shape.now) × IsPlace stable × FitsShown shape.now entry.now }
+    requires { (usig.now.shape ≡ shape.now) × IsPlace stable × FitsShown shape.now entry.now × IsEntryFound shape.now usig.now.secret entry.now found.now }
     ensures { IfOk result (λ reason. reason ≡ body_reason shape.now usig.now.secret (verifies usig.now.secret) stable last entry.now) }
 {
     if shows_body(entry) != (has_body(entry) && last) {
@@ -195,36 +200,40 @@ fn body_reason(
     if height(entry) > stable + u64::from(shape.span()) {
         return Ok(Some(7));
     }
-    if !is_sound_body(alloc, shape, usig, entry)? {
+    if !is_sound_body(alloc, shape, usig, entry, found)? {
         return Ok(Some(8));
     }
     Ok(None)
 }
 
-/// Takes all entries, up to the first that fails.
-fn take_entries(
+/// Takes all entries, up to the first that fails. `looked` is what was found of the batches of other logs.
+fn take_entries<'a>(
     alloc: Global,
     shape: &Shape,
     usig: &Usig,
+    looked: &mut [Option<Looked<'a>>],
     host: Host,
     stable: Pos,
     gate: &mut Gate,
-    entries: &[Shown],
+    entries: &'a [Shown],
 ) -> Result<(), BadProof>
-    requires { (usig.now.shape ≡ shape.now) × IsPlace stable × AllByRecursion (FitsShown shape.now) entries.now × (length entries.now < 65536) }
+    requires fits { (usig.now.shape ≡ shape.now) × IsPlace stable × AllByRecursion (FitsShown shape.now) entries.now × (length entries.now < 65536) }
+    requires looked { AreFound usig.now.secret looked.old }
     ensures fault { (o : TheFloor) → Represents gate.old (log_from shape.now host o)
         → Answers (entries_fault shape.now usig.now.secret (verifies usig.now.secret) host stable o [] entries.now) result }
     ensures stands { (o : TheFloor) → Represents gate.old (log_from shape.now host o)
         → OnOk result (Represents gate.new (log_of shape.now host o (newest_first [] entries.now))) }
+    ensures looked { AreFound usig.now.secret looked.new }
 {
     let opened = opened_from(entries);
     for index in 0..entries.len() {
         let entry = &entries[index];
-        if let Some(reason) = gate_reason(alloc, shape, usig, host, gate, entry)? {
+        let found = find_vote(alloc, usig, looked, entry)?;
+        if let Some(reason) = gate_reason(alloc, shape, usig, host, gate, entry, &found)? {
             return Err(at(index, reason));
         }
         let last = index >= opened;
-        if let Some(reason) = body_reason(alloc, shape, usig, stable, last, entry)? {
+        if let Some(reason) = body_reason(alloc, shape, usig, stable, last, entry, &found)? {
             return Err(at(index, reason));
         }
     }
@@ -247,16 +256,19 @@ fn check_end(gate: &Gate, view: View, counter: u64, end: usize) -> Result<(), Ba
 }
 
 /// The first fault of a log that goes on from a floor, behind what is asked of its certificates.
-fn check_entries(
+fn check_entries<'a>(
     alloc: Global,
     shape: &Shape,
     usig: &Usig,
+    looked: &mut [Option<Looked<'a>>],
     change: &ViewChange,
-    body: &ChangeBody,
+    body: &'a ChangeBody,
     floor: Floor,
 ) -> Result<(), BadProof>
-    requires { (usig.now.shape ≡ shape.now) × FitsViewChange shape.now change.now × FitsChangeBody shape.now body.now }
-    ensures { Answers (behind_founding shape.now usig.now.secret (verifies usig.now.secret) change.now.ui.host change.now.view change.now.ui.counter body.now floor) result }
+    requires fits { (usig.now.shape ≡ shape.now) × FitsViewChange shape.now change.now × FitsChangeBody shape.now body.now }
+    requires looked { AreFound usig.now.secret looked.old }
+    ensures looked { AreFound usig.now.secret looked.new }
+    ensures fault { Answers (behind_founding shape.now usig.now.secret (verifies usig.now.secret) change.now.ui.host change.now.view change.now.ui.counter body.now floor) result }
 {
     let host = change.ui.host;
     let entries = body.entries.as_slice();
@@ -265,6 +277,7 @@ fn check_entries(
         alloc,
         shape,
         usig,
+        looked,
         host,
         body.stable.pos,
         &mut gate,
@@ -275,15 +288,18 @@ fn check_entries(
 
 /// The first fault of a whole log.
 #[tactic(auto, unfolding(mb_model::specs::UsableLogs::log_fault))]
-fn check_log(
+fn check_log<'a>(
     alloc: Global,
     shape: &Shape,
     usig: &Usig,
+    looked: &mut [Option<Looked<'a>>],
     change: &ViewChange,
-    body: &ChangeBody,
+    body: &'a ChangeBody,
 ) -> Result<(), BadProof>
-    requires { (usig.now.shape ≡ shape.now) × FitsViewChange shape.now change.now × FitsChangeBody shape.now body.now }
-    ensures { Answers (log_fault shape.now usig.now.secret (verifies usig.now.secret) change.now.ui.host change.now.view change.now.ui.counter body.now) result }
+    requires fits { (usig.now.shape ≡ shape.now) × FitsViewChange shape.now change.now × FitsChangeBody shape.now body.now }
+    requires looked { AreFound usig.now.secret looked.old }
+    ensures looked { AreFound usig.now.secret looked.new }
+    ensures fault { Answers (log_fault shape.now usig.now.secret (verifies usig.now.secret) change.now.ui.host change.now.view change.now.ui.counter body.now) result }
 {
     let Some(floor) = floor_of(shape, usig, change.ui.host, body) else {
         return Err(at(0, 1));
@@ -294,7 +310,26 @@ fn check_log(
     if is_too_long(shape, usig, body.entries.as_slice()) {
         return Err(at(0, 9));
     }
-    check_entries(alloc, shape, usig, change, body, floor)
+    check_entries(alloc, shape, usig, looked, change, body, floor)
+}
+
+/// Whether a VIEW_CHANGE is usable, as [`usable`] says. `looked` is what was found of the batches of other logs.
+pub(crate) fn usable_beside<'a>(
+    alloc: Global,
+    shape: &Shape,
+    usig: &Usig,
+    looked: &mut [Option<Looked<'a>>],
+    change: &'a ViewChange,
+) -> Result<(), BadProof>
+    requires fits { (usig.now.shape ≡ shape.now) × FitsViewChange shape.now change.now }
+    requires looked { AreFound usig.now.secret looked.old }
+    ensures looked { AreFound usig.now.secret looked.new }
+    ensures fault { Answers (option_and_then (log_fault shape.now usig.now.secret (verifies usig.now.secret) change.now.ui.host change.now.view change.now.ui.counter) (whole_body change.now.body)) result }
+{
+    match &change.body {
+        Body::Whole(body) => check_log(alloc, shape, usig, looked, change, body),
+        Body::Bare(_) => Ok(()),
+    }
 }
 
 /// Whether a VIEW_CHANGE is usable: yes exactly where it has no fault, or else the first entry that fails, and the first reason that fails for
@@ -309,8 +344,5 @@ pub fn usable(
     requires { (usig.now.shape ≡ shape.now) × FitsViewChange shape.now change.now }
     ensures { Answers (option_and_then (log_fault shape.now usig.now.secret (verifies usig.now.secret) change.now.ui.host change.now.view change.now.ui.counter) (whole_body change.now.body)) result }
 {
-    match &change.body {
-        Body::Whole(body) => check_log(alloc, shape, usig, change, body),
-        Body::Bare(_) => Ok(()),
-    }
+    usable_beside(alloc, shape, usig, &mut [], change)
 }

@@ -4,8 +4,8 @@ use Rattle.mb_model.specs.UsableLogs.{entries_fault}
 use Rattle.mb_plan.proofs.TakenEntries.{at_end}
 use Rattle.mb_plan.proofs.shown.check_entries.Goals as goal
 
-pub returns : goal.returns
-returns c =
+pub returns-clause-fault : goal.returns-clause-fault
+returns-clause-fault c =
     let s = c.args.shape.now in
     let secret = c.args.usig.now.secret in
     let host = c.args.change.now.ui.host in
