@@ -1,17 +1,25 @@
--- What the fields of a table and of a plan that is held are.
-use Rattle.std.specs.Prelude.{ℕ, ◌≡◌, length, map, take, nat_eq, IfSome}
+-- What the fields of a table, and of a NEW_VIEW and a plan that are held, are.
+use Rattle.std.specs.Prelude.{ℕ, ◌≡◌, length, map, take, nat_eq}
 use Rattle.std.specs.List.{AllByRecursion}
 use Rattle.indexmap.specs.IndexMap.{values, IsUnique}
 use Rattle.mb_base.specs.Shapes.{host_count}
 use Rattle.mb_parts.specs.Bares.{batch_digest}
-use Rattle.mb_msg.specs.Bodies.{FitsBody}
-use Rattle.mb_msg.specs.Fits.{FitsNewViewBody}
+use Rattle.mb_msg.specs.Bodies.{body_digest}
+use Rattle.mb_msg.specs.Spelling.{new_view_body_bytes}
 use Rattle.mb_msg.specs.Plans.{CanHash, plan_digest}
+use Rattle.mb_msg.specs.declared.change.NewView.{NewView}
 use Rattle.mb_msg.specs.declared.change.Plan.{Plan}
 use Rattle.mb_msg.specs.declared.change.ViewChange.{ViewChange}
+use Rattle.mb_change.specs.declared.held_new_view.HeldNewView.TheInside.{Inside as NewViewInside}
 use Rattle.mb_change.specs.declared.held_plan.HeldPlan.TheInside.{Inside as PlanInside}
 use Rattle.mb_change.specs.declared.change.Change.TheInside.{Inside}
 use Rattle.mb_change.specs.Tables.{Table}
+
+abbrev pub new_view_seen : NewViewInside → NewView
+new_view_seen h = h.message
+
+abbrev pub IsNewView : NewViewInside → Type 0
+IsNewView h = h.body ≡ body_digest new_view_body_bytes h.message.body
 
 abbrev pub plan_seen : PlanInside → ℕ × Plan
 plan_seen h = (h.view, h.plan)
@@ -44,4 +52,3 @@ pub record IsTable (c : Inside) : Type 0 where
   pub opens_len : length c.opens.items ≡ host_count c.shape
   pub of_hosts : AllByRecursion IsOfHost c.changes.entries
   pub unique : IsUnique nat_eq c.changes
-  pub body_fits : IfSome c.new_view (λ n. FitsBody (FitsNewViewBody c.shape) n.body)

@@ -1,5 +1,6 @@
 //! The table of view changes.
 
+use crate::held_new_view::HeldNewView;
 use crate::held_plan::HeldPlan;
 use crate::opened::Opened;
 use indexmap::IndexMap;
@@ -23,7 +24,7 @@ pub struct Change {
     enters: Vec<Option<Enter>>,
     /// By host.
     opens: Vec<Opened>,
-    pub(crate) new_view: Option<NewView>,
+    pub(crate) new_view: Option<HeldNewView>,
     pub(crate) evidence: Option<Evidence>,
     pub(crate) plan: Option<HeldPlan>,
 }
@@ -44,8 +45,8 @@ impl Change {
     ghost use Rattle.std.specs.Prelude.{◌≡◌, ◌<◌, ℕ, Some, length, max, slice_set, option_copied, IfOk, IfSome, OnOk, OnErr};
     ghost use Rattle.std.specs.Option.{option_map};
     ghost use Rattle.mb_base.specs.Shapes.{host_count};
-    ghost use Rattle.mb_msg.specs.Bodies.{FitsBody};
-    ghost use Rattle.mb_msg.specs.Fits.{FitsNewViewBody};
+    ghost use Rattle.mb_msg.specs.Bodies.{body_digest};
+    ghost use Rattle.mb_msg.specs.Spelling.{new_view_body_bytes};
     ghost use Rattle.mb_msg.specs.Plans.{CanHash};
     ghost use Rattle.mb_model.specs.Held.{plan_of_view};
     ghost use Rattle.mb_change.specs.Tables.{empty_table, wish_at, enter_at, opened_at};
@@ -142,14 +143,14 @@ impl Change {
         (opened.view, opened.counter, opened.plan)
     }
 
-    /// Holds a NEW_VIEW, in the place of what was held. The fields of its body have allowed values. It takes no memory.
+    /// Holds a NEW_VIEW, in the place of what was held. `body` is the digest of its body. It takes no memory.
     #[tactic(auto, using(crate::proofs::Standing::new_view_stands))]
-    pub fn hold_new_view(&mut self, new_view: NewView)
-        requires { FitsBody (FitsNewViewBody self.old.shape) new_view.body }
+    pub fn hold_new_view(&mut self, new_view: NewView, body: Digest)
+        requires { body ≡ body_digest new_view_body_bytes new_view.body }
         ensures same { SameHost self.old self.new }
         ensures stands { StandsWith self.old (with_new_view new_view) self.new }
     {
-        self.new_view = Some(new_view);
+        self.new_view = Some(HeldNewView::of(new_view, body));
     }
 
     /// Holds evidence, in the place of what was held. It takes no memory.
@@ -176,7 +177,10 @@ impl Change {
     pub fn new_view(&self) -> Option<&NewView>
         ensures { option_copied result ≡ self.now.new_view }
     {
-        self.new_view.as_ref()
+        match &self.new_view {
+            Some(held) => Some(held.message()),
+            None => None,
+        }
     }
 
     /// The evidence that is held, None exactly where there is none.

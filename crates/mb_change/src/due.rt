@@ -87,7 +87,7 @@ impl Change {
         ensures { result ≡ new_view_number self.now.new_view }
     {
         match &self.new_view {
-            Some(new_view) => new_view.view,
+            Some(held) => held.message().view,
             None => 0,
         }
     }

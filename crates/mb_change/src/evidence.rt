@@ -4,6 +4,7 @@ ghost use Rattle.std.specs.Prelude.{◌≡◌};
 ghost use Rattle.mb_model.specs.Held.{answers};
 
 use crate::change::Change;
+use crate::held_new_view::HeldNewView;
 use mb_base::{Duplicate, Host, Items, NoMemory, View};
 use mb_msg::{Enter, Evidence, EvidenceMember, NewView};
 use std::alloc::Global;
@@ -18,11 +19,9 @@ fn answers(new_view: &NewView, enter: &Enter) -> bool
 }
 
 impl Change {
-    ghost use Rattle.std.specs.Prelude.{◌≡◌, ◌<◌, Option, map, take, filter, length, nat_le, option_copied, IfOk, IfSome, Some, true};
+    ghost use Rattle.std.specs.Prelude.{◌≡◌, ◌<◌, Option, map, take, filter, length, nat_le, option_copied, IfOk, Some, true};
     ghost use Rattle.mb_base.specs.Shapes.{host_count, max_faults};
     ghost use Rattle.mb_parts.specs.declared.certificates.Evidence.{Evidence as EvidenceValue};
-    ghost use Rattle.mb_msg.specs.Bodies.{FitsBody};
-    ghost use Rattle.mb_msg.specs.Fits.{FitsNewViewBody};
     ghost use Rattle.mb_model.specs.Held.{evidence_in, new_view_in_view, answers, as_member};
     ghost use Rattle.mb_change.specs.Tables.{enter_at};
     ghost use Rattle.mb_change.specs.Searches.{found_in};
@@ -30,12 +29,11 @@ impl Change {
     ghost use Rattle.mb_change.specs.Represents.{Answers};
 
     /// The held NEW_VIEW, where it is of this view.
-    pub(crate) fn new_view_in(&self, view: View) -> Option<&NewView>
-        ensures held { option_copied result ≡ new_view_in_view view self.now.new_view }
-        ensures fits { IfSome result (λ n. FitsBody (FitsNewViewBody self.now.shape) n.now.body) }
+    pub(crate) fn new_view_in(&self, view: View) -> Option<&HeldNewView>
+        ensures { option_copied result ≡ new_view_in_view view self.now.new_view }
     {
         match &self.new_view {
-            Some(new_view) if new_view.view == view => Some(new_view),
+            Some(held) if held.message().view == view => Some(held),
             _ => None,
         }
     }
@@ -97,17 +95,17 @@ impl Change {
         Ok(members)
     }
 
-    fn evidence_with(&self, alloc: Global, new_view: &NewView) -> Result<Evidence, NoMemory>
-        requires fits { FitsBody (FitsNewViewBody self.now.shape) new_view.now.body }
-        requires answered { nat_le (max_faults self.now.shape) (length (enters_for self.now.shape (enter_at self.now) new_view.now)) ≡ true }
-        ensures { IfOk result (λ e. Some e ≡ evidence_with self.now.shape new_view.now (enters_for self.now.shape (enter_at self.now) new_view.now)) }
+    fn evidence_with(&self, alloc: Global, held: &HeldNewView) -> Result<Evidence, NoMemory>
+        requires { nat_le (max_faults self.now.shape) (length (enters_for self.now.shape (enter_at self.now) held.now)) ≡ true }
+        ensures { IfOk result (λ e. Some e ≡ evidence_with self.now.shape held.now (enters_for self.now.shape (enter_at self.now) held.now)) }
     {
+        let new_view = held.message();
         Ok(Evidence {
             view: new_view.view,
             base: new_view.base,
             end: new_view.end,
             plan: new_view.plan,
-            body: new_view.body.digest(alloc, &self.shape)?,
+            body: held.body(),
             counter: new_view.ui.counter,
             cert: new_view.ui.cert,
             members: self.members_for(alloc, new_view)?,
@@ -130,8 +128,8 @@ impl Change {
             return Ok(Some(evidence.duplicate(alloc)?));
         }
         match self.new_view_in(view) {
-            Some(new_view) if self.is_answered(new_view) => {
-                Ok(Some(self.evidence_with(alloc, new_view)?))
+            Some(held) if self.is_answered(held.message()) => {
+                Ok(Some(self.evidence_with(alloc, held)?))
             }
             _ => Ok(None),
         }
@@ -141,16 +139,17 @@ impl Change {
     pub(crate) fn has_evidence_of_plan(&self, view: View) -> bool
         ensures { result ≡ has_evidence_of_plan self.now.shape view (found_in self.now) }
     {
-        let Some(held) = self.plan_at(view) else {
+        let Some(plan) = self.plan_at(view) else {
             return false;
         };
         if let Some(evidence) = self.evidence_in(view) {
-            return held.is_described(evidence.base, evidence.end, &evidence.plan);
+            return plan.is_described(evidence.base, evidence.end, &evidence.plan);
         }
         match self.new_view_in(view) {
-            Some(new_view) => {
+            Some(held) => {
+                let new_view = held.message();
                 self.is_answered(new_view)
-                    && held.is_described(new_view.base, new_view.end, &new_view.plan)
+                    && plan.is_described(new_view.base, new_view.end, &new_view.plan)
             }
             None => false,
         }

@@ -16,6 +16,7 @@ mod change;
 mod chosen;
 mod due;
 mod evidence;
+mod held_new_view;
 mod held_plan;
 mod laws;
 mod opened;

@@ -131,9 +131,12 @@ fn opened_by(rt: &impl Abort, change: &Change, host: Host) -> (View, Counter, Di
     change.opened_by(host)
 }
 
+/// Holds a NEW_VIEW that came as the digest of its body.
 fn hold_new_view(rt: &impl Abort, change: &mut Change, message: NewView) {
-    assert!(rt; message.fits(&change.shape));
-    change.hold_new_view(message);
+    match message.body {
+        Body::Bare(body) => change.hold_new_view(message, body),
+        Body::Whole(_) => assert!(rt; false),
+    }
 }
 
 // ---- answers, each looked at by itself

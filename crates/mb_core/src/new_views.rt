@@ -3,7 +3,7 @@
 use crate::replica::Replica;
 use crate::sending::Done;
 use crate::stamping::NO_UI;
-use mb_base::{Duplicate, Items, NoMemory};
+use mb_base::{Digest, Duplicate, Items, NoMemory};
 use mb_msg::{Body, NewView, NewViewBody, Outcome, Plan, Stamped, ViewChange};
 use mb_plan::{NewViewFault, PlanFault, check_new_view, plan_of};
 use mb_service::Service;
@@ -17,7 +17,8 @@ const OTHER_PLAN: Outcome = Outcome::Unusable {
 
 impl<V: Service + Drop> Replica<V> {
     ghost use Rattle.mb_msg.specs.declared.stamped.Stamped.TheVariants as stamped;
-    ghost use Rattle.mb_msg.specs.Fits.{FitsNewView, FitsMember, FitsStamped};
+    ghost use Rattle.mb_msg.specs.Fits.{FitsNewView, FitsMember};
+    ghost use Rattle.mb_msg.specs.AsStamped.{stamped_digest};
     ghost use Rattle.mb_msg.specs.Stamps.{with_ui};
     ghost use Rattle.mb_model.specs.KindChecks.{stamped_refusal, new_view_refusal, new_view_fault, unusable};
     ghost use Rattle.mb_core.specs.Between.{AwaitsGate, WritesChange};
@@ -71,19 +72,26 @@ impl<V: Service + Drop> Replica<V> {
     }
 
     /// What it announces is held, and then the votes of OPENs are counted.
-    pub(crate) fn accept_new_view(&mut self, alloc: Global, m: NewView) -> Result<(), NoMemory>
-        requires { FitsNewView self.old.agreement.shape m }
+    pub(crate) fn accept_new_view(
+        &mut self,
+        alloc: Global,
+        m: NewView,
+        digest: Digest,
+    ) -> Result<(), NoMemory>
+        requires fits { FitsNewView self.old.agreement.shape m }
+        requires digest { digest ≡ stamped_digest (stamped.NewView m) }
         ensures { (me : Identity V) (d : History) → Represents me self.old d → stamped_refusal me d (stamped.NewView m) ≡ None → OnOk result (AwaitsGate me self.old self.new (stamped.NewView m) d) }
     {
         let here = self.view();
-        self.hold_announced(alloc, m)?;
+        self.hold_announced(alloc, m, digest)?;
         self.count_opens(here);
         Ok(())
     }
 
     /// A whole NEW_VIEW of a current view is held, with the plan of its members.
-    fn hold_announced(&mut self, alloc: Global, m: NewView) -> Result<(), NoMemory>
-        requires { FitsNewView self.old.agreement.shape m }
+    fn hold_announced(&mut self, alloc: Global, m: NewView, digest: Digest) -> Result<(), NoMemory>
+        requires fits { FitsNewView self.old.agreement.shape m }
+        requires digest { digest ≡ stamped_digest (stamped.NewView m) }
         ensures { (me : Identity V) (d : History) → Represents me self.old d → OnOk result (HoldsEntry me d (Accepted (message.NewView m)) self.old self.new) }
     {
         if !self.is_current(m.view) {
@@ -96,7 +104,7 @@ impl<V: Service + Drop> Replica<V> {
         let Some(plan) = self.plan_from(alloc, body.changes.as_slice())? else {
             return Ok(());
         };
-        self.agreement.change.hold_new_view(m);
+        self.agreement.change.hold_new_view(m, digest);
         self.hold_plan(alloc, view, plan)
     }
 
@@ -129,15 +137,15 @@ impl<V: Service + Drop> Replica<V> {
         };
         let message = self.new_view(changes, &plan);
         let signed = self.sign(alloc, message)?;
-        self.hold_own(alloc, &signed.message)?;
+        self.hold_own(alloc, &signed.message, signed.body)?;
         self.hold_plan(alloc, view, plan)?;
         self.count_opens(view);
         self.publish(alloc, signed.message, signed.body, done)
     }
 
     /// The own NEW_VIEW is held as another's.
-    fn hold_own(&mut self, alloc: Global, message: &Stamped) -> Result<(), NoMemory>
-        requires { FitsStamped self.old.agreement.shape message.now }
+    fn hold_own(&mut self, alloc: Global, message: &Stamped, digest: Digest) -> Result<(), NoMemory>
+        requires { digest ≡ stamped_digest message.now }
         ensures writes { WritesChange self.old self.new }
         ensures holds { (m : NewViewValue) → message.now ≡ stamped.NewView m → OnOk result (StandsWith self.old.agreement.change (with_new_view m) self.new.agreement.change) }
     {
@@ -145,7 +153,7 @@ impl<V: Service + Drop> Replica<V> {
             return Ok(());
         };
         let copy = own.duplicate(alloc)?;
-        self.agreement.change.hold_new_view(copy);
+        self.agreement.change.hold_new_view(copy, digest);
         Ok(())
     }
 

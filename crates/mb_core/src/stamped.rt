@@ -141,7 +141,7 @@ impl<V: Service + Drop> Replica<V> {
             Stamped::Commit(_) => Ok(()),
             Stamped::Checkpoint(m) => self.accept_checkpoint(alloc, m),
             Stamped::ViewChange(m) => self.accept_change(m),
-            Stamped::NewView(m) => self.accept_new_view(alloc, m),
+            Stamped::NewView(m) => self.accept_new_view(alloc, m, body),
             Stamped::Enter(m) => {
                 self.accept_enter(m);
                 Ok(())

@@ -8,7 +8,7 @@ use Rattle.mb_model.specs.Sending.{signed}
 use Rattle.mb_known.proofs.Cases.{some_is}
 use Rattle.mb_core.proofs.OwnChanges.{announce_due}
 use Rattle.mb_core.proofs.OwnViews.{announce_may, announce_made, announce_begun, announce_waits, own_new_view, some_chosen, chosen_so, members_fit, members_enough, none_planned}
-use Rattle.mb_core.proofs.Publishing.{is_next, fits_raw, signed_raw, is_left, fits_signed, sent_signed, room_signed, begun, rule_ends, when_noted}
+use Rattle.mb_core.proofs.Publishing.{is_next, fits_raw, signed_raw, is_left, sent_signed, room_signed, rule_ends, when_noted}
 use Rattle.mb_core.proofs.replica.Replica.announce.Goals as goal
 
 -- src/new_views.rt
@@ -32,9 +32,9 @@ sign-requires-clause-unspent g c =
 
 pub hold_own-requires : goal.hold_own-requires
 hold_own-requires g c =
-    let r = c.args.self.now in
-    let q = announce_due _ _ _ _ _ r c.args.done.now c.requires in
-    fits_signed q.me r q.history q.next.represents (signed q.me q.history (new_view q.me q.history q.changes)) (announce_may q.me r r q.history q.changes q.next) c.sign.new.self (begun q.me r c.sign.new.self c.in_ok-signed.ensures.writes) c.in_ok-signed.signed.message ((c.in_ok-signed.ensures.signed q.me q.history q.next.represents.who q.next.represents.tables.counter).message ∙ signed_raw q.me q.history (new_view q.me q.history q.changes) c.new_view-message.result (announce_made q.me r r q.history q.changes q.next c.new_view-message.result c.in-Some.changes.items c.in-Some-planned.plan (c.new_view-message.ensures q.me q.history q.next.represents) (chosen_so q.me r r q.history q.changes q.next c.view-view.result (c.view-view.ensures q.me q.history q.next.represents) c.in-Some.changes.items (rw c.in-Some.is at c.in_ok-found.ensures)) (some_is c.in-Some-planned.plan (plan_from q.me c.as_slice.result.now) (sym c.in-Some-planned.is ∙ c.in_ok-planned.ensures.plan q.me q.history q.next.represents (members_enough q.me r r q.history q.changes q.next c.as_slice.result.now (c.as_slice.ensures.value ∙ (chosen_so q.me r r q.history q.changes q.next c.view-view.result (c.view-view.ensures q.me q.history q.next.represents) c.in-Some.changes.items (rw c.in-Some.is at c.in_ok-found.ensures))))) ∙ ap (plan_from q.me) c.as_slice.ensures.value)))
+    let q = announce_due _ _ _ _ _ c.args.self.now c.args.done.now c.requires in
+    let s = c.in_ok-signed.ensures.signed q.me q.history q.next.represents.who q.next.represents.tables.counter in
+    s.body ∙ ap stamped_digest (sym s.message)
 
 pub publish-requires-clause-room : goal.publish-requires-clause-room
 publish-requires-clause-room g c =
