@@ -2,6 +2,7 @@
 
 use mb_base::{Digest, Pos, View};
 use mb_msg::{Batch, Plan};
+use sha2::{Digest as Hasher, Sha256};
 use std::marker::Model;
 
 /// The most batches of a plan: two of the longest intervals.
@@ -40,10 +41,11 @@ impl HeldPlan {
         requires { CanHash plan }
         ensures { result ≡ (view, plan) }
     {
+        let batches = digests_of(plan.batches.as_slice());
         HeldPlan {
             view,
-            digest: plan.digest(),
-            batches: digests_of(plan.batches.as_slice()),
+            digest: digest_with(&plan, &batches[..plan.batches.len()]),
+            batches,
             plan,
         }
     }
@@ -84,10 +86,12 @@ impl HeldPlan {
     }
 }
 
-ghost use Rattle.std.specs.Prelude.{◌≡◌, ◌≤◌, length, map, take};
-ghost use Rattle.std.specs.List.{AllByRecursion};
+ghost use Rattle.std.specs.Prelude.{◌≡◌, ◌≤◌, ◌++◌, ℕ, List, length, map, take};
+ghost use Rattle.std.specs.List.{AllByRecursion, flat_map};
+ghost use Rattle.mb_base.specs.Shapes.{Bytes};
 ghost use Rattle.mb_parts.specs.Bares.{batch_digest};
 ghost use Rattle.mb_parts.specs.Fits.{CanDigest};
+ghost use Rattle.mb_msg.specs.Plans.{CanHash, plan_digest};
 
 fn digests_of(batches: &[Batch]) -> [Digest; MAX_BATCHES]
     requires few { length batches.now ≤ 64 }
@@ -99,4 +103,27 @@ fn digests_of(batches: &[Batch]) -> [Digest; MAX_BATCHES]
         digests[index] = batches[index].digest();
     }
     digests
+}
+
+/// The digest of a plan whose batches have these digests.
+fn digest_with(plan: &Plan, batches: &[Digest]) -> Digest
+    requires hashed { CanHash plan.now }
+    requires batches { batches.now ≡ map batch_digest plan.now.batches }
+    ensures { result ≡ plan_digest plan.now }
+{
+    let mut hasher = Sha256::new();
+    hasher.update(b"P");
+    hasher.update(plan.base.pos.to_be_bytes());
+    hasher.update(plan.base.state);
+    feed(&mut hasher, batches);
+    hasher.finalize()
+}
+
+/// Feeds a hasher with digests.
+fn feed<H: Hasher>(hasher: &mut H, digests: &[Digest])
+    ensures { (m : List ℕ) → H.holds hasher.old m → H.holds hasher.new (m ++ flat_map (λ (d : Bytes). d) digests.now) }
+{
+    for digest in digests {
+        hasher.update(*digest);
+    }
 }
