@@ -1,20 +1,15 @@
 -- A whole VIEW_CHANGE stays stored until a later one of its host, and the last ENTER of a host stays among those that answer its NEW_VIEW.
-use Rattle.std.proofs.Common.{◌≡◌, ℕ, zero, suc, ◌+◌, ◌≤◌, ◌<◌, Bool, true, false, ◌&&◌, not, List, [], ◌∷◌, ◌++◌, refl, sym, ap, subst, inl, inr, arith, Option, Some, None}
+use Rattle.std.proofs.Common.{◌≡◌, ℕ, Bool, true, false, not, List, [], ◌∷◌, ◌++◌, refl, sym, ap, subst, inl, inr, arith, Option, Some, None}
 use Rattle.std.specs.Prelude.{◌==◌, filter, filter_map, if◌then◌else◌, Contains}
 use Rattle.std.specs.List.{range_with_len, cons_option}
-use Rattle.std.proofs.lemmas.Bool.{cases_Bool, eq-eqb, eqb-true, eqb-false, ne_eqb, le-leb}
+use Rattle.std.proofs.lemmas.Bool.{cases_Bool, eq-eqb, eqb-false, ne_eqb, le-leb}
 use Rattle.mb_base.specs.Shapes.{host_count}
 use Rattle.mb_usig.proofs.Laws.{true-same_bytes}
-use Rattle.mb_msg.specs.declared.message.Body.{Body}
-use Rattle.mb_msg.specs.declared.message.Body.TheVariants.{Whole}
 use Rattle.mb_msg.specs.declared.message.Message.TheVariants as message
 use Rattle.mb_msg.specs.declared.change.ViewChange.{ViewChange}
-use Rattle.mb_msg.specs.declared.change.ChangeBody.{ChangeBody}
 use Rattle.mb_msg.specs.declared.change.NewView.{NewView}
 use Rattle.mb_msg.specs.declared.change.Enter.{Enter}
 use Rattle.mb_msg.specs.declared.stamped.Stamped.TheVariants as stamped
-use Rattle.mb_model.specs.Verified.{verifies}
-use Rattle.mb_model.specs.UsableLogs.{log_fault}
 use Rattle.mb_model.specs.Histories.{Entry, Accepted, Stamped, History, Identity, view_of}
 use Rattle.mb_model.specs.Held.{change_in, arrived, changes_of, enter_of, answers, enters_for}
 use Rattle.mb_model.proofs.Members.{In, in_left, in_right, contained}

@@ -1,22 +1,18 @@
 -- The last OPEN of a host, the last NEW_VIEW, a plan and evidence stay held until what may take their place.
-use Rattle.std.proofs.Common.{◌≡◌, ℕ, ◌≤◌, ◌<◌, Bool, true, false, ◌&&◌, List, [], ◌∷◌, ◌++◌, refl, sym, subst, inl, inr, arith, Option, Some, None}
-use Rattle.std.specs.Prelude.{◌==◌, nat_lt}
-use Rattle.std.specs.Option.{option_or}
-use Rattle.std.proofs.lemmas.Bool.{cases_Bool, eq-eqb, le-leb, lt-ltb}
+use Rattle.std.proofs.Common.{◌≡◌, ℕ, Bool, true, false, ◌&&◌, not, [], ◌∷◌, ◌++◌, ◌⊎◌, refl, sym, ap, subst, inl, inr, Option, Some, None}
+use Rattle.std.specs.Prelude.{◌==◌, nat_lt, if◌then◌else◌}
+use Rattle.std.proofs.lemmas.Bool.{cases_Bool, or_right, eqb-true, eq-eqb, le-leb, lt-ltb}
 use Rattle.mb_parts.specs.declared.certificates.Evidence.{Evidence}
-use Rattle.mb_msg.specs.declared.message.Body.TheVariants.{Whole}
 use Rattle.mb_msg.specs.declared.message.Message.TheVariants as message
 use Rattle.mb_msg.specs.declared.change.NewView.{NewView}
-use Rattle.mb_msg.specs.declared.change.NewViewBody.{NewViewBody}
 use Rattle.mb_msg.specs.declared.change.Open.{Open}
-use Rattle.mb_msg.specs.declared.change.OpenBody.{OpenBody}
 use Rattle.mb_msg.specs.declared.change.Join.{Join}
 use Rattle.mb_msg.specs.declared.change.Plan.{Plan}
 use Rattle.mb_msg.specs.declared.transfer.Log.{Log}
 use Rattle.mb_msg.specs.declared.stamped.Stamped.TheVariants as stamped
 use Rattle.mb_model.specs.Histories.{Entry, Accepted, Stamped, History, Identity, view_of}
-use Rattle.mb_model.specs.Held.{opened_by, new_view_in, new_view_of, plan_in, plan_held, plan_from, evidence_of, evidence_view, is_current, is_news, with_news}
-use Rattle.mb_theory.specs.KeepsTables.{NoneIs, is_open_of, is_new_view, may_bring_plan, may_bring_evidence, IsNews, KeepsOpens, KeepsNewViews, KeepsOwnNewViews, KeepsPlans, KeepsOwnPlans, KeepsPlansOfOpens, KeepsEvidence, KeepsEvidenceOfJoins, KeepsEvidenceOfLogs, KeepsOwnEvidence}
+use Rattle.mb_model.specs.Held.{opened_by, new_view_in, new_view_of, plan_in, plan_in_open, plan_held, is_plan_of, gives_plan, plan_from, evidence_of, evidence_view, is_current, is_news, with_news}
+use Rattle.mb_theory.specs.KeepsTables.{NoneIs, is_open_of, is_new_view, may_bring_plan, may_bring_evidence, IsNews, LacksPlan, KeepsOpens, KeepsNewViews, KeepsOwnNewViews, KeepsPlans, KeepsOwnPlans, KeepsPlansOfOpens, KeepsEvidence, KeepsEvidenceOfJoins, KeepsEvidenceOfLogs, KeepsOwnEvidence}
 
 module _ {S : Type 0} (self : Identity S) where
   -- ---- OPENs
@@ -88,9 +84,28 @@ module _ {S : Type 0} (self : Identity S) where
   news_is : (d : History) (x : Evidence) → IsNews self d x → is_news self d (evidence_of self d) x ≡ true
   news_is d x news = rw (le-leb (view_of self d) x.view news.0) (lt-ltb (evidence_view (evidence_of self d)) x.view news.1)
 
+  none_of_view : (view : ℕ) (o : Option (ℕ × Plan)) → ((plan : Plan) → o ≡ Some (view, plan) → ⊥) → is_plan_of view o ≡ false
+  none_of_view view None lacks = refl
+  none_of_view view (Some p) lacks = elim (cases_Bool (p.0 == view)) [
+    | inl same ↦ absurd (lacks p.1 (ap (λ (v : ℕ). Some (v, p.1)) (eqb-true p.0 view same)))
+    | inr other ↦ other
+  ]
+
+  open_gives : (d : History) (x : Evidence) → IsNews self d x ⊎ LacksPlan self d x.view → gives_plan self d (plan_held self d) x ≡ true
+  open_gives d x (inl news) = rw (news_is d x news) refl
+  open_gives d x (inr l) =
+      or_right (is_news self d (evidence_of self d) x) (is_current self d x.view && (evidence_view (evidence_of self d) == x.view && not (is_plan_of x.view (plan_held self d))))
+      (rw (le-leb (view_of self d) x.view l.current, eq-eqb (evidence_view (evidence_of self d)) x.view l.evident, none_of_view x.view (plan_held self d) l.lacks) refl)
+
+  where_given : (t : Bool) (o : Option (ℕ × Plan)) (p : ℕ × Plan) → t ≡ true → o ≡ Some p → (if t then o else None) ≡ Some p
+  where_given true o p t e = e
+  where_given false o p t e = absurd cc
+
   pub keeps_plans_of_opens : (d : History) → KeepsPlansOfOpens self d
-  keeps_plans_of_opens d later before m b is whole news none =
-      plan_since d later before (Accepted (message.Open m)) (m.evidence.view, record { base = b.stable; batches = b.batches }) is (rw (news_is before m.evidence news, whole) refl) none
+  keeps_plans_of_opens d later before m b is whole why none =
+      let p : ℕ × Plan = (m.evidence.view, record { base = b.stable; batches = b.batches }) in
+      let given = where_given (gives_plan self before (plan_held self before) m.evidence) (plan_in_open m) p (open_gives before m.evidence why) (rw whole refl) in
+      plan_since d later before (Accepted (message.Open m)) p is given none
 
   -- ---- evidence
 

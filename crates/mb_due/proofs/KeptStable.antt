@@ -1,8 +1,7 @@
 -- The last CHECKPOINT of a host at a position stays found, and what is learnt to be stable is never forgotten.
-use Rattle.std.proofs.Common.{◌≡◌, ℕ, zero, suc, ◌+◌, ◌*◌, ◌≤◌, Bool, true, false, List, [], ◌∷◌, ◌++◌, ◌⊎◌, length, take, refl, sym, ap, ◌∙◌, subst, inl, inr, arith, Option, Some, None}
-use Rattle.std.specs.Prelude.{◌==◌, nat_le, nat_lt, filter, filter_map, map, option_and_then, if◌then◌else◌}
+use Rattle.std.proofs.Common.{◌≡◌, ℕ, zero, suc, ◌+◌, ◌≤◌, Bool, true, false, List, [], ◌∷◌, ◌++◌, ◌⊎◌, length, take, refl, sym, ap, ◌∙◌, subst, inl, inr, arith, Option, Some, None}
+use Rattle.std.specs.Prelude.{nat_le, filter, filter_map, map, option_and_then, if◌then◌else◌}
 use Rattle.std.specs.List.{range_with_len, cons_option}
-use Rattle.std.specs.Option.{option_or}
 use Rattle.std.proofs.lemmas.Bool.{cases_Bool, eq-eqb, le-leb, leb-true, leb-false}
 use Rattle.std.proofs.lemmas.List.{length-take-le}
 use Rattle.mb_base.specs.declared.shape.Shape.{Shape}

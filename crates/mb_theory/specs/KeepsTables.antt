@@ -1,6 +1,6 @@
 -- What came to a host is found in what it holds, until something later takes its place. It is said of entries of the history, and of what stands
 -- behind them.
-use Rattle.std.specs.Prelude.{◌≡◌, ℕ, ◌+◌, ◌-◌, ◌%◌, ◌≤◌, ◌<◌, ◌⊎◌, Bool, true, false, ◌&&◌, List, [], ◌∷◌, ◌++◌, nat_lt, nat_le, ◌==◌, slice_get, Option, Some, None, Contains}
+use Rattle.std.specs.Prelude.{◌≡◌, ℕ, ◌+◌, ◌%◌, ◌≤◌, ◌<◌, ◌⊎◌, Bool, true, false, ◌&&◌, List, ◌∷◌, ◌++◌, nat_lt, nat_le, ◌==◌, slice_get, Option, Some, None, Contains}
 use Rattle.std.specs.List.{AllByRecursion}
 use Rattle.mb_base.specs.Shapes.{Bytes, HasQuorum, interval, span, host_count}
 use Rattle.mb_usig.specs.Tags.{same_bytes}
@@ -27,7 +27,7 @@ use Rattle.mb_model.specs.Service.{is_fresh}
 use Rattle.mb_model.specs.Verified.{verifies}
 use Rattle.mb_model.specs.UsableLogs.{log_fault}
 use Rattle.mb_model.specs.Histories.{Entry, Accepted, Stamped, Served, Executed, Installed, DroppedParts, LostPatience, History, Identity, view_of}
-use Rattle.mb_model.specs.Held.{wish_of, changes_of, enter_of, enters_for, opened_by, new_view_of, evidence_of, evidence_view, plan_held, plan_from}
+use Rattle.mb_model.specs.Held.{wish_of, changes_of, enters_for, opened_by, new_view_of, evidence_of, evidence_view, plan_held, plan_from}
 use Rattle.mb_model.specs.Stable.{checkpoint_of, low_of}
 use Rattle.mb_model.specs.States.{parts_of}
 use Rattle.mb_model.specs.Execution.{state_of, pending, part_of, missing, snapshot_of}
@@ -125,6 +125,12 @@ module _ {S : Type 0} (self : Identity S) where
   abbrev pub IsNews : History → Evidence → Type 0
   IsNews before x = (view_of self before ≤ x.view) × (evidence_view (evidence_of self before) < x.view)
 
+  -- Evidence of this view, which is not below the host's, is held, and no plan of it.
+  pub record LacksPlan (before : History) (view : ℕ) : Type 0 where
+    pub current : view_of self before ≤ view
+    pub evident : evidence_view (evidence_of self before) ≡ view
+    pub lacks : (plan : Plan) → plan_held self before ≡ Some (view, plan) → ⊥
+
 module _ {S : Type 0} (self : Identity S) (d : History) where
   -- A request that was taken waits, until one of its client comes behind it, is served with its number or a greater one, or it is no longer
   -- fresh in a state that is installed.
@@ -189,10 +195,10 @@ module _ {S : Type 0} (self : Identity S) (d : History) where
   KeepsOwnPlans = (later before : History) (m : NewView) (b : NewViewBody) → d ≡ later ++ Stamped (stamped.NewView m) ∷ before
       → m.body ≡ Whole b → NoneIs may_bring_plan later → plan_held self d ≡ Some (m.view, plan_from self b.changes)
 
-  -- So is the plan that comes whole in an OPEN whose evidence is news.
+  -- So is the plan that comes whole in an OPEN whose evidence is news, or is of a view of which evidence was held without a plan.
   abbrev pub KeepsPlansOfOpens : Type 0
   KeepsPlansOfOpens = (later before : History) (m : Open) (b : OpenBody) → d ≡ later ++ Accepted (message.Open m) ∷ before
-      → m.body ≡ Whole b → IsNews self before m.evidence → NoneIs may_bring_plan later → plan_held self d ≡ Some (m.evidence.view, record { base = b.stable; batches = b.batches })
+      → m.body ≡ Whole b → IsNews self before m.evidence ⊎ LacksPlan self before m.evidence.view → NoneIs may_bring_plan later → plan_held self d ≡ Some (m.evidence.view, record { base = b.stable; batches = b.batches })
 
   -- From then on it is held, until evidence of a greater view is shown, or an own OPEN stamped.
   abbrev pub Holds : History → Evidence → Type 0
