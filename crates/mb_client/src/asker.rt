@@ -2,13 +2,12 @@
 
 ghost use Rattle.std.specs.Prelude.{◌≡◌, ◌<◌, ◌≤◌, length, true};
 ghost use Rattle.mb_base.specs.Shapes.{client_count, host_count};
-ghost use Rattle.mb_usig.specs.Tags.{client_key};
 
 use crate::kept_reply::KeptReply;
 use crate::replies::Replies;
-use crate::reply_tag::{client_key_of, has_host_tag};
+use crate::reply_tag::has_host_tag;
 use crate::taken::Taken;
-use mb_base::{Client, Digest, Items, Key, NoMemory, Pos, Seq, Shape};
+use mb_base::{Client, Items, Key, NoMemory, Pos, Seq, Shape};
 use mb_msg::{Reply, Request, signed_request};
 use mb_usig::Pen;
 use std::alloc::Global;
@@ -18,10 +17,8 @@ use std::alloc::Global;
 pub struct Asker {
     shape: Shape,
     client: Client,
-    /// What its requests are signed with.
+    /// What its requests are signed with, and the hosts' replies to it are checked with.
     pen: Pen,
-    /// What the hosts sign their replies to it with.
-    key: Digest,
     /// The number of its last request, 0 before the first.
     number: Seq,
     /// Whether the result of that request is waited for.
@@ -33,7 +30,6 @@ pub struct Asker {
     last: Option<KeptReply>,
     ghost client_in: { client < client_count shape },
     ghost pen_is: { pen.client ≡ client },
-    ghost key_is: { key ≡ client_key pen.secret client },
     ghost replies_len: { length replies.by_host.items ≡ host_count shape },
     ghost accepted_in: { accepted ≤ number },
     ghost one_open: { waits ≡ true → accepted < number },
@@ -61,7 +57,6 @@ impl Asker {
             shape,
             client,
             pen: Pen::new(secret, client),
-            key: client_key_of(secret, client),
             number: 0,
             waits: false,
             replies: Replies::make(alloc, shape.n())?,
@@ -162,7 +157,7 @@ impl Asker {
         requires { FitsText reply.now.result }
         ensures { (s : Shape) (secret : Bytes) (client : ℕ) (a : Asking) → Represents s secret client self.now a → result ≡ is_right s secret client reply.now }
     {
-        reply.client == self.client && has_host_tag(&self.key, reply)
+        reply.client == self.client && has_host_tag(&self.pen, reply)
     }
 
     /// Whether a reply is to the request whose result is waited for.
