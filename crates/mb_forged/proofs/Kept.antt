@@ -11,15 +11,15 @@ use Rattle.mb_base.specs.Shapes.{Bytes, IsShape, host_count}
 use Rattle.mb_base.specs.Spelling.{IsBytes}
 use Rattle.mb_usig.specs.Tags.{same_bytes}
 use Rattle.mb_parts.specs.declared.request.Request.{Request}
-use Rattle.mb_parts.specs.Spelling.{request_bytes}
 use Rattle.mb_parts.specs.Bares.{Bare, bare_bytes}
-use Rattle.mb_parts.specs.Fits.{FitsBare}
+use Rattle.mb_parts.specs.Fits.{FitsRequest, FitsBare}
 use Rattle.mb_parts.specs.Counters.{at_counter}
 use Rattle.mb_parts.specs.Issued.{is_issued}
 use Rattle.mb_msg.specs.declared.message.Message.{Message}
 use Rattle.mb_msg.specs.Spelling.{spelling}
 use Rattle.mb_theory.specs.World.{update}
 use Rattle.mb_forged.specs.declared.ledger.Ledger.{Ledger}
+use Rattle.mb_forged.specs.Asked.{HoldsAsked}
 use Rattle.mb_forged.specs.Ledgers.{Keeps, has_bytes}
 use Rattle.mb_forged.specs.Places.{is_there}
 use Rattle.mb_forged.proofs.Places.{at_place}
@@ -60,12 +60,13 @@ none_in : (o : Option (Vec Bytes)) → option_map (λ (v : Vec Bytes). v.items) 
 none_in None e = absurd cc
 none_in (Some v) e = ap (λ (l : List Bytes). Some (reverse l)) (same_Some v.items [] e)
 
-pub keeps_nothing : (s : Shape) (l : Ledger) → l.shape ≡ s → map (λ (v : Vec Bytes). v.items) l.stamps.items ≡ replicate (host_count s) [] → l.asked.keys ≡ [] → l.tagged.keys ≡ [] → Keeps s l (λ h. []) [] []
+pub keeps_nothing : (s : Shape) (l : Ledger) → l.shape ≡ s → map (λ (v : Vec Bytes). v.items) l.stamps.items ≡ replicate (host_count s) [] → HoldsAsked l.asked [] → l.tagged.keys ≡ [] → Keeps s l (λ h. []) [] []
 keeps_nothing s l shape stamps asks tags = record {
   shape = shape;
   bytes = λ h lt. tt;
   stamps = λ h lt. none_in (slice_get l.stamps.items h) (sym (slice_get-map (λ (v : Vec Bytes). v.items) l.stamps.items h) ∙ ap (λ (items : List (List Bytes)). slice_get items h) stamps ∙ at_replicate (host_count s) h [] lt);
-  asked = λ bytes. ap (has bytes) asks;
+  fits = tt;
+  asked = asks;
   tagged = λ bytes. ap (has bytes) tags;
 }
 
@@ -85,12 +86,13 @@ set_elsewhere (z ∷ l) (suc i) (suc j) x ne = set_elsewhere l i j x (λ e. ne (
 
 module _ (s : Shape) (l m : Ledger) (by_host : ℕ → List Bytes) (asked : List Request) (tagged : List Message) (k : Keeps s l by_host asked tagged) (shape : m.shape ≡ l.shape) where
   -- one more request
-  pub keeps_asked : (r : Request) (v : Vec ℕ) → v.items ≡ request_bytes r → m.stamps ≡ l.stamps → m.asked.keys ≡ insert_key key_order l.asked.keys v → m.tagged ≡ l.tagged → Keeps s m by_host (r ∷ asked) tagged
-  keeps_asked r v is stamps keys tags = record {
+  pub keeps_asked : (r : Request) → FitsRequest s r → m.stamps ≡ l.stamps → HoldsAsked m.asked (r ∷ asked) → m.tagged ≡ l.tagged → Keeps s m by_host (r ∷ asked) tagged
+  keeps_asked r fit stamps holds tags = record {
     shape = shape ∙ k.shape;
     bytes = k.bytes;
     stamps = λ h lt. ap (λ st. option_map (λ v. reverse v.items) (slice_get st.items h)) stamps ∙ k.stamps h lt;
-    asked = λ bytes. ap (has bytes) keys ∙ has_inserted bytes l.asked.keys v ∙ ap (λ z. same_bytes z bytes || has bytes l.asked.keys) is ∙ ap (λ b. same_bytes (request_bytes r) bytes || b) (k.asked bytes);
+    fits = (fit, k.fits);
+    asked = holds;
     tagged = λ bytes. ap (λ t. has_bytes t bytes) tags ∙ k.tagged bytes;
   }
 
@@ -100,7 +102,8 @@ module _ (s : Shape) (l m : Ledger) (by_host : ℕ → List Bytes) (asked : List
     shape = shape ∙ k.shape;
     bytes = k.bytes;
     stamps = λ h lt. ap (λ st. option_map (λ v. reverse v.items) (slice_get st.items h)) stamps ∙ k.stamps h lt;
-    asked = λ bytes. ap (λ t. has_bytes t bytes) asks ∙ k.asked bytes;
+    fits = k.fits;
+    asked = subst (λ a. HoldsAsked a asked) (sym asks) k.asked;
     tagged = λ bytes. ap (has bytes) keys ∙ has_inserted bytes l.tagged.keys v ∙ ap (λ z. same_bytes z bytes || has bytes l.tagged.keys) is ∙ ap (λ b. same_bytes (spelling x) bytes || b) (k.tagged bytes);
   }
 
@@ -127,6 +130,7 @@ module _ (s : Shape) (l m : Ledger) (by_host : ℕ → List Bytes) (asked : List
       shape = shape ∙ k.shape;
       bytes = bytes_now;
       stamps = stamps_now;
-      asked = λ bytes. ap (λ t. has_bytes t bytes) asks ∙ k.asked bytes;
+      fits = k.fits;
+      asked = subst (λ a. HoldsAsked a asked) (sym asks) k.asked;
       tagged = λ bytes. ap (λ t. has_bytes t bytes) tags ∙ k.tagged bytes;
     }

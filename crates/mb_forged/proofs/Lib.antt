@@ -5,6 +5,7 @@ pub mod MemberLaws
 pub mod BareReads
 pub mod Places
 pub mod Sets
+pub mod AskedLaws
 pub mod Issuing
 pub mod Kept
 pub mod TagLaws

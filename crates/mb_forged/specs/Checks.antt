@@ -16,9 +16,11 @@ use Rattle.mb_parts.specs.Spelling.{floors_bytes}
 use Rattle.mb_parts.specs.Bares as bare
 use Rattle.mb_parts.specs.Claims.{Claim}
 use Rattle.mb_msg.specs.declared.message.Message.{Message}
+use Rattle.mb_msg.specs.declared.normal.Commit.{Commit}
+use Rattle.mb_msg.specs.declared.stamped.Stamped.TheVariants as stamped
 use Rattle.mb_msg.specs.Stamps.{as_stamped, bare_of, ui_of}
 use Rattle.mb_model.specs.Compared.{inside_some}
-use Rattle.mb_theory.specs.Inside.{sender_claim}
+use Rattle.mb_theory.specs.Inside.{sender_claim, named_claim}
 use Rattle.mb_forged.specs.declared.checker.Checker.{Checker}
 use Rattle.mb_forged.specs.declared.checker.ForgedClaim.{ForgedClaim}
 use Rattle.mb_forged.specs.Ledgers.{KeepsWorld}
@@ -51,6 +53,10 @@ first_forged s w claims = option_map told (find (is_forged_claim s w) claims)
 -- the message's own certificate, where it is stamped
 abbrev pub own_claim : Message → List Claim
 own_claim m = inside_some (λ x. sender_claim (ui_of x) (bare_of x) ∷ []) (as_stamped m)
+
+-- in a COMMIT: that the primary stamped the PREPARE that it names, and its own behind that
+abbrev pub commit_claims : Shape → Commit → List Claim
+commit_claims s m = named_claim s m ∷ sender_claim m.ui (bare_of (stamped.Commit m)) ∷ []
 
 -- that a member stamped the CHECKPOINT
 abbrev pub stable_claim : StableCert → StableMember → Claim

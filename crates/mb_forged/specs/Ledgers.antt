@@ -11,10 +11,11 @@ use Rattle.mb_base.specs.declared.shape.Shape.{Shape}
 use Rattle.mb_base.specs.Spelling.{IsBytes}
 use Rattle.mb_usig.specs.Tags.{same_bytes}
 use Rattle.mb_parts.specs.declared.request.Request.{Request}
-use Rattle.mb_parts.specs.Spelling.{request_bytes}
+use Rattle.mb_parts.specs.Fits.{FitsRequest}
 use Rattle.mb_msg.specs.declared.message.Message.{Message}
 use Rattle.mb_msg.specs.Spelling.{spelling}
 use Rattle.mb_forged.specs.declared.ledger.Ledger.{Ledger}
+use Rattle.mb_forged.specs.Asked.{HoldsAsked}
 use Rattle.mb_sched.specs.declared.schedule.Schedule.{Schedule}
 use Rattle.mb_theory.specs.World.{World, stamps}
 
@@ -22,12 +23,13 @@ use Rattle.mb_theory.specs.World.{World, stamps}
 abbrev pub has_bytes : BTreeSet (Vec ℕ Global) → Bytes → Bool
 has_bytes set bytes = contains_by (λ k. slice_cmp nat_cmp bytes k.items) set
 
--- the stamped bytes of all hosts, newest first, each below 256; the requests that clients asked, and the replies and wishes that correct hosts made
+-- the stamped bytes of all hosts, newest first, each below 256; the requests that clients asked, which fit, and the replies and wishes that correct hosts made
 pub record Keeps (s : Shape) (l : Ledger) (by_host : ℕ → List Bytes) (requests : List Request) (messages : List Message) : Type 0 where
   pub shape : l.shape ≡ s
   pub bytes : (h : ℕ) → h < host_count s → AllByRecursion IsBytes (by_host h)
   pub stamps : (h : ℕ) → h < host_count s → option_map (λ v. reverse v.items) (slice_get l.stamps.items h) ≡ Some (by_host h)
-  pub asked : (bytes : Bytes) → has_bytes l.asked bytes ≡ list_any (λ r. same_bytes (request_bytes r) bytes) requests
+  pub fits : AllByRecursion (FitsRequest s) requests
+  pub asked : HoldsAsked l.asked requests
   pub tagged : (bytes : Bytes) → has_bytes l.tagged bytes ≡ list_any (λ m. same_bytes (spelling m) bytes) messages
 
 -- all that was made in a world

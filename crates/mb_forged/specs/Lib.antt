@@ -1,4 +1,5 @@
 pub mod Places
+pub mod Asked
 pub mod Ledgers
 pub mod Checks
 pub mod Contents

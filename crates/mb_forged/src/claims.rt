@@ -1,10 +1,11 @@
 //! The first forged certificate of a message, in the order of its bytes.
 
-ghost use Rattle.std.specs.Prelude.{◌≡◌, ◌∷◌, [], IfOk, IfSome, option_map};
+ghost use Rattle.std.specs.Prelude.{◌≡◌, ◌∷◌, ◌++◌, [], IfOk, IfSome, option_map};
 ghost use Rattle.std.specs.List.{flat_map, AllByRecursion};
 ghost use Rattle.mb_parts.specs.Claims.{stable_claims, floor_claims, evidence_claims, new_view_claim};
 ghost use Rattle.mb_parts.specs.Fits.{FitsStable, FitsFloorCert, FitsFloors, FitsEvidence};
-ghost use Rattle.mb_msg.specs.Bodies.{FitsBody, inside_whole};
+ghost use Rattle.mb_parts.specs.Spelling.{batch_bytes};
+ghost use Rattle.mb_msg.specs.Bodies.{FitsBody, body_digest, inside_whole};
 ghost use Rattle.mb_msg.specs.Stamps.{as_stamped, ui_of as uis, ui_of_shown, bare_of as says, bare_of_shown};
 ghost use Rattle.mb_msg.specs.Fits.{FitsFields, FitsStamped, FitsShown, FitsCommit, FitsOpen, FitsJoin, FitsChangeBody, FitsViewChange, FitsNewViewBody, FitsLog};
 ghost use Rattle.mb_model.specs.Compared.{inside_some};
@@ -13,13 +14,14 @@ ghost use Rattle.mb_theory.specs.World.{World};
 ghost use Rattle.mb_theory.specs.Forged.{forged_claim};
 ghost use Rattle.mb_theory.specs.Inside.{sender_claim, named_claim, open_claims, join_claims, claims_in_shown, shown_claims, change_claims, member_claims, new_view_claims, claims_in_stamped, stamped_claims, claims_in};
 ghost use Rattle.mb_msg.specs.declared.message.Message.TheVariants as kind;
-ghost use Rattle.mb_forged.specs.Checks.{AsksIn, FitsClaim, stable_claim, floor_claim, enter_claim, enter_claims, own_claim, first_forged, told};
+ghost use Rattle.mb_forged.specs.Checks.{AsksIn, FitsClaim, stable_claim, floor_claim, enter_claim, enter_claims, own_claim, commit_claims, first_forged, told};
 
 use crate::checker::{Checker, ForgedClaim};
-use mb_base::{Duplicate, NoMemory, Ui};
+use mb_base::{Digest, Duplicate, NoMemory, Ui};
 use mb_msg::{
     BareCheckpoint, BareNewView, Body, ChangeBody, Checkpoint, Commit, Enter, Evidence, FloorCert,
     Floors, Join, Log, Message, NewViewBody, Open, Shown, StableCert, Stamped, ViewChange, bare_of,
+    commit_bare, prepare_bare,
 };
 use mb_parts::{EvidenceMember, FloorMember, StableMember};
 use std::alloc::Global;
@@ -188,18 +190,31 @@ impl<'a> Checker<'a> {
 
     // ---- in stamped messages, without their own
 
-    /// That the primary stamped the PREPARE that a COMMIT names.
-    fn in_commit(&self, alloc: Global, m: &Commit) -> Found
-        requires { FitsCommit self.now.shape.now m.now }
+    /// That the primary stamped the PREPARE that a COMMIT names, of which the batch has this digest.
+    fn named_by(&self, alloc: Global, m: &Commit, batch: &Digest) -> Found
+        requires { FitsCommit self.now.shape.now m.now × (batch.now ≡ body_digest batch_bytes m.now.body) }
         ensures { (s : Schedule) (w : World) → AsksIn s w self.now → IfOk result (λ o. o ≡ first_forged s w (named_claim s.shape m.now ∷ [])) }
     {
-        let bare = m.named_bare(alloc)?;
+        let bare = prepare_bare(alloc, m.view, m.pos, batch)?;
         let ui = Ui {
             host: self.shape.primary(m.view),
             counter: m.counter,
             cert: m.cert,
         };
         Ok(self.forged(&ui, bare.as_slice()))
+    }
+
+    /// A COMMIT, with its own certificate behind the one that it names. Its batch is hashed once.
+    fn in_commit(&self, alloc: Global, m: &Commit) -> Found
+        requires { FitsCommit self.now.shape.now m.now }
+        ensures { (s : Schedule) (w : World) → AsksIn s w self.now → IfOk result (λ o. o ≡ first_forged s w (commit_claims s.shape m.now)) }
+    {
+        let batch = m.body.batch_digest();
+        if let Some(found) = self.named_by(alloc, m, &batch)? {
+            return Ok(Some(found));
+        }
+        let bare = commit_bare(alloc, m.view, m.pos, m.counter, &m.cert, &batch)?;
+        Ok(self.forged(&m.ui, bare.as_slice()))
     }
 
     fn in_open(&self, alloc: Global, m: &Open) -> Found
@@ -301,7 +316,7 @@ impl<'a> Checker<'a> {
         ensures { (s : Schedule) (w : World) → AsksIn s w self.now → IfOk result (λ o. o ≡ first_forged s w (claims_in_shown s.shape entry.now)) }
     {
         match entry {
-            Shown::Commit(m) => self.in_commit(alloc, m),
+            Shown::Commit(m) => self.named_by(alloc, m, &m.body.batch_digest()),
             Shown::Open(m) => self.in_open(alloc, m),
             Shown::Join(m) => self.in_join(alloc, m),
             Shown::Prepare(_)
@@ -316,6 +331,9 @@ impl<'a> Checker<'a> {
         requires { FitsShown self.now.shape.now entry.now }
         ensures { (s : Schedule) (w : World) → AsksIn s w self.now → IfOk result (λ o. o ≡ first_forged s w (shown_claims s.shape entry.now)) }
     {
+        if let Shown::Commit(m) = entry {
+            return self.in_commit(alloc, m);
+        }
         if let Some(found) = self.inside_shown(alloc, entry)? {
             return Ok(Some(found));
         }
@@ -327,7 +345,7 @@ impl<'a> Checker<'a> {
         ensures { (s : Schedule) (w : World) → AsksIn s w self.now → IfOk result (λ o. o ≡ first_forged s w (claims_in_stamped s.shape m.now)) }
     {
         match m {
-            Stamped::Commit(m) => self.in_commit(alloc, m),
+            Stamped::Commit(m) => self.named_by(alloc, m, &m.body.batch_digest()),
             Stamped::ViewChange(m) => self.in_change(alloc, m),
             Stamped::NewView(m) => self.in_new_view(alloc, &m.body),
             Stamped::Open(m) => self.in_open(alloc, m),
@@ -340,6 +358,9 @@ impl<'a> Checker<'a> {
         requires { FitsStamped self.now.shape.now m.now }
         ensures { (s : Schedule) (w : World) → AsksIn s w self.now → IfOk result (λ o. o ≡ first_forged s w (stamped_claims s.shape m.now)) }
     {
+        if let Stamped::Commit(m) = m {
+            return self.in_commit(alloc, m);
+        }
         if let Some(found) = self.inside_stamped(alloc, m)? {
             return Ok(Some(found));
         }
@@ -381,9 +402,18 @@ impl<'a> Checker<'a> {
         requires { FitsFields self.now.shape.now message.now }
         ensures { (s : Schedule) (w : World) → AsksIn s w self.now → IfOk result (λ o. o ≡ option_map told (forged_claim s w message.now)) }
     {
-        if let Message::Log(m) = message {
-            return self.in_log(alloc, m);
+        match message {
+            Message::Log(m) => self.in_log(alloc, m),
+            Message::Commit(m) => self.in_commit(alloc, m),
+            _ => self.in_other(alloc, message),
         }
+    }
+
+    /// In a message that is no LOG, its own behind the others.
+    fn in_other(&self, alloc: Global, message: &Message) -> Found
+        requires { FitsFields self.now.shape.now message.now }
+        ensures { (s : Schedule) (w : World) → AsksIn s w self.now → IfOk result (λ o. o ≡ first_forged s w (inside_some (claims_in_stamped s.shape) (as_stamped message.now) ++ own_claim message.now)) }
+    {
         if let Some(found) = self.inside_message(alloc, message)? {
             return Ok(Some(found));
         }
@@ -396,7 +426,7 @@ impl<'a> Checker<'a> {
         ensures { (s : Schedule) (w : World) → AsksIn s w self.now → IfOk result (λ o. o ≡ first_forged s w (inside_some (claims_in_stamped s.shape) (as_stamped message.now))) }
     {
         match message {
-            Message::Commit(m) => self.in_commit(alloc, m),
+            Message::Commit(m) => self.named_by(alloc, m, &m.body.batch_digest()),
             Message::ViewChange(m) => self.in_change(alloc, m),
             Message::NewView(m) => self.in_new_view(alloc, &m.body),
             Message::Open(m) => self.in_open(alloc, m),

@@ -8,9 +8,9 @@ ghost use Rattle.mb_msg.specs.declared.message.Message.{Message as MessageData};
 ghost use Rattle.mb_msg.specs.Spelling.{spelling};
 ghost use Rattle.mb_theory.specs.World.{is_tagged_message};
 
-use mb_base::{Counter, Host, Items, NoMemory, Shape, put_u8};
+use crate::asked::Asked;
+use mb_base::{Counter, Duplicate, Host, Items, NoMemory, Shape, put_u8};
 use mb_msg::{Message, Request, encode};
-use mb_parts::Part;
 use std::alloc::Global;
 use std::collections::BTreeSet;
 
@@ -26,8 +26,8 @@ pub struct Ledger {
     shape: Shape,
     /// For each host the bytes that its USIG stamped, oldest first: those of a counter are at counter - 1.
     stamps: Vec<Vec<Items<u8>>>,
-    /// The requests that clients asked, as bytes.
-    asked: BTreeSet<Vec<u8>>,
+    /// The requests that clients asked.
+    asked: Asked,
     /// The REPLYs and wishes of correct hosts, as bytes.
     tagged: BTreeSet<Vec<u8>>,
     ghost stamps_len: { length stamps.items ≡ host_count shape },
@@ -59,7 +59,7 @@ impl Ledger {
         Ok(Ledger {
             shape,
             stamps: no_stamps(alloc, shape.n())?,
-            asked: BTreeSet::new(alloc),
+            asked: Asked::make(alloc),
             tagged: BTreeSet::new(alloc),
         })
     }
@@ -106,28 +106,17 @@ impl Ledger {
             → OnOk result (Keeps self.old.shape self.new stamps (request.now ∷ asked) tagged) }
         ensures shape { self.new.shape ≡ self.old.shape }
     {
-        let bytes = self.request_bytes(alloc, request)?;
-        let _new = self.asked.insert(bytes)?;
+        self.asked.note(alloc, request.duplicate(alloc)?)?;
         Ok(())
     }
 
-    fn request_bytes(&self, alloc: Global, request: &Request) -> Result<Vec<u8>, NoMemory>
-        requires { FitsRequest self.now.shape request.now }
-        ensures { IfOk result (λ v. v.items ≡ request_bytes request.now) }
-    {
-        let mut bytes = Vec::with_capacity(alloc, request.count(&self.shape, 0))?;
-        request.put(&self.shape, &mut bytes)?;
-        Ok(bytes)
-    }
-
     /// Whether a client asked for this.
-    pub(crate) fn was_asked(&self, alloc: Global, request: &Request) -> Result<bool, NoMemory>
+    pub(crate) fn was_asked(&self, request: &Request) -> bool
         requires { FitsRequest self.now.shape request.now }
         ensures { (s : ShapeRecord) (stamps : ℕ → List Bytes) (asked : List RequestRecord) (tagged : List MessageData) → Keeps s self.now stamps asked tagged
-            → IfOk result (λ b. b ≡ list_any (λ q. same_bytes (request_bytes q) (request_bytes request.now)) asked) }
+            → result ≡ list_any (λ q. same_bytes (request_bytes q) (request_bytes request.now)) asked }
     {
-        let bytes = self.request_bytes(alloc, request)?;
-        Ok(self.asked.contains(bytes.as_slice()))
+        self.asked.has(request)
     }
 
     /// A correct host sent this. Of a REPLY and of a wish it is kept.

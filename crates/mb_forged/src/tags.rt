@@ -30,7 +30,7 @@ impl<'a> Checker<'a> {
         requires { FitsRequest self.now.shape.now r.now }
         ensures { (s : Schedule) (w : World) → AsksIn s w self.now → IfOk result (λ b. b ≡ is_forged_request s w r.now) }
     {
-        if self.faulty_clients[usize::from(r.client)] || self.ledger.was_asked(alloc, r)? {
+        if self.faulty_clients[usize::from(r.client)] || self.ledger.was_asked(r) {
             return Ok(false);
         }
         let signed = signed_request(alloc, r.client, r.seq, r.op.as_slice())?;

@@ -1,16 +1,24 @@
-use Rattle.std.proofs.Common.{ap, subst, ◌∙◌, ◌∷◌, []}
-use Rattle.mb_base.specs.Shapes.{primary}
+use Rattle.std.proofs.Common.{sym, ap, subst, ◌∙◌, ◌∷◌, []}
+use Rattle.mb_base.specs.Shapes.{Bytes}
 use Rattle.mb_parts.specs.Fits.{FitsBare}
-use Rattle.mb_parts.specs.Bares.{Bare}
+use Rattle.mb_parts.specs.Bares.{Bare, bare_bytes}
 use Rattle.mb_parts.specs.Bares as bare
-use Rattle.mb_parts.specs.Spelling.{batch_bytes}
-use Rattle.mb_msg.specs.Bodies.{body_digest}
-use Rattle.mb_forged.specs.Checks.{first_forged}
-use Rattle.mb_forged.proofs.MemberLaws.{named_fits}
+use Rattle.mb_msg.specs.declared.stamped.Stamped.TheVariants as stamped
+use Rattle.mb_msg.specs.Stamps.{bare_of}
+use Rattle.mb_msg.proofs.Injective.{bare_fits}
+use Rattle.mb_theory.specs.Inside.{sender_claim, named_claim}
+use Rattle.mb_forged.proofs.Walks.{front_found, front_clean}
 use Rattle.mb_forged.proofs.checker.Checker.in_commit.Goals as goal
+
+pub returns-in-Some : goal.returns-in-Some
+returns-in-Some c s w a =
+    let m = c.args.m.now in
+    front_found s w (named_claim s.shape m ∷ []) (sender_claim m.ui (bare_of (stamped.Commit m)) ∷ []) c.in-Some.found (sym c.in-Some.is ∙ c.in_ok-found.ensures s w a)
 
 pub returns : goal.returns
 returns c s w a =
-    let says : Bare = bare.Prepare c.args.m.now.view c.args.m.now.pos (body_digest batch_bytes c.args.m.now.body) in
-    c.forged.ensures s w says a (subst (λ z. FitsBare z says) a.shape (named_fits c.args.self.now.shape.now c.args.m.now c.requires)) (c.as_slice.ensures.value ∙ c.in_ok-bare.ensures)
-    ∙ ap (λ h. first_forged s w (record { host = h; counter = c.args.m.now.counter; says = says; cert = c.args.m.now.cert } ∷ [])) (c.primary.ensures ∙ ap (λ z. primary z c.args.m.now.view) a.shape)
+    let m = c.args.m.now in
+    let says : Bare = bare_of (stamped.Commit m) in
+    front_clean s w (named_claim s.shape m ∷ []) (sender_claim m.ui says ∷ []) c.forged.result (sym c.in_default.is ∙ c.in_ok-found.ensures s w a)
+    (c.forged.ensures s w says a (subst (λ z. FitsBare z says) a.shape (bare_fits c.args.self.now.shape.now (stamped.Commit m) c.requires))
+    (c.as_slice.ensures.value ∙ c.in_ok-bare.ensures ∙ ap (λ (d : Bytes). bare_bytes (bare.Commit m.view m.pos m.counter m.cert d)) c.batch_digest-batch.ensures))

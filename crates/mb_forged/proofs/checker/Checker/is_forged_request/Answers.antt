@@ -5,7 +5,7 @@ use Rattle.mb_sched.specs.Limits.{is_faulty_client}
 use Rattle.mb_theory.specs.World.{stamps}
 use Rattle.mb_theory.specs.Forged.{was_asked}
 use Rattle.mb_forged.proofs.TagLaws.{faulty_clean, made_clean, verified_decides}
-use Rattle.mb_forged.proofs.checker.Checker.is_forged_request.Goals.{then-self-from-via-then-self-from, then-self-from-via-else-self-from+in_ok-was_asked+then-branch}
+use Rattle.mb_forged.proofs.checker.Checker.is_forged_request.Goals.{then-self-from-via-then-self-from, then-self-from-via-else-self-from+then-was_asked}
 use Rattle.mb_forged.proofs.checker.Checker.is_forged_request.Goals as goal
 
 pub returns-then-self-from : goal.returns-then-self-from
@@ -16,7 +16,7 @@ returns-then-self-from c s w a =
     let verified : Bool = same_bytes r.tag (request_tag s.secret r.client r.seq r.op) in
     elim c.then-self-from.branch [
       | then-self-from-via-then-self-from x ↦ faulty_clean verified (is_faulty_client s r.client) (was_asked s w r) (faulty ∙ x.if-self-from.true)
-      | then-self-from-via-else-self-from+in_ok-was_asked+then-branch x ↦ made_clean verified (is_faulty_client s r.client) (was_asked s w r) (sym (x.in_ok-was_asked.ensures s.shape (stamps s w) w.asked w.tagged a.ledger) ∙ x.if-branch.true)
+      | then-self-from-via-else-self-from+then-was_asked x ↦ made_clean verified (is_faulty_client s r.client) (was_asked s w r) (sym (x.was_asked.ensures s.shape (stamps s w) w.asked w.tagged a.ledger) ∙ x.if-was_asked.true)
     ]
 
 pub returns : goal.returns
@@ -28,4 +28,4 @@ returns c s w a =
     ∙ ap (λ t. same_bytes r.tag (signed_request t r.client c.as_slice-2.result.now)) a.secret_is
     ∙ ap (λ x. same_bytes r.tag (signed_request s.secret r.client x)) (c.as_slice-2.ensures.value ∙ c.in_ok-signed.ensures ∙ ap (request_text r.client r.seq) c.as_slice.ensures)
     ∙ verified_decides (same_bytes r.tag (request_tag s.secret r.client r.seq r.op)) (is_faulty_client s r.client) (was_asked s w r) (faulty ∙ c.if-self-from.false)
-    (sym (c.in_ok-was_asked.ensures s.shape (stamps s w) w.asked w.tagged a.ledger) ∙ c.if-branch.false)
+    (sym (c.was_asked.ensures s.shape (stamps s w) w.asked w.tagged a.ledger) ∙ c.if-was_asked.false)

@@ -1,9 +1,11 @@
-use Rattle.std.proofs.Common.{ap, ◌∙◌}
-use Rattle.std.specs.List.{list_any}
-use Rattle.mb_usig.specs.Tags.{same_bytes}
-use Rattle.mb_parts.specs.Spelling.{request_bytes}
+use Rattle.std.proofs.Common.{rules, subst, ◌∙◌}
+use Rattle.mb_base.specs.Shapes.{IsShape}
+use Rattle.mb_parts.specs.Fits.{FitsRequest}
+use Rattle.mb_forged.proofs.AskedLaws.{asked_alike}
 use Rattle.mb_forged.proofs.ledger.Ledger.was_asked.Goals as goal
 
 pub returns : goal.returns
 returns c s stamps asked tagged keeps =
-    c.contains.ensures ∙ keeps.asked c.as_slice.result.now ∙ ap (λ b. list_any (λ q. same_bytes (request_bytes q) b) asked) (c.as_slice.ensures.value ∙ c.in_ok-bytes.ensures)
+    let r = c.args.request.now in
+    let shape : IsShape c.args.self.now.shape = search rules in
+    c.has.ensures asked keeps.asked ∙ asked_alike s (subst IsShape keeps.shape shape) r (subst (λ z. FitsRequest z r) keeps.shape c.requires) asked keeps.fits
