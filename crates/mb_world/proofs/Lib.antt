@@ -3,6 +3,7 @@ pub mod LeftLaws
 pub mod FirstBytes
 pub mod MemberLaws
 pub mod AskerLaws
+pub mod MarkLaws
 pub mod WorldLaws
 pub mod AnswerLaws
 pub mod BatchLaws

@@ -32,6 +32,7 @@ use Rattle.mb_world.specs.Members.{AreOf, IsMember, IsStamper, RepresentsMembers
 use Rattle.mb_world.specs.Stamping.{IsContentStamp, IsRawStamp, trusted_of}
 use Rattle.mb_world.specs.Tables.{RepresentsWorld, Leaves}
 use Rattle.mb_world.proofs.MemberLaws.{stamp_written, of_set, within_more, within_set}
+use Rattle.mb_world.proofs.MarkLaws.{longer_stamps}
 use Rattle.mb_world.proofs.WorldLaws.{IsFixed, made_one, keeps_same, faulty_stamps_more}
 
 -- ---- identifiers
@@ -104,7 +105,8 @@ module _ {V : Type 0} {g : Ghosts V} (y : System V) where
   stamped_one v w x h k a old fixed faulty members askers ledger pool line refused events answer =
       let s : Schedule = y.schedule in
       let z : WorldState = record x { faulty_stamps = update x.faulty_stamps h (k ∷ x.faulty_stamps h) } in
-      made_one y v w x z k.message a old.rest fixed members (rw askers old.rest.askers)
+      made_one y v w x z k.message a old.rest fixed
+      (record { stamps = longer_stamps (stamps s x) (stamps s z) h (k.bare ∷ []) (faulty_stamps_more s x h k faulty); asked = ([], refl); tagged = ([], refl) }) members (rw askers old.rest.askers)
       (keeps_same s.shape w.ledger (update (stamps s x) h (k.bare ∷ stamps s x h)) (stamps s z) x.asked x.tagged (faulty_stamps_more s x h k faulty) ledger)
       refl refl refl pool line refused events answer
 

@@ -20,7 +20,7 @@ use Rattle.mb_msg.specs.declared.normal.Reply.{Reply}
 use Rattle.mb_msg.specs.Spelling.{spelling}
 use Rattle.mb_model.specs.Clients.{Asker}
 use Rattle.mb_model.specs.Histories.{History, stamped as all_stamped}
-use Rattle.mb_model.specs.Sending.{Letter}
+use Rattle.mb_model.specs.Sending.{Letter, Progress}
 use Rattle.mb_model.specs.Given.{Answer}
 use Rattle.mb_sched.specs.declared.schedule.Schedule.{Schedule}
 use Rattle.mb_sched.specs.Limits.{is_faulty, is_faulty_client}
@@ -32,6 +32,7 @@ use Rattle.mb_theory.specs.WorldSteps.{with_message}
 use Rattle.mb_msg.specs.Reading.{message_of}
 use Rattle.mb_forged.specs.declared.ledger.Ledger.{Ledger}
 use Rattle.mb_forged.specs.Ledgers.{Keeps, KeepsWorld}
+use Rattle.mb_forged.specs.Checks.{MadeMore}
 use Rattle.mb_world.specs.declared.seen.Seen.{Seen}
 use Rattle.mb_service.specs.declared.service.Service.{Ghosts}
 use Rattle.mb_world.specs.declared.world.World.{World}
@@ -44,21 +45,23 @@ use Rattle.mb_world.specs.Replies.{reply_or}
 use Rattle.mb_world.specs.Stamps.{bare_in, bares_of}
 use Rattle.mb_world.specs.Tables.{RepresentsRest, RepresentsWorld, Leaves}
 use Rattle.mb_world.proofs.ListLaws.{update_here, update_there}
+use Rattle.mb_world.proofs.MarkLaws.{GoesOn, goes_same, goes_still, longer_stamps, tagged_more, still_clean}
 
 -- ---- what stays
 
--- What never changes is as it was.
+-- What never changes is as it was, and the marks are.
 pub record IsFixed {V : Type 0} {g : Ghosts V} (v w : World V g) : Type 0 where
   pub shape : w.shape ≡ v.shape
   pub usig : w.usig ≡ v.usig
   pub pens : w.pens ≡ v.pens
   pub hosts : w.faulty_hosts ≡ v.faulty_hosts
   pub clients : w.faulty_clients ≡ v.faulty_clients
+  pub clean : w.clean ≡ v.clean
 
--- the tables of another world, for which what never changes is as it was
-pub rest_of : {V : Type 0} {g : Ghosts V} (s : Schedule) (v w : World V g) (x z : WorldState) → RepresentsRest s v x → IsFixed v w → RepresentsAskers s w.askers.items z.askers → KeepsWorld s w.ledger z
+-- the tables of another world that goes on from the first, for which what never changes is as it was
+pub rest_of : {V : Type 0} {g : Ghosts V} (s : Schedule) (v w : World V g) (x z : WorldState) → RepresentsRest s v x → IsFixed v w → GoesOn s x z → RepresentsAskers s w.askers.items z.askers → KeepsWorld s w.ledger z
     → w.pool.items ≡ z.pool → w.line.items ≡ z.line → w.refused.items ≡ refusals z.seen → w.events ≡ length z.seen → RepresentsRest s w z
-rest_of s v w x z old fixed askers ledger pool line refused events = record {
+rest_of s v w x z old fixed on askers ledger pool line refused events = record {
   shape = fixed.shape ∙ old.shape;
   verifier = fixed.usig ∙ old.verifier;
   pens = rw fixed.pens old.pens;
@@ -67,34 +70,35 @@ rest_of s v w x z old fixed askers ledger pool line refused events = record {
   askers = askers;
   ledger = ledger;
   pool = pool;
+  clean = rw fixed.clean (still_clean s x z v.clean.items on old.clean);
   line = line;
   refused = refused;
   events = events;
 }
 
 same_fixed : {V : Type 0} {g : Ghosts V} (v : World V g) → IsFixed v v
-same_fixed v = record { shape = refl; usig = refl; pens = refl; hosts = refl; clients = refl }
+same_fixed v = record { shape = refl; usig = refl; pens = refl; hosts = refl; clients = refl; clean = refl }
 
 -- The same tables stand for another world that has the same parts.
-pub rest_same : {V : Type 0} {g : Ghosts V} (s : Schedule) (v : World V g) (x z : WorldState) → RepresentsRest s v x → x.askers ≡ z.askers → KeepsWorld s v.ledger z → x.pool ≡ z.pool → x.line ≡ z.line → x.seen ≡ z.seen → RepresentsRest s v z
-rest_same s v x z old askers ledger pool line seen =
-    rest_of s v v x z old (same_fixed v) (subst (λ (a : ℕ → Asker). RepresentsAskers s v.askers.items a) askers old.askers) ledger (old.pool ∙ pool) (old.line ∙ line)
+pub rest_same : {V : Type 0} {g : Ghosts V} (s : Schedule) (v : World V g) (x z : WorldState) → RepresentsRest s v x → GoesOn s x z → x.askers ≡ z.askers → KeepsWorld s v.ledger z → x.pool ≡ z.pool → x.line ≡ z.line → x.seen ≡ z.seen → RepresentsRest s v z
+rest_same s v x z old on askers ledger pool line seen =
+    rest_of s v v x z old (same_fixed v) on (subst (λ (a : ℕ → Asker). RepresentsAskers s v.askers.items a) askers old.askers) ledger (old.pool ∙ pool) (old.line ∙ line)
     (old.refused ∙ ap refusals seen) (old.events ∙ ap length seen)
 
 module _ {V : Type 0} {g : Ghosts V} (y : System V) where
   -- What the host of these bytes is told of hashed strings and of what it was given is no table.
   pub also_heard : (v : World V g) (x : WorldState) (bytes : Bytes) → RepresentsWorld y v x → RepresentsWorld y v (heard y.schedule bytes x)
-  also_heard v x bytes old = record { members = old.members; rest = rest_same y.schedule v x (heard y.schedule bytes x) old.rest refl old.rest.ledger refl refl refl }
+  also_heard v x bytes old = record { members = old.members; rest = rest_same y.schedule v x (heard y.schedule bytes x) old.rest (goes_same y.schedule x (heard y.schedule bytes x) (λ h. refl) refl refl refl) refl old.rest.ledger refl refl refl }
 
   pub also_arrived : (v : World V g) (x : WorldState) (h : ℕ) (bytes : Bytes) → RepresentsWorld y v x → RepresentsWorld y v (arrives y.schedule h bytes x)
-  also_arrived v x h bytes old = record { members = old.members; rest = rest_same y.schedule v x (arrives y.schedule h bytes x) old.rest refl old.rest.ledger refl refl refl }
+  also_arrived v x h bytes old = record { members = old.members; rest = rest_same y.schedule v x (arrives y.schedule h bytes x) old.rest (goes_same y.schedule x (arrives y.schedule h bytes x) (λ g. refl) refl refl refl) refl old.rest.ledger refl refl refl }
 
   -- Whether an event runs is no table.
   pub unchanged : (v w : World V g) (x : WorldState) → RepresentsWorld y v x → IsFixed v w → w.members ≡ v.members → w.askers ≡ v.askers → w.ledger ≡ v.ledger → w.pool ≡ v.pool → w.line ≡ v.line → w.refused ≡ v.refused
       → w.events ≡ v.events → RepresentsWorld y w x
   unchanged v w x old fixed members askers ledger pool line refused events = record {
     members = rw members old.members;
-    rest = rest_of y.schedule v w x x old.rest fixed (rw askers old.rest.askers) (rw ledger old.rest.ledger) (rw pool old.rest.pool) (rw line old.rest.line) (rw refused old.rest.refused) (events ∙ old.rest.events);
+    rest = rest_of y.schedule v w x x old.rest fixed (goes_still y.schedule x) (rw askers old.rest.askers) (rw ledger old.rest.ledger) (rw pool old.rest.pool) (rw line old.rest.line) (rw refused old.rest.refused) (events ∙ old.rest.events);
   }
 
   -- the same from an earlier world with the same answers
@@ -107,6 +111,10 @@ module _ {V : Type 0} {g : Ghosts V} (y : System V) where
 pub if_ok_more : {T E : Type 0} (r : Result T E) (P Q : T → Type 0) → IfOk r P → ((a : T) → P a → Q a) → IfOk r Q
 if_ok_more (Ok x) P Q h f = f x h
 if_ok_more (Err e) P Q h f = tt
+
+pub on_ok_more : {T E : Type 0} (r : Result T E) (P Q : Type 0) → OnOk r P → (P → Q) → OnOk r Q
+on_ok_more (Ok x) P Q h f = f h
+on_ok_more (Err e) P Q h f = tt
 
 -- both, where a call made it so
 pub if_both : {T E : Type 0} (r : Result T E) (P : Type 0) (Q R : T → Type 0) → OnOk r P → IfOk r Q → ((a : T) → P → Q a → R a) → IfOk r R
@@ -122,7 +130,7 @@ module _ {V : Type 0} {g : Ghosts V} (y : System V) where
   noted v w x a old fixed members askers ledger pool line events refused = record {
     stands = record {
       members = rw members old.members;
-      rest = rest_of y.schedule v w x (answered (as_answer a) x) old.rest fixed (rw askers old.rest.askers) (rw ledger old.rest.ledger) (rw pool old.rest.pool) (rw line old.rest.line)
+      rest = rest_of y.schedule v w x (answered (as_answer a) x) old.rest fixed (goes_same y.schedule x (answered (as_answer a) x) (λ h. refl) refl refl refl) (rw askers old.rest.askers) (rw ledger old.rest.ledger) (rw pool old.rest.pool) (rw line old.rest.line)
           (refused ∙ rw (old.rest.refused, old.rest.events) refl) (omega (arith, events, old.rest.events));
     };
     answered = refl;
@@ -130,15 +138,16 @@ module _ {V : Type 0} {g : Ghosts V} (y : System V) where
 
   -- ---- one more message
 
-  pub made_one : (v w : World V g) (x z : WorldState) (bytes : Bytes) (a : Seen) → RepresentsRest y.schedule v x → IsFixed v w
+  pub made_one : (v w : World V g) (x z : WorldState) (bytes : Bytes) (a : Seen) → RepresentsRest y.schedule v x → IsFixed v w → MadeMore y.schedule x z
       → RepresentsMembers y w.members.items z.histories z.faulty_stamps → RepresentsAskers y.schedule w.askers.items z.askers → KeepsWorld y.schedule w.ledger z → z.pool ≡ x.pool → z.line ≡ x.line → z.seen ≡ x.seen
       → w.pool.items ≡ v.pool.items ++ bytes ∷ [] → w.line ≡ v.line → w.refused ≡ v.refused → w.events ≡ v.events + 1 → as_answer a ≡ Made (length v.pool.items + 1) 1
       → Leaves y w (as_answer a) x (made y.schedule bytes z)
   unfolding refusals
-  made_one v w x z bytes a old fixed members askers ledger same_pool same_line same_seen pool line refused events answer = record {
+  made_one v w x z bytes a old fixed more members askers ledger same_pool same_line same_seen pool line refused events answer = record {
     stands = record {
       members = members;
-      rest = rest_of y.schedule v w x (made y.schedule bytes z) old fixed askers ledger
+      rest = rest_of y.schedule v w x (made y.schedule bytes z) old fixed
+          (record { made = record { stamps = more.stamps; asked = more.asked; tagged = more.tagged }; pool = (bytes ∷ [], ap (λ (p : List Bytes). p ++ bytes ∷ []) same_pool) }) askers ledger
           (pool ∙ rw (old.pool, same_pool) refl) (rw line old.line ∙ sym same_line)
           (rw refused old.refused ∙ (ap refusals (sym same_seen) ∙ sym (append-nil (refusals z.seen)))) (events ∙ (ap (λ (n : ℕ). n + 1) (old.events ∙ ap length (sym same_seen)) ∙ plus_one (length z.seen)));
     };
@@ -192,6 +201,19 @@ sent_bytes : (letters : List Letter) → map (λ (m : Sent). m.bytes) (map as_se
 sent_bytes [] = refl
 sent_bytes (l ∷ ls) = ap (λ (bs : List Bytes). spelling l.says ∷ bs) (sent_bytes ls)
 
+-- The world where a host has got so far in its step goes on from the one before.
+went_partway : (s : Schedule) (x : WorldState) (h : ℕ) (left : Progress) → is_faulty s h ≡ false → bares_of left.history ≡ reverse (filter_map bare_in left.sent) ++ bares_of (x.histories h) → GoesOn s x (partway s h left x)
+went_partway s x h left correct longer =
+    let more : List Bytes = reverse (filter_map bare_in left.sent) in
+    record {
+      made = record {
+        stamps = longer_stamps (stamps s x) (stamps s (record x { histories = update x.histories h left.history })) h more (correct_stamps s x h left.history more correct longer);
+        asked = ([], refl);
+        tagged = tagged_more left.sent x.tagged;
+      };
+      pool = (map (λ (letter : Letter). spelling letter.says) left.sent, refl);
+    }
+
 -- the tables once a step's messages and batches are kept
 pub partway_stands : {V : Type 0} {g : Ghosts V} (y : System V) (v w : World V g) (x : WorldState) (h : ℕ) (step : Step) (a : Answer) → RepresentsMembers y v.members.items (update x.histories h a.left.history) x.faulty_stamps → RepresentsRest y.schedule v x
     → IsStep step a → IsFixed v w → w.members ≡ v.members → w.askers ≡ v.askers
@@ -203,7 +225,7 @@ partway_stands y v w x h step a members old is fixed same_members same_askers le
     let s : Schedule = y.schedule in
     record {
       members = rw same_members members;
-      rest = rest_of s v w x (partway s h a.left x) old fixed (rw same_askers old.askers)
+      rest = rest_of s v w x (partway s h a.left x) old fixed (went_partway s x h a.left correct longer) (rw same_askers old.askers)
           (keeps_same s.shape w.ledger (update (stamps s x) h (reverse (filter_map bare_in a.left.sent) ++ stamps s x h)) (stamps s (record x { histories = update x.histories h a.left.history })) x.asked (fold with_tagged x.tagged a.left.sent)
           (correct_stamps s x h a.left.history (reverse (filter_map bare_in a.left.sent)) correct longer) ledger)
           (pool ∙ rw (old.pool, is.sent) (ap (λ (l : List Bytes). x.pool ++ l) (sent_bytes a.left.sent))) (line ∙ rw (old.line, is.executed) refl) (rw refused old.refused) (events ∙ old.events);
@@ -258,7 +280,7 @@ module _ {V : Type 0} {g : Ghosts V} (y : System V) where
       → w.pool ≡ v.pool → w.line ≡ v.line → w.refused ≡ v.refused → w.events ≡ v.events → RepresentsWorld y w (record (heard y.schedule bytes x) { askers = sides })
   side_stands v w x bytes sides old fixed members askers ledger pool line refused events = record {
     members = rw members old.members;
-    rest = rest_of y.schedule v w x (record (heard y.schedule bytes x) { askers = sides }) old.rest fixed askers (rw ledger old.rest.ledger) (rw pool old.rest.pool) (rw line old.rest.line) (rw refused old.rest.refused) (events ∙ old.rest.events);
+    rest = rest_of y.schedule v w x (record (heard y.schedule bytes x) { askers = sides }) old.rest fixed (goes_same y.schedule x (record (heard y.schedule bytes x) { askers = sides }) (λ h. refl) refl refl refl) askers (rw ledger old.rest.ledger) (rw pool old.rest.pool) (rw line old.rest.line) (rw refused old.rest.refused) (events ∙ old.rest.events);
   }
 
   -- ---- what comes to a host or a client

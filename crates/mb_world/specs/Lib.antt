@@ -2,6 +2,7 @@ pub mod Hosts
 pub mod Members
 pub mod Askers
 pub mod Answers
+pub mod Marks
 pub mod Tables
 pub mod Contents
 pub mod Stamps

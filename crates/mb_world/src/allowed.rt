@@ -4,6 +4,7 @@ ghost use Rattle.std.specs.Prelude.{◌≡◌, not};
 ghost use Rattle.mb_theory.specs.WorldEvents.{culprit};
 ghost use Rattle.mb_world.specs.Contents.{stamping_host};
 
+use crate::marks::is_marked;
 use crate::members::Member;
 use crate::seen::WorldStop;
 use crate::world::World;
@@ -142,7 +143,7 @@ impl<V: Service + Drop> World<V> {
     // ---- names and numbers
 
     /// Whether it is a faulty host or client.
-    fn is_faulty(&self, name: Name) -> bool
+    pub(crate) fn is_faulty(&self, name: Name) -> bool
         requires { NameFits self.now.shape name }
         ensures { (y : System V) (x : WorldState) → RepresentsWorld y self.now x → result ≡ is_faulty_name y.schedule name }
     {
@@ -356,6 +357,9 @@ impl<V: Service + Drop> World<V> {
         ensures none { IfOk result (λ o. o ≡ None) }
         ensures runs { (result ≡ Err stop.Halted) → ⊥ }
     {
+        if is_marked(self.clean.as_slice(), number) {
+            return Ok(None);
+        }
         match self.message(number) {
             Some(bytes) => self.check_bytes(alloc, name, bytes.as_slice()),
             None => Ok(None),

@@ -15,14 +15,15 @@ use mb_service::Service;
 use std::alloc::Global;
 
 impl<V: Service + Drop> World<V> {
-    ghost use Rattle.std.specs.Prelude.{◌≡◌, ◌<◌, ◌+◌, ◌-◌, ◌^◌, ◌++◌, true, false, is_some, reverse, filter_map, IfOk, OnOk};
+    ghost use Rattle.std.specs.Prelude.{◌≡◌, ◌<◌, ◌+◌, ◌-◌, ◌^◌, ◌++◌, true, false, None, reverse, filter_map, IfOk, OnOk};
     ghost use Rattle.mb_base.specs.Shapes.{client_count, host_count};
-    ghost use Rattle.mb_sched.specs.declared.schedule.WorldEvent.TheVariants.{Raw};
+    ghost use Rattle.mb_sched.specs.declared.schedule.WorldEvent.TheVariants.{Give, Take, Raw};
     ghost use Rattle.mb_model.specs.Given.{Answer};
     ghost use Rattle.mb_core.specs.Represents.{IsStep};
     ghost use Rattle.mb_sched.specs.Limits.{is_faulty, NameFits};
     ghost use Rattle.mb_theory.specs.World.{World as WorldState, System, lost_or, steps, stepped, numbered, answered, update, give_host, give_client, signal};
     ghost use Rattle.mb_theory.specs.WorldSteps.{with_message, happens};
+    ghost use Rattle.mb_theory.specs.Stops.{stop_of};
     ghost use Rattle.mb_world.specs.Hosts.{IsSystem};
     ghost use Rattle.mb_world.specs.Members.{AllRun, RepresentsMembers};
     ghost use Rattle.mb_world.specs.Stamps.{FitsWhereStamped, bare_in, bares_of};
@@ -139,7 +140,7 @@ impl<V: Service + Drop> World<V> {
         requires runs { AllRun self.old.members.items }
         requires has { HasWorld V.is_state V.after V.answer V.part_of V.restored self.old }
         requires halted { self.old.halted ≡ true }
-        requires allowed { (y : System V) (x : WorldState) → RepresentsWorld y self.old x → is_some (numbered x.pool number) ≡ true }
+        requires allowed { (y : System V) (x : WorldState) → RepresentsWorld y self.old x → stop_of y.schedule x (Give number host) ≡ None }
         ensures stands { (y : System V) (x : WorldState) → IsSystem V.is_state V.after V.answer V.part_of V.restored y → RepresentsWorld y self.old x
             → IfOk result (λ a. Leaves y self.new (as_answer a) x (with_message (give_host y host) (numbered x.pool number) x)) }
         ensures runs { OnOk result (AllRun self.new.members.items) }
@@ -150,6 +151,7 @@ impl<V: Service + Drop> World<V> {
         match self.message(number) {
             Some(bytes) => {
                 let bytes = bytes.duplicate(alloc)?;
+                self.mark_clean(Name::Host(host), number)?;
                 self.give_host(alloc, host, bytes)
             }
             None => self.note(alloc, Seen::Lost),
@@ -185,7 +187,7 @@ impl<V: Service + Drop> World<V> {
         requires client { client < client_count self.old.shape }
         requires few { self.old.events < 2 ^ 64 - 1 }
         requires halted { self.old.halted ≡ true }
-        requires allowed { (y : System V) (x : WorldState) → RepresentsWorld y self.old x → is_some (numbered x.pool number) ≡ true }
+        requires allowed { (y : System V) (x : WorldState) → RepresentsWorld y self.old x → stop_of y.schedule x (Take number client) ≡ None }
         ensures stands { (y : System V) (x : WorldState) → RepresentsWorld y self.old x
             → IfOk result (λ a. Leaves y self.new (as_answer a) x (with_message (give_client y.schedule client) (numbered x.pool number) x)) }
         ensures members { self.new.members ≡ self.old.members }
@@ -196,6 +198,7 @@ impl<V: Service + Drop> World<V> {
         match self.message(number) {
             Some(bytes) => {
                 let bytes = bytes.duplicate(alloc)?;
+                self.mark_clean(Name::Client(client), number)?;
                 self.give_client(alloc, client, bytes.as_slice())
             }
             None => self.note(alloc, Seen::Lost),

@@ -6,6 +6,7 @@
 //! | `askers` | each client's side |
 //! | `ledger` | what was stamped, asked and tagged, by one look-up each |
 //! | `pool` | the message of a number |
+//! | `clean` | whether nothing is forged in the message of a number, where it was looked through |
 //! | `line` | the one list of executed batches |
 //! | `refused` | the events that a host or a client refused |
 //!
@@ -18,6 +19,7 @@ mod clients;
 mod effects;
 mod faulty;
 mod lines;
+mod marks;
 mod members;
 mod refusals;
 mod replies;

@@ -35,6 +35,8 @@ pub struct World<V: Service> {
     pub(crate) ledger: Ledger,
     /// The messages in the order in which they were made. Message 1 is the first.
     pub(crate) pool: Vec<Items<u8>>,
+    /// By its number, whether a message was looked through and nothing in it is forged. What was made stays made, so this stays so.
+    pub(crate) clean: Vec<bool>,
     /// The one list of executed batches.
     pub(crate) line: Vec<Slot>,
     pub(crate) refused: Vec<RefusedLine>,
@@ -99,6 +101,7 @@ impl<V: Service + Drop> World<V> {
             askers: askers(alloc, shape, secret)?,
             ledger: Ledger::make(alloc, shape)?,
             pool: Vec::new(alloc),
+            clean: Vec::new(alloc),
             line: Vec::new(alloc),
             refused: Vec::new(alloc),
             events: 0,

@@ -1,10 +1,18 @@
+use Rattle.std.proofs.Common.{sym, ◌∙◌}
+use Rattle.std.specs.Prelude.{slice_get}
 use Rattle.mb_theory.specs.WorldEvents.{is_faulty_name}
+use Rattle.mb_world.proofs.MarkLaws.{found_clean, mark_there}
 use Rattle.mb_world.proofs.AllowedLaws.{found_at, found_absent}
 use Rattle.mb_world.proofs.world.World.check_message.Goals as goal
 
+pub returns-then-is_marked-clause-stops : goal.returns-then-is_marked-clause-stops
+returns-then-is_marked-clause-stops g c = λ y x h.
+    let marked = rw c.as_slice.ensures.value at (sym c.is_marked.ensures ∙ c.if-is_marked.true) in
+    found_clean y.schedule x (is_faulty_name y.schedule c.args.name) c.args.number (h.rest.clean c.args.number (mark_there (slice_get c.args.self.now.clean.items c.args.number) marked))
+
 pub returns-in-Some-clause-stops : goal.returns-in-Some-clause-stops
 returns-in-Some-clause-stops g c = λ y x h.
-    found_at y.schedule x (is_faulty_name y.schedule c.args.name) c.args.number c.args.self.now.pool.items c.in-Some.bytes.now c.as_slice.result.now c.check_bytes.result h.rest.pool c.in-Some.ensures c.as_slice.ensures (c.check_bytes.ensures.stops y x h)
+    found_at y.schedule x (is_faulty_name y.schedule c.args.name) c.args.number c.args.self.now.pool.items c.in-Some.bytes.now c.as_slice-in-Some.result.now c.check_bytes.result h.rest.pool c.in-Some.ensures c.as_slice-in-Some.ensures (c.check_bytes.ensures.stops y x h)
 
 pub returns-in-None-clause-stops : goal.returns-in-None-clause-stops
 returns-in-None-clause-stops g c = λ y x h. found_absent y.schedule x (is_faulty_name y.schedule c.args.name) c.args.number c.args.self.now.pool.items h.rest.pool c.in-None.ensures

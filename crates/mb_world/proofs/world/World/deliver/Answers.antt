@@ -2,16 +2,15 @@ use Rattle.std.proofs.Common.{◌≡◌, None, subst}
 use Rattle.mb_sched.specs.declared.schedule.WorldEvent.{WorldEvent}
 use Rattle.mb_theory.specs.WorldSteps.{happens}
 use Rattle.mb_theory.specs.Stops.{stop_of}
-use Rattle.mb_world.proofs.StopLaws.{given_there, taken_there}
 use Rattle.mb_world.proofs.world.World.deliver.Goals as goal
 
 pub give-requires-clause-allowed : goal.give-requires-clause-allowed
 give-requires-clause-allowed g c = λ y x h.
-    given_there y.schedule x c.in-Give.message c.in-Give.host (subst (λ (e : WorldEvent). stop_of y.schedule x e ≡ None) c.in-Give.is (c.requires.there y x h))
+    subst (λ (e : WorldEvent). stop_of y.schedule x e ≡ None) c.in-Give.is (c.requires.there y x h)
 
 pub take-requires-clause-allowed : goal.take-requires-clause-allowed
 take-requires-clause-allowed g c = λ y x h.
-    taken_there y.schedule x c.in-Take.message c.in-Take.client (subst (λ (e : WorldEvent). stop_of y.schedule x e ≡ None) c.in-Take.is (c.requires.there y x h))
+    subst (λ (e : WorldEvent). stop_of y.schedule x e ≡ None) c.in-Take.is (c.requires.there y x h)
 
 pub returns-in-Ask-clause-stands : goal.returns-in-Ask-clause-stands
 unfolding happens

@@ -1,20 +1,30 @@
 use Rattle.std.proofs.Common.{◌≡◌, ◌∙◌, List, Some, None, sym, ap}
 use Rattle.mb_base.specs.Shapes.{Bytes}
 use Rattle.mb_theory.specs.World.{give_host, numbered}
+use Rattle.mb_world.proofs.StopLaws.{given_there}
+use Rattle.mb_world.proofs.MarkLaws.{given_clean}
 use Rattle.mb_world.proofs.WorldLaws.{message_there}
 use Rattle.mb_world.proofs.world.World.give.Goals as goal
 
-pub returns-in_ok-bytes-in-Some-clause-stands : goal.returns-in_ok-bytes-in-Some-clause-stands
-returns-in_ok-bytes-in-Some-clause-stands g c = λ y x is h.
+pub mark_clean-requires-clause-clean : goal.mark_clean-requires-clause-clean
+mark_clean-requires-clause-clean g c = λ y x h correct. given_clean y.schedule x c.args.number c.args.host (c.requires.allowed y x h) correct
+
+pub give_host-requires-clause-has : goal.give_host-requires-clause-has
+give_host-requires-clause-has g c =
+    let has = c.requires.has in
+    record { system = has.system; state = has.state; is = has.is; represents = c.in_ok-mark_clean-in-Some.ensures.stands has.system has.state has.represents }
+
+pub returns-in_ok-mark_clean-in-Some-clause-stands : goal.returns-in_ok-mark_clean-in-Some-clause-stands
+returns-in_ok-mark_clean-in-Some-clause-stands g c = λ y x is h.
     let n = c.args.number in
     let read = c.in-Some.ensures in
     let copied = c.in_ok-bytes-in-Some.ensures in
     let there : numbered x.pool n ≡ Some c.in_ok-bytes-in-Some.bytes =
     ap (λ (p : List Bytes). numbered p n) (sym h.rest.pool) ∙ (sym read ∙ ap Some (sym copied)) in
-    message_there y c.give_host.new.self x (give_host y c.args.host) (numbered x.pool n) c.in_ok-bytes-in-Some.bytes c.give_host.result there (c.give_host.ensures.stands y x is h)
+    message_there y c.give_host.new.self x (give_host y c.args.host) (numbered x.pool n) c.in_ok-bytes-in-Some.bytes c.give_host.result there (c.give_host.ensures.stands y x is (c.in_ok-mark_clean-in-Some.ensures.stands y x h))
 
 pub returns-in-None-clause-stands : goal.returns-in-None-clause-stands
 returns-in-None-clause-stands g c = λ y x is h.
     let none : None ≡ numbered x.pool c.args.number = c.in-None.ensures ∙ ap (λ (p : List Bytes). numbered p c.args.number) h.rest.pool in
-    let gone = rw (← none) at (c.requires.allowed y x h) in
+    let gone = rw (← none) at (given_there y.schedule x c.args.number c.args.host (c.requires.allowed y x h)) in
     absurd cc

@@ -2,6 +2,8 @@ use Rattle.std.proofs.Common.{◌∙◌, [], refl, sym, subst}
 use Rattle.mb_base.specs.declared.shape.Shape.{Shape}
 use Rattle.mb_forged.specs.Ledgers.{Keeps}
 use Rattle.mb_theory.specs.Refusals.{refusals}
+use Rattle.mb_theory.specs.World.{nothing_happened}
+use Rattle.mb_world.proofs.MarkLaws.{none_marked}
 use Rattle.mb_world.proofs.WorldLaws.{nothing_kept}
 use Rattle.mb_world.proofs.world.World.make.Goals as goal
 
@@ -21,8 +23,9 @@ returns-clause-stands g c = λ y is shape secret hosts clients services.
         askers = c.in_ok-askers.ensures.stands s shape secret;
         ledger = nothing_kept s ledger (subst (λ (z : Shape). Keeps z ledger (λ h. []) [] []) (sym shape) c.in_ok-make.ensures);
         pool = c.new-2.ensures.items;
-        line = c.new-3.ensures.items;
-        refused = c.new-4.ensures.items;
+        clean = none_marked s nothing_happened _ c.new-3.ensures.items;
+        line = c.new-4.ensures.items;
+        refused = c.new-5.ensures.items;
         events = refl;
       };
     }

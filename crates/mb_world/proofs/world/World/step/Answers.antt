@@ -3,6 +3,7 @@ use Rattle.mb_base.specs.declared.shape.Shape.{Shape}
 use Rattle.mb_base.specs.Shapes.{host_count}
 use Rattle.mb_theory.specs.World.{self_of}
 use Rattle.mb_world.specs.Members.{answer_at}
+use Rattle.mb_world.proofs.MarkLaws.{goes_still}
 use Rattle.mb_world.proofs.WorldLaws.{rest_of, all_rest}
 use Rattle.mb_world.proofs.StampedLaws.{stamped_is_sent}
 use Rattle.mb_world.proofs.world.World.step.Goals as goal
@@ -37,7 +38,7 @@ returns-in-Some-clause-stands g c = λ y x is h.
     let told = rw c.in-Some.is at (c.in_ok-step.ensures.stands y x.histories x.faulty_stamps is there h.members) in
     rw told.correct
     (c.stepped.ensures.stands y x (answer_at y host c.args.event.now x.histories) told.members
-    (rest_of y.schedule v _ x x h.rest (record { shape = refl; usig = refl; pens = refl; hosts = refl; clients = refl }) h.rest.askers h.rest.ledger h.rest.pool h.rest.line h.rest.refused h.rest.events)
+    (rest_of y.schedule v _ x x h.rest (record { shape = refl; usig = refl; pens = refl; hosts = refl; clients = refl; clean = refl }) (goes_still y.schedule x) h.rest.askers h.rest.ledger h.rest.pool h.rest.line h.rest.refused h.rest.events)
     told.step told.fit told.correct (stamped_is_sent (self_of y host) (x.histories host) c.args.event.now))
 
 pub returns-in-None-clause-stands : goal.returns-in-None-clause-stands
@@ -49,5 +50,5 @@ returns-in-None-clause-stands g c = λ y x is h.
     rw told.0
     (c.note.ensures.stands y x (record {
       members = told.1;
-      rest = rest_of y.schedule v _ x x h.rest (record { shape = refl; usig = refl; pens = refl; hosts = refl; clients = refl }) h.rest.askers h.rest.ledger h.rest.pool h.rest.line h.rest.refused h.rest.events;
+      rest = rest_of y.schedule v _ x x h.rest (record { shape = refl; usig = refl; pens = refl; hosts = refl; clients = refl; clean = refl }) (goes_still y.schedule x) h.rest.askers h.rest.ledger h.rest.pool h.rest.line h.rest.refused h.rest.events;
     }))

@@ -1,0 +1,27 @@
+use Rattle.std.proofs.Common.{sym, ◌∙◌}
+use Rattle.mb_world.proofs.MarkLaws.{marked_more}
+use Rattle.mb_world.proofs.WorldLaws.{on_ok_more}
+use Rattle.mb_world.proofs.world.World.mark_clean.Goals as goal
+
+pub returns-clause-stands : goal.returns-clause-stands
+returns-clause-stands g c = λ y x h.
+    let old = h.rest in
+    let is = c.requires.clean y x h (sym (c.is_faulty.ensures y x h) ∙ c.if-is_faulty.false) in
+    on_ok_more c.mark.result _ _ c.mark.ensures
+    (λ one. record {
+      members = h.members;
+      rest = record {
+        shape = old.shape;
+        verifier = old.verifier;
+        pens = old.pens;
+        hosts = old.hosts;
+        clients = old.clients;
+        askers = old.askers;
+        ledger = old.ledger;
+        pool = old.pool;
+        clean = marked_more y.schedule x c.args.self.now.clean.items _ c.args.number one is old.clean;
+        line = old.line;
+        refused = old.refused;
+        events = old.events;
+      };
+    })

@@ -1,0 +1,52 @@
+//! The messages in which nothing is forged: each is looked through until it is found so.
+
+ghost use Rattle.std.specs.Prelude.{◌≡◌, ◌⊎◌, ℕ, Some, true, false, unwrap_or, slice_get, OnOk};
+
+use crate::world::World;
+use mb_base::NoMemory;
+use mb_sched::Name;
+use mb_service::Service;
+
+/// Whether a number has a mark.
+pub(crate) fn is_marked(marks: &[bool], number: u64) -> bool
+    ensures { result ≡ unwrap_or (slice_get marks.now number) false }
+{
+    number < marks.len() as u64 && marks[number as usize]
+}
+
+/// Of so many numbers one has a mark from now on.
+fn mark(marks: &mut Vec<bool>, count: usize, number: u64) -> Result<(), NoMemory>
+    ensures { OnOk result ((n : ℕ) → slice_get marks.new.items n ≡ Some true → (n ≡ number) ⊎ (slice_get marks.old.items n ≡ Some true)) }
+{
+    marks.resize(count, false)?;
+    if number < marks.len() as u64 {
+        marks[number as usize] = true;
+    }
+    Ok(())
+}
+
+impl<V: Service + Drop> World<V> {
+    ghost use Rattle.std.specs.Prelude.{◌≡◌, false, OnOk};
+    ghost use Rattle.mb_sched.specs.Limits.{NameFits};
+    ghost use Rattle.mb_theory.specs.World.{World as WorldState, System};
+    ghost use Rattle.mb_theory.specs.WorldEvents.{is_faulty_name};
+    ghost use Rattle.mb_world.specs.Marks.{IsCleanAt};
+    ghost use Rattle.mb_world.specs.Tables.{RepresentsWorld};
+
+    /// A message that is delivered needs no looking through again. To someone faulty it was delivered unseen.
+    pub(crate) fn mark_clean(&mut self, name: Name, number: u64) -> Result<(), NoMemory>
+        requires name { NameFits self.old.shape name }
+        requires clean { (y : System V) (x : WorldState) → RepresentsWorld y self.old x → is_faulty_name y.schedule name ≡ false → IsCleanAt y.schedule x number }
+        ensures stands { (y : System V) (x : WorldState) → RepresentsWorld y self.old x → OnOk result (RepresentsWorld y self.new x) }
+        ensures members { self.new.members ≡ self.old.members }
+        ensures halted { self.new.halted ≡ self.old.halted }
+        ensures shape { self.new.shape ≡ self.old.shape }
+        ensures events { self.new.events ≡ self.old.events }
+    {
+        if self.is_faulty(name) {
+            return Ok(());
+        }
+        let count = self.pool.len() + 1;
+        mark(&mut self.clean, count, number)
+    }
+}
