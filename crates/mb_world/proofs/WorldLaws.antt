@@ -169,7 +169,7 @@ keeps_ok r s l n f g a b t u k step =
     subst (λ (z : Shape). OnOk r (Keeps z n g b u)) k.shape (step (subst (λ (z : Shape). Keeps z l f a t) (sym k.shape) k))
 
 pub keeps_same : (s : Shape) (l : Ledger) (f g : ℕ → List Bytes) (a : List Request) (t : List Message) → ((h : ℕ) → f h ≡ g h) → Keeps s l f a t → Keeps s l g a t
-keeps_same s l f g a t same k = record { shape = k.shape; bytes = λ h lt. subst (AllByRecursion IsBytes) (same h) (k.bytes h lt); stamps = λ h lt. k.stamps h lt ∙ ap Some (same h); asked = k.asked; tagged = k.tagged }
+keeps_same s l f g a t same k = record { shape = k.shape; bytes = λ h lt. subst (AllByRecursion IsBytes) (same h) (k.bytes h lt); stamps = λ h lt. k.stamps h lt ∙ ap Some (same h); fits = k.fits; asked = k.asked; tagged = k.tagged }
 
 -- the stamps of all, where a correct host has a longer history
 pub correct_stamps : (s : Schedule) (x : WorldState) (h : ℕ) (d : History) (more : List Bytes) → is_faulty s h ≡ false → bares_of d ≡ more ++ bares_of (x.histories h)
