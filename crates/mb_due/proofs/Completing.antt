@@ -17,7 +17,6 @@ use Rattle.mb_msg.specs.declared.normal.Commit.{Commit}
 use Rattle.mb_msg.specs.declared.stamped.Stamped.{Stamped as StampedMessage}
 use Rattle.mb_msg.specs.declared.stamped.Stamped.TheVariants as stamped
 use Rattle.mb_msg.specs.Bodies.{body_digest, whole_body}
-use Rattle.mb_msg.specs.Spelling.{kind_of}
 use Rattle.mb_msg.specs.Reading.{message_of}
 use Rattle.mb_msg.specs.declared.event.Event.TheVariants as event
 use Rattle.mb_msg.specs.declared.event.Outcome.{Outcome}
@@ -55,7 +54,7 @@ use Rattle.mb_due.proofs.Staying.{Stays, takes_commit, takes_prepare, closes}
 use Rattle.mb_due.proofs.Voted.{IsVoted, voted_still, slot_kept, tally_one_more, has_still, completes}
 use Rattle.mb_due.proofs.Running.{IsCalm, Waits, calm_still, IsDone, quiet_parts, run_executes}
 
-same_vote : (x : Vote) → is_vote (Some x) x ≡ true
+pub same_vote : (x : Vote) → is_vote (Some x) x ≡ true
 same_vote x = and_from _ _ (eq-eqb x.counter x.counter refl) (true-same_bytes x.request x.request refl)
 
 abbrev commit_vote : Commit → Vote
@@ -91,7 +90,7 @@ module _ {S : Type 0} (self : Identity S) where
   unfolding give_stamped
   prepare_waits d m k b none w = rw none w
 
-  taken_so : (d : History) (m : StampedMessage) → stamped_refusal self d m ≡ None → (give_stamped self m (begin d)).outcome ≡ outcome.Took
+  pub taken_so : (d : History) (m : StampedMessage) → stamped_refusal self d m ≡ None → (give_stamped self m (begin d)).outcome ≡ outcome.Took
   unfolding give_stamped
   taken_so d m none = rw none refl
 
@@ -109,7 +108,7 @@ module _ {S : Type 0} (self : Identity S) where
   given_left d bytes m is follow =
       rw (is, follow) (fetch_same (asks_on self m) d (run_rules self enough (give self m (begin d)).left))
 
-  step_executes : IsShape self.shape → (d : History) → IsQuiescent self d → ArisesWhole self d → (bytes : Bytes) (m : Message) → message_of self.shape bytes ≡ Ok m
+  pub step_executes : IsShape self.shape → (d : History) → IsQuiescent self d → ArisesWhole self d → (bytes : Bytes) (m : Message) → message_of self.shape bytes ≡ Ok m
       → rules_follow self (give self m (begin d)).outcome m ≡ true → (pos : ℕ) (k : KnownSlot) (b : Batch) → Waits self pos k b (give self m (begin d)).left.history → Executes self d bytes pos b
   step_executes shape d quiet arises bytes m is follow pos k b w =
       let left = given_left d bytes m is follow in
@@ -118,7 +117,7 @@ module _ {S : Type 0} (self : Identity S) where
       let there = subst (λ (h : History). IsDone h pos b) (sym left) done in
       record { slot = there.slot; position = there.position; batch = there.batch; there = there.there }
 
-  calm_before : (d : History) (view pos : ℕ) → IsQuiescent self d → IsNext self d view pos → IsCalm self d pos
+  pub calm_before : (d : History) (view pos : ℕ) → IsQuiescent self d → IsNext self d view pos → IsCalm self d pos
   calm_before d view pos quiet n =
       let rules = quiet_parts self d quiet in
       record { opened = n.opened; no_change = rules.0; no_join = rules.1; next = n.next; inside = n.within }
@@ -279,11 +278,11 @@ module _ {S : Type 0} (self : Identity S) where
 -- ---- in each world
 
 module _ {S : Type 0} (system : System S) (k h : ℕ) where
-  quiescent : IsQuiescent (self_of system h) ((world system k).histories h)
+  pub quiescent : IsQuiescent (self_of system h) ((world system k).histories h)
   quiescent = world_keeps system (λ g d. IsQuiescent (self_of system g) d) (λ g. begins_quiescent (self_of system g))
       (λ g d e q. stays_quiescent (self_of system g) (shape_fits system.schedule.shape) d e q) k h
 
-  arisen : ArisesWhole (self_of system h) ((world system k).histories h)
+  pub arisen : ArisesWhole (self_of system h) ((world system k).histories h)
   arisen = world_keeps system (λ g d. ArisesWhole (self_of system g) d) (λ g. (tt, tt)) (λ g d e a. transition_arises (self_of system g) d e a) k h
 
   -- Each host executes with the COMMIT that completes f+1.

@@ -11,8 +11,6 @@ use Rattle.mb_usig.proofs.Laws.{same_bytes-true, true-same_bytes}
 use Rattle.mb_parts.specs.declared.certificates.StableCert.{StableCert}
 use Rattle.mb_msg.specs.declared.message.Message.TheVariants as message
 use Rattle.mb_msg.specs.declared.normal.Checkpoint.{Checkpoint}
-use Rattle.mb_msg.specs.declared.change.Join.{Join}
-use Rattle.mb_msg.specs.declared.transfer.Log.{Log}
 use Rattle.mb_msg.specs.declared.stamped.Stamped.TheVariants as stamped
 use Rattle.mb_model.specs.Histories.{Entry, Accepted, Stamped, History, Identity}
 use Rattle.mb_model.specs.Stable.{checkpoint_of, first_agreed, checkpoints_at, same_state, stable_member, stable_cert, agreed_at, agreed_above, further, learnt_in, stable_of, low_of}

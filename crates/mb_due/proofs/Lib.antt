@@ -1,8 +1,10 @@
 -- What is due beside what follows from the rules alone. A message is taken exactly where it passes its tests (`Taken`), and a valid one
 -- passes them (`TakesValid`). What was accepted has the values of
 -- the grammar (`AcceptedFits`), so a batch holds all that fits (`FullBatches`, `OrdersAll`). The votes of OPENs count at each position of their plan
--- (`OpensCount`). A taken vote leaves slots, votes and view as they were for the rules behind it (`Staying`, `Voted`), and a position that waits is executed
--- before the rules end (`Running`), so the vote that completes f+1 executes in its step (`Completing`). What came is found until something takes its place
+-- (`OpensCount`), and what a host stamps counts for itself (`OwnBehind`, `OwnCounts`). A taken vote leaves slots, votes and view as they were for the rules
+-- behind it (`Staying`, `Voted`), and a position that waits is executed
+-- before the rules end (`Running`), so the vote that completes f+1 executes in its step (`Completing`, `CompletingOpens`). Gates stand behind the last message
+-- of their host (`KeptGates`), and what is found came (`WhatCame`, `TablesCame`). What came is found until something takes its place
 -- (`KeptTables`): requests and wishes (`KeptRequests`), parts of a state and snapshots (`KeptParts`), VIEW_CHANGEs and ENTERs (`KeptChanges`), OPENs, NEW_VIEWs,
 -- plans and evidence (`KeptOpenings`), CHECKPOINTs and what is stable by them (`KeptStable`).
 pub mod Taken
@@ -21,3 +23,9 @@ pub mod KeptChanges
 pub mod KeptOpenings
 pub mod KeptStable
 pub mod KeptTables
+pub mod WhatCame
+pub mod TablesCame
+pub mod OwnBehind
+pub mod OwnCounts
+pub mod KeptGates
+pub mod CompletingOpens

@@ -63,7 +63,7 @@ some_second None b e = e
 
 -- ---- what an entry leaves behind which no votes of OPENs are counted
 
-opened_same : (x : Entry) (d : History) (g : ℕ) → counts_opens x ≡ false → opened_by (x ∷ d) g ≡ opened_by d g
+pub opened_same : (x : Entry) (d : History) (g : ℕ) → counts_opens x ≡ false → opened_by (x ∷ d) g ≡ opened_by d g
 unfolding opened_by
 opened_same (Accepted (message.Open m)) d g e = absurd cc
 opened_same x d g e = refl
@@ -85,7 +85,7 @@ same_view o l host m kept = elim (cases_Bool ((ui_of m).host == host)) [
 ]
 
 module _ {S : Type 0} (self : Identity S) where
-  plan_same : (x : Entry) (d : History) → counts_opens x ≡ false → plan_held self (x ∷ d) ≡ plan_held self d
+  pub plan_same : (x : Entry) (d : History) → counts_opens x ≡ false → plan_held self (x ∷ d) ≡ plan_held self d
   unfolding plan_held
   plan_same (Accepted (message.NewView m)) d e = absurd cc
   plan_same (Stamped (stamped.NewView m)) d e = absurd cc
@@ -96,7 +96,7 @@ module _ {S : Type 0} (self : Identity S) where
   others_change : (m : ViewChange) (d : History) → Arises self (Accepted (message.ViewChange m) ∷ d) → (m.ui.host == self.host) ≡ false
   others_change m d a = own_passed self d (stamped.ViewChange m) (steady self d a.1).list.own a.0.gate
 
-  view_same : (x : Entry) (d : History) → Arises self (x ∷ d) → counts_opens x ≡ false → view_of self (x ∷ d) ≡ view_of self d
+  pub view_same : (x : Entry) (d : History) → Arises self (x ∷ d) → counts_opens x ≡ false → view_of self (x ∷ d) ≡ view_of self d
   unfolding origin taken_of IsNoChange
   view_same (Accepted (message.Prepare m)) d a e = same_view (origin d self.host) (taken_of d self.host) self.host (stamped.Prepare m) tt
   view_same (Accepted (message.Commit m)) d a e = same_view (origin d self.host) (taken_of d self.host) self.host (stamped.Commit m) tt
@@ -129,7 +129,7 @@ module _ {S : Type 0} (self : Identity S) where
   unfolding vote_of
   vote_now x d g v p y counts there is = some_second (vote_of self d g v p) _ (rw (there, counts, is) (some_second (vote_by self.host x g v p) (Some y) refl))
 
-  vote_is : (d : History) (g v p : ℕ) (e : Evidence) (plan : Plan) (b : Batch) → opened_by d g ≡ Some e → plan_held self d ≡ Some (v, plan) → e.view ≡ v → plan_digest plan ≡ e.plan
+  pub vote_is : (d : History) (g v p : ℕ) (e : Evidence) (plan : Plan) (b : Batch) → opened_by d g ≡ Some e → plan_held self d ≡ Some (v, plan) → e.view ≡ v → plan_digest plan ≡ e.plan
       → batch_from plan.base.pos p plan.batches ≡ Some b → open_vote (opened_by d g) (plan_at self d v) v p ≡ Some (record { counter = e.counter; request = batch_digest b })
   vote_is d g v p e plan b opened held view digest at =
       rw (opened, held, eq-eqb v v refl, eq-eqb e.view v view, true-same_bytes (plan_digest plan) e.plan digest) (ap (option_map (λ (x : Batch). record { counter = e.counter; request = batch_digest x })) at)
@@ -155,7 +155,7 @@ open_short s m p f e =
     subst (λ (y : ℕ × Plan). length y.1.batches ≤ span s) t.2 (omega (arith, count, end))
 
 module _ {S : Type 0} (self : Identity S) where
-  abbrev Values : History → Type 0
+  abbrev pub Values : History → Type 0
   Values d = Each (HasValues self) d
 
   brought_short : (x : Entry) (d : History) → Values (x ∷ d) → (p : ℕ × Plan) → plan_in self d (plan_held self d) x ≡ Some p → length p.1.batches ≤ span self.shape
@@ -164,7 +164,7 @@ module _ {S : Type 0} (self : Identity S) where
   brought_short (Accepted (message.Open m)) d a p e = open_short self.shape m p a.0 (if_some (gives_plan self d (plan_held self d) m.evidence) (plan_in_open m) p e).1
   brought_short x d a p e = absurd cc
 
-  held_short : (d : History) → Values d → (p : ℕ × Plan) → plan_held self d ≡ Some p → length p.1.batches ≤ span self.shape
+  pub held_short : (d : History) → Values d → (p : ℕ × Plan) → plan_held self d ≡ Some p → length p.1.batches ≤ span self.shape
   held_short d a p e =
       let r = held_from self d p e in
       brought_short r.entry r.before (each_at (HasValues self) (r.entry ∷ r.before) d r.past a) p r.brings
@@ -184,7 +184,7 @@ module _ {S : Type 0} (self : Identity S) where
         let below : plan.base.pos ≤ low_of self d = base_below self d (v, plan) held in
         record { above = above; near = omega (arith, near, short, below); allowed = allowed }
 
-    counted : (d : History) → Arises self d → Values d → opened_by d g ≡ Some e → view_of self d ≡ v → plan_held self d ≡ Some (v, plan) → low_of self d < pos
+    pub counted : (d : History) → Arises self d → Values d → opened_by d g ≡ Some e → view_of self d ≡ v → plan_held self d ≡ Some (v, plan) → low_of self d < pos
         → is_some (vote_of self d g v pos) ≡ true
     unfolding opened_by
     counted [] arises a opened current held above = absurd cc

@@ -1,5 +1,5 @@
 -- A message is taken exactly where it passes its tests.
-use Rattle.std.proofs.Common.{◌≡◌, ℕ, ◌+◌, Bool, true, false, ◌&&◌, ◌||◌, not, ◌∷◌, refl, sym, ap, ◌∙◌, arith, inl, inr, Option, Some, None, Ok, Err}
+use Rattle.std.proofs.Common.{◌≡◌, ℕ, ◌+◌, Bool, true, false, ◌||◌, not, ◌∷◌, refl, sym, ap, ◌∙◌, arith, inl, inr, Option, Some, None, Ok, Err}
 use Rattle.std.specs.Prelude.{is_some, is_none, option_map, ◌↔◌, Result}
 use Rattle.std.specs.Bool.{then_some}
 use Rattle.std.specs.Option.{option_or}
@@ -20,7 +20,6 @@ use Rattle.mb_msg.specs.declared.transfer.StateMsg.{StateMsg}
 use Rattle.mb_msg.specs.declared.stamped.Stamped.{Stamped as StampedMessage}
 use Rattle.mb_msg.specs.declared.stamped.Stamped.TheVariants as stamped
 use Rattle.mb_msg.specs.Stamps.{ui_of}
-use Rattle.mb_msg.specs.Spelling.{kind_of}
 use Rattle.mb_msg.specs.Reading.{message_of}
 use Rattle.mb_msg.specs.declared.event.Event.TheVariants as event
 use Rattle.mb_msg.specs.declared.event.Outcome.{Outcome}

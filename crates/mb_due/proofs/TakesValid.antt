@@ -240,7 +240,7 @@ module _ {S : Type 0} (self : Identity S) (d : History) where
   pub commit_passes : (m : Commit) → IsNextOfSender self d (stamped.Commit m) → IsVote self d m.view m.pos m.body → PassesStamped self d (stamped.Commit m)
   commit_passes m n v = record { gate = gate_passes (stamped.Commit m) n; kind = vote_passes m.view m.pos m.body v }
 
-  valid_passes : (m : Message) → IsValid self d m → Passes self d m
+  pub valid_passes : (m : Message) → IsValid self d m → Passes self d m
   valid_passes (message.Request m) v = request_passes m v
   valid_passes (message.Prepare m) v = prepare_passes m v.0 v.1
   valid_passes (message.Commit m) v = commit_passes m v.0 v.1

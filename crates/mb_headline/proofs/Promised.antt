@@ -2,7 +2,7 @@
 use Rattle.std.proofs.Common.{ap}
 use Rattle.mb_theory.specs.World.{self_of}
 use Rattle.mb_theory.specs.WorldSteps.{world}
-use Rattle.mb_theory.specs.NothingLeft.{HostsLeaveNothing}
+use Rattle.mb_theory.specs.AllDue.{HostsLeaveNothing}
 use Rattle.mb_theory.specs.CarriedOut.{HasCarriedOut}
 use Rattle.mb_theory.specs.Headline.{HostsStayOne}
 use Rattle.mb_theory.proofs.CarriedOut.{hosts_carry_out}
@@ -16,7 +16,12 @@ use Rattle.mb_due.proofs.TakesValid.{hosts_take_what_is_valid}
 use Rattle.mb_due.proofs.OrdersAll.{orders_all_that_fit}
 use Rattle.mb_due.proofs.OpensCount.{counts_opens_of}
 use Rattle.mb_due.proofs.Completing.{hosts_execute_with_commit, hosts_execute_with_prepare, hosts_execute_with_both}
+use Rattle.mb_due.proofs.CompletingOpens.{hosts_execute_with_open}
 use Rattle.mb_due.proofs.KeptTables.{keeps_tables}
+use Rattle.mb_due.proofs.OwnCounts.{hosts_count_own}
+use Rattle.mb_due.proofs.WhatCame.{hosts_find_what_came}
+use Rattle.mb_due.proofs.TablesCame.{hosts_find_tables}
+use Rattle.mb_due.proofs.KeptGates.{hosts_gates_stand}
 
 -- Nothing that is due is left undone, whoever is faulty and whatever is forged.
 pub nothing_left : (S : Type 0) → HostsLeaveNothing S
@@ -46,6 +51,11 @@ nothing_left S system k h =
       executes_with_commit = hosts_execute_with_commit system k h;
       executes_with_prepare = hosts_execute_with_prepare system k h;
       executes_with_both = hosts_execute_with_both system k h;
+      executes_with_open = hosts_execute_with_open system k h;
+      counts_own = hosts_count_own system k h;
+      finds = hosts_find_what_came system k h;
+      finds_tables = hosts_find_tables system k h;
+      gates = hosts_gates_stand system k h;
     }
 
 pub all_stay_one : (S : Type 0) → HostsStayOne S

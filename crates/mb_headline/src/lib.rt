@@ -2,11 +2,12 @@
 #![tactic(auto)]
 
 ghost use Rattle.mb_theory.specs.Headline.{HostsStayOne};
-ghost use Rattle.mb_theory.specs.NothingLeft.{HostsLeaveNothing};
+ghost use Rattle.mb_theory.specs.AllDue.{HostsLeaveNothing};
 
 /// After any events no correct host has left anything undone that is due, whoever else is faulty and whatever is forged: it has ordered, committed,
-/// executed and changed views as far as it may; each valid message is taken, each vote that it takes counts, what else came is found until
-/// something takes its place, and the f+1st matching vote executes in its step. So it is of whole hosts over any service.
+/// executed and changed views as far as it may; each valid message is taken, each vote that it takes or stamps counts, what else came is found until
+/// something takes its place, nothing else is found, each gate stands behind the last message of its host, and the f+1st matching vote executes in its step.
+/// So it is of whole hosts over any service.
 pub fn hosts_leave_nothing<V>()
     ensures { HostsLeaveNothing V }
 {}

@@ -211,7 +211,7 @@ module _ {S : Type 0} (self : Identity S) (Good : Claim → Type 0) (Text : Byte
         inner = (subst (λ (x : Bytes). Good (prepare_claim self.shape (view_of self d) p s.counter s.cert x)) named (ahead g.from m.0), tt);
         body = tt;
       } where
-        ahead : Good (prepare_claim self.shape (view_of self d) p s.counter s.cert s.digest) ⊎ IsBehind self Good Text (said d) (view_of self d) p → next_position self d ≡ p → Good (prepare_claim self.shape (view_of self d) p s.counter s.cert s.digest)
+        ahead : Good (prepare_claim self.shape (view_of self d) p s.counter s.cert s.digest) ⊎ IsBehind self (said d) (view_of self d) p → next_position self d ≡ p → Good (prepare_claim self.shape (view_of self d) p s.counter s.cert s.digest)
         ahead (inl good) next = good
         ahead (inr b) next = absurd (omega (arith, next, b.1, last_is d a))
 

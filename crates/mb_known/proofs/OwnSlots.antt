@@ -42,7 +42,7 @@ use Rattle.mb_known.proofs.OwnKnown.{KnownStamp, Known}
 -- ---- an opened view stays open, and its last position never falls
 
 module _ {S : Type 0} (self : Identity S) where
-  abbrev IsOpened : List Bare → ℕ → Type 0
+  abbrev pub IsOpened : List Bare → ℕ → Type 0
   IsOpened l v = is_opened initial_floor l v ≡ true
 
   stays_open : (m : Bare) (l : List Bare) (v : ℕ) → IsOpened l v → IsOpened (m ∷ l) v
@@ -86,18 +86,28 @@ module _ {S : Type 0} (self : Identity S) where
   last_more (bare.Enter w c q) l v p o = omega arith
   last_more (bare.Checkpoint q t d) l v p o = omega arith
 
+  -- The view was opened, and the position is at or below its last one.
+  abbrev pub IsBehind : List Bare → ℕ → ℕ → Type 0
+  IsBehind l v p = IsOpened l v × (p ≤ last_position initial_floor l v)
+
+  -- What is behind the own list stays behind it.
+  pub behind_stays : (d : History) (x : Entry) → Arises self (x ∷ d) → (v p : ℕ) → IsBehind (said d) v p → IsBehind (said (x ∷ d)) v p
+  unfolding all_stamped
+  behind_stays d (Stamped m) a v p b =
+      let h : IsPermitted (said d) (bare_of m) = head initial_floor self.shape self.host (inner self) (bare_of m) (said d) (steady self (Stamped m ∷ d) a).list.ordered in
+      let more = last_more (bare_of m) (said d) v h b.0 in
+      (stays_open (bare_of m) (said d) v b.0, omega (arith, b.1, more))
+  behind_stays d x a v p b = b
+
 module _ {S : Type 0} (self : Identity S) (Good : Claim → Type 0) (Text : Bytes → Type 0) where
   abbrev AllKnown : History → Type 0
   AllKnown d = Each (Known self Good Text) d
-
-  abbrev pub IsBehind : List Bare → ℕ → ℕ → Type 0
-  IsBehind l v p = IsOpened self l v × (p ≤ last_position initial_floor l v)
 
   pub record GoodSlot (l : List Bare) (v p : ℕ) (k : KnownSlot) : Type 0 where
     pub counter : IsCounter k.counter
     pub cert : IsDigest k.cert
     pub named : (r : Batch) → k.batch ≡ Some r → batch_digest r ≡ k.digest
-    pub from : Good (prepare_claim self.shape v p k.counter k.cert k.digest) ⊎ IsBehind l v p
+    pub from : Good (prepare_claim self.shape v p k.counter k.cert k.digest) ⊎ IsBehind self l v p
 
   body_named : (b : Body Batch) (r : Batch) → whole_body b ≡ Some r → batch_digest r ≡ body_digest batch_bytes b
   body_named (Whole q) r e = ap (λ (x : Batch). batch_digest x) (sym (some_is q r e))
@@ -119,19 +129,15 @@ module _ {S : Type 0} (self : Identity S) (Good : Claim → Type 0) (Text : Byte
 
   -- what was so stays so
   grows : (d : History) (x : Entry) → Arises self (x ∷ d) → (v p : ℕ) (k : KnownSlot) → GoodSlot (said d) v p k → GoodSlot (said (x ∷ d)) v p k
-  unfolding all_stamped
-  grows d (Stamped m) a v p k g =
-      let h : IsPermitted self (said d) (bare_of m) = head initial_floor self.shape self.host (inner self) (bare_of m) (said d) (steady self (Stamped m ∷ d) a).list.ordered in
-      record {
-        counter = g.counter;
-        cert = g.cert;
-        named = g.named;
-        from = elim g.from [
-          | inl good ↦ inl good
-          | inr b ↦ let more = last_more self (bare_of m) (said d) v h b.0 in inr (stays_open self (bare_of m) (said d) v b.0, omega (arith, b.1, more))
-        ];
-      }
-  grows d x a v p k g = g
+  grows d x a v p k g = record {
+    counter = g.counter;
+    cert = g.cert;
+    named = g.named;
+    from = elim g.from [
+      | inl good ↦ inl good
+      | inr b ↦ inr (behind_stays self d x a v p b)
+    ];
+  }
 
   -- a batch of the plan of an own OPEN
   opened_slot : (d : History) (m : OpenMessage) → KnownStamp self Good Text (stamped.Open m) → (v p : ℕ) (k : KnownSlot) → slot_of_open m v p ≡ Some k → GoodSlot (said (Stamped (stamped.Open m) ∷ d)) v p k

@@ -22,12 +22,12 @@ use Rattle.mb_theory.proofs.Words.{window_is}
 module _ {S : Type 0} (self : Identity S) where
   -- ---- what counts, counts from then on
 
-  slot_stays : (later d : History) (v p : ℕ) (k : KnownSlot) → slot_in self d v p ≡ Some k → slot_in self (later ++ d) v p ≡ Some k
+  pub slot_stays : (later d : History) (v p : ℕ) (k : KnownSlot) → slot_in self d v p ≡ Some k → slot_in self (later ++ d) v p ≡ Some k
   unfolding slot_in
   slot_stays [] d v p k e = e
   slot_stays (x ∷ later) d v p k e = rw (slot_stays later d v p k e) refl
 
-  vote_stays : (later d : History) (g v p : ℕ) (x : Vote) → vote_of self d g v p ≡ Some x → vote_of self (later ++ d) g v p ≡ Some x
+  pub vote_stays : (later d : History) (g v p : ℕ) (x : Vote) → vote_of self d g v p ≡ Some x → vote_of self (later ++ d) g v p ≡ Some x
   unfolding vote_of
   vote_stays [] d g v p x e = e
   vote_stays (y ∷ later) d g v p x e = rw (vote_stays later d g v p x e) refl
@@ -56,7 +56,7 @@ module _ {S : Type 0} (self : Identity S) where
   unfolding stable_of
   commit_low m d = refl
 
-  counts_where : (e : Entry) (d : History) (v p : ℕ) → view_of self (e ∷ d) ≡ view_of self d → low_of self (e ∷ d) ≡ low_of self d → view_of self d ≡ v → IsInWindow self d p → counts_at self (e ∷ d) v p ≡ true
+  pub counts_where : (e : Entry) (d : History) (v p : ℕ) → view_of self (e ∷ d) ≡ view_of self d → low_of self (e ∷ d) ≡ low_of self d → view_of self d ≡ v → IsInWindow self d p → counts_at self (e ∷ d) v p ≡ true
   counts_where e d v p same low at inside =
       let there : IsInWindow self (e ∷ d) p = record {
         above = subst (λ (n : ℕ). n < p) (sym low) inside.above;
@@ -67,7 +67,7 @@ module _ {S : Type 0} (self : Identity S) where
 
   -- ---- slots
 
-  slot_new : (e : Entry) (d : History) (v p : ℕ) (k : KnownSlot) → counts_at self (e ∷ d) v p ≡ true → slot_in self d v p ≡ None → slot_by e v p ≡ Some k → slot_in self (e ∷ d) v p ≡ Some k
+  pub slot_new : (e : Entry) (d : History) (v p : ℕ) (k : KnownSlot) → counts_at self (e ∷ d) v p ≡ true → slot_in self d v p ≡ None → slot_by e v p ≡ Some k → slot_in self (e ∷ d) v p ≡ Some k
   unfolding slot_in
   slot_new e d v p k counts none by = rw (none, counts) by
 
@@ -80,11 +80,11 @@ module _ {S : Type 0} (self : Identity S) where
 
   -- ---- votes
 
-  vote_new : (e : Entry) (d : History) (g v p : ℕ) (x : Vote) → counts_at self (e ∷ d) v p ≡ true → vote_of self d g v p ≡ None → vote_by self.host e g v p ≡ Some x → vote_of self (e ∷ d) g v p ≡ Some x
+  pub vote_new : (e : Entry) (d : History) (g v p : ℕ) (x : Vote) → counts_at self (e ∷ d) v p ≡ true → vote_of self d g v p ≡ None → vote_by self.host e g v p ≡ Some x → vote_of self (e ∷ d) g v p ≡ Some x
   unfolding vote_of
   vote_new e d g v p x counts none by = rw (none, counts, by) refl
 
-  own_place : (g v p n : ℕ) (body : Body Batch) → vote_with g g v p v p body n ≡ Some (record { counter = n; request = body_digest batch_bytes body })
+  pub own_place : (g v p n : ℕ) (body : Body Batch) → vote_with g g v p v p body n ≡ Some (record { counter = n; request = body_digest batch_bytes body })
   own_place g v p n body = rw (eq-eqb v v refl, eq-eqb p p refl, eq-eqb g g refl) refl
 
   pub counts_prepares : (d : History) → CountsPrepares self d

@@ -20,7 +20,6 @@ use Rattle.mb_msg.specs.declared.transfer.Fetch.{Fetch}
 use Rattle.mb_msg.specs.declared.transfer.StateMsg.{StateMsg}
 use Rattle.mb_msg.specs.declared.stamped.Stamped.{Stamped as StampedMessage}
 use Rattle.mb_msg.specs.declared.stamped.Stamped.TheVariants as stamped
-use Rattle.mb_msg.specs.Spelling.{kind_of}
 use Rattle.mb_msg.specs.Reading.{message_of}
 use Rattle.mb_msg.specs.Stamps.{ui_of}
 use Rattle.mb_msg.specs.declared.event.Event.{Event}

@@ -13,7 +13,7 @@ use Rattle.mb_theory.specs.WorldSteps.{world}
 use Rattle.mb_theory.specs.WorldRecord.{ViewsAgree}
 use Rattle.mb_theory.specs.Stops.{IsUnstopped}
 use Rattle.mb_theory.specs.Justification.{IsJustified}
-use Rattle.mb_theory.specs.NothingLeft.{LeavesNothing}
+use Rattle.mb_theory.specs.AllDue.{LeavesNothing}
 use Rattle.mb_theory.specs.Safety.{IsSafe, AreServedResults}
 use Rattle.mb_theory.specs.Bounds.{AreBounded, IsBlameless}
 

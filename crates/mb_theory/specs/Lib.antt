@@ -12,6 +12,11 @@ pub mod Justification
 pub mod TakesValid
 pub mod KeepsTables
 pub mod NothingLeft
+pub mod OwnStamps
+pub mod WhatCame
+pub mod FindsTables
+pub mod GatesStand
+pub mod AllDue
 pub mod CarriedOut
 pub mod Safety
 pub mod Bounds

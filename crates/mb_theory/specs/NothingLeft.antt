@@ -19,6 +19,8 @@ use Rattle.mb_msg.specs.declared.normal.Prepare.{Prepare}
 use Rattle.mb_msg.specs.declared.normal.Commit.{Commit}
 use Rattle.mb_msg.specs.declared.normal.Checkpoint.{Checkpoint}
 use Rattle.mb_msg.specs.declared.change.NewView.{NewView}
+use Rattle.mb_msg.specs.declared.change.Open.{Open}
+use Rattle.mb_msg.specs.declared.change.OpenBody.{OpenBody}
 use Rattle.mb_msg.specs.declared.change.Plan.{Plan}
 use Rattle.mb_msg.specs.declared.stamped.Stamped.TheVariants as stamped
 use Rattle.mb_msg.specs.Bodies.{body_digest, whole_body}
@@ -41,10 +43,7 @@ use Rattle.mb_model.specs.EnabledRules.{unordered}
 use Rattle.mb_model.specs.Passed.{Passes}
 use Rattle.mb_model.specs.Given.{named_prepare}
 use Rattle.mb_model.specs.HostStep.{transition}
-use Rattle.mb_theory.specs.World.{System, self_of}
-use Rattle.mb_theory.specs.WorldSteps.{world}
-use Rattle.mb_theory.specs.TakesValid.{AreTagged, IsNextOfSender, TakesWhatIsValid}
-use Rattle.mb_theory.specs.KeepsTables.{KeepsTables}
+use Rattle.mb_theory.specs.TakesValid.{AreTagged, IsNextOfSender, IsPlanOf}
 
 -- A batch is the beginning of this list of requests, and it has no place for the next one: there are 16, or all would have more than 2,048 bytes.
 pub record IsFull (l : List Request) (b : Batch) : Type 0 where
@@ -286,33 +285,9 @@ module _ {S : Type 0} (self : Identity S) (d : History) where
       → IsNextOfSender self d (stamped.Prepare (named_prepare self m)) → IsNext m.view m.pos → m.body ≡ Whole b → AreTagged self b → slot_in self d m.view m.pos ≡ None
       → LackBoth m.ui.host (primary self.shape m.view) m.pos (record { counter = m.counter; request = batch_digest b }) → Executes bytes m.pos b
 
-  -- ---- all of it
-
-  pub record LeavesNothing : Type 0 where
-    pub orders : OrdersRequests
-    pub fills : OrdersAllThatFit
-    pub commits : CommitsNext
-    pub executes : ExecutesAtQuorum
-    pub checkpoints : StampsCheckpoints
-    pub leaves : LeavesView
-    pub announces : AnnouncesView
-    pub enters : EntersView
-    pub opens : OpensByEvidence
-    pub opens_by_enters : OpensByEnters
-    pub joins_behind : JoinsBehind
-    pub joins_past : JoinsPast
-    pub installs : InstallsState
-    pub takes : TakesWhatPasses
-    pub takes_valid : TakesWhatIsValid self d
-    pub keeps_slots : KeepsSlots
-    pub counts_prepares : CountsPrepares
-    pub counts_commits : CountsCommits
-    pub counts_opens : CountsOpens
-    pub keeps : KeepsTables self d
-    pub executes_with_commit : ExecutesWithCommit
-    pub executes_with_prepare : ExecutesWithPrepare
-    pub executes_with_both : ExecutesWithBoth
-
--- After any events, whoever is faulty and whatever is forged, no host has left anything undone.
-abbrev pub HostsLeaveNothing : Type 0 → Type 0
-HostsLeaveNothing S = (system : System S) → (k h : ℕ) → LeavesNothing (self_of system h) ((world system k).histories h)
+  -- by an OPEN of another in the open view, whose plan is held, where the slot is there
+  abbrev pub ExecutesWithOpen : Type 0
+  ExecutesWithOpen = (bytes : Bytes) (m : Open) (plan : Plan) (pos : ℕ) (k : KnownSlot) (b c : Batch) → message_of self.shape bytes ≡ Ok (message.Open m) → IsNextOfSender self d (stamped.Open m)
+      → ((x : OpenBody) → m.body ≡ Whole x → IsPlanOf self m.evidence x) → IsNext m.evidence.view pos → plan_held self d ≡ Some (m.evidence.view, plan)
+      → plan_digest plan ≡ m.evidence.plan → batch_from plan.base.pos pos plan.batches ≡ Some c → HasSlot self d pos k b
+      → m.evidence.counter ≡ k.counter → batch_digest c ≡ k.digest → Lacks m.ui.host pos (slot_vote k) → Executes bytes pos b

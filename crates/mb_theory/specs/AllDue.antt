@@ -1,0 +1,47 @@
+-- All that is due at a host, put together: what it has done, what it takes and finds, and what it executes in the step in which it is given.
+use Rattle.std.specs.Prelude.{ℕ}
+use Rattle.mb_model.specs.Histories.{History, Identity}
+use Rattle.mb_theory.specs.World.{System, self_of}
+use Rattle.mb_theory.specs.WorldSteps.{world}
+use Rattle.mb_theory.specs.TakesValid.{TakesWhatIsValid}
+use Rattle.mb_theory.specs.KeepsTables.{KeepsTables}
+use Rattle.mb_theory.specs.NothingLeft.{OrdersRequests, OrdersAllThatFit, CommitsNext, ExecutesAtQuorum, StampsCheckpoints, LeavesView, AnnouncesView, EntersView, OpensByEvidence, OpensByEnters, JoinsBehind, JoinsPast, InstallsState, TakesWhatPasses, KeepsSlots, CountsPrepares, CountsCommits, CountsOpens, ExecutesWithCommit, ExecutesWithPrepare, ExecutesWithBoth, ExecutesWithOpen}
+use Rattle.mb_theory.specs.OwnStamps.{CountsOwn}
+use Rattle.mb_theory.specs.WhatCame.{FindsWhatCame}
+use Rattle.mb_theory.specs.FindsTables.{FindsTables}
+use Rattle.mb_theory.specs.GatesStand.{GatesStand}
+
+module _ {S : Type 0} (self : Identity S) (d : History) where
+  pub record LeavesNothing : Type 0 where
+    pub orders : OrdersRequests self d
+    pub fills : OrdersAllThatFit self d
+    pub commits : CommitsNext self d
+    pub executes : ExecutesAtQuorum self d
+    pub checkpoints : StampsCheckpoints self d
+    pub leaves : LeavesView self d
+    pub announces : AnnouncesView self d
+    pub enters : EntersView self d
+    pub opens : OpensByEvidence self d
+    pub opens_by_enters : OpensByEnters self d
+    pub joins_behind : JoinsBehind self d
+    pub joins_past : JoinsPast self d
+    pub installs : InstallsState self d
+    pub takes : TakesWhatPasses self d
+    pub takes_valid : TakesWhatIsValid self d
+    pub keeps_slots : KeepsSlots self d
+    pub counts_prepares : CountsPrepares self d
+    pub counts_commits : CountsCommits self d
+    pub counts_opens : CountsOpens self d
+    pub keeps : KeepsTables self d
+    pub executes_with_commit : ExecutesWithCommit self d
+    pub executes_with_prepare : ExecutesWithPrepare self d
+    pub executes_with_both : ExecutesWithBoth self d
+    pub executes_with_open : ExecutesWithOpen self d
+    pub counts_own : CountsOwn self d
+    pub finds : FindsWhatCame self d
+    pub finds_tables : FindsTables self d
+    pub gates : GatesStand d
+
+-- After any events, whoever is faulty and whatever is forged, no host has left anything undone.
+abbrev pub HostsLeaveNothing : Type 0 → Type 0
+HostsLeaveNothing S = (system : System S) → (k h : ℕ) → LeavesNothing (self_of system h) ((world system k).histories h)
