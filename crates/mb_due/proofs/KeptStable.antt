@@ -1,11 +1,9 @@
 -- The last CHECKPOINT of a host at a position stays found, and what is learnt to be stable is never forgotten.
-use Rattle.std.proofs.Common.{◌≡◌, ℕ, zero, suc, ◌+◌, ◌≤◌, Bool, true, false, List, [], ◌∷◌, ◌++◌, ◌⊎◌, length, take, refl, sym, ap, ◌∙◌, subst, inl, inr, arith, Option, Some, None}
-use Rattle.std.specs.Prelude.{nat_le, filter, filter_map, map, option_and_then, if◌then◌else◌}
-use Rattle.std.specs.List.{range_with_len, cons_option}
-use Rattle.std.proofs.lemmas.Bool.{cases_Bool, eq-eqb, le-leb, leb-true, leb-false}
-use Rattle.std.proofs.lemmas.List.{length-take-le}
+use Rattle.std.proofs.Common.{◌≡◌, ℕ, ◌+◌, ◌≤◌, List, [], ◌∷◌, ◌++◌, ◌⊎◌, length, refl, sym, ap, ◌∙◌, subst, inl, inr, arith, Option, Some, None}
+use Rattle.std.specs.Prelude.{filter, map, option_and_then}
+use Rattle.std.proofs.lemmas.Bool.{eq-eqb, le-leb}
 use Rattle.mb_base.specs.declared.shape.Shape.{Shape}
-use Rattle.mb_base.specs.Shapes.{Bytes, HasQuorum, quorum, interval, span, host_count, tally}
+use Rattle.mb_base.specs.Shapes.{Bytes, HasQuorum, quorum, interval, span, host_count}
 use Rattle.mb_usig.specs.Tags.{same_bytes}
 use Rattle.mb_usig.proofs.Laws.{same_bytes-true, true-same_bytes}
 use Rattle.mb_parts.specs.declared.certificates.StableCert.{StableCert}
@@ -15,66 +13,16 @@ use Rattle.mb_msg.specs.declared.stamped.Stamped.TheVariants as stamped
 use Rattle.mb_model.specs.Histories.{Entry, Accepted, Stamped, History, Identity}
 use Rattle.mb_model.specs.Stable.{checkpoint_of, first_agreed, checkpoints_at, same_state, stable_member, stable_cert, agreed_at, agreed_above, further, learnt_in, stable_of, low_of}
 use Rattle.mb_model.proofs.Options.{option_cases}
-use Rattle.mb_model.proofs.Members.{In}
 use Rattle.mb_steps.proofs.StepPotential.{tally_same, further_both}
 use Rattle.mb_views.proofs.PlanMoments.{low_grows}
+use Rattle.mb_due.proofs.FoundMembers.{passes, as_many, some_in, filter_more, agreement}
 use Rattle.mb_theory.specs.KeepsTables.{NoneIs, is_checkpoint_of, IsCheckpoint, names_state, KeepsCheckpoints, RaisesByCheckpoints, RaisesByJoins, RaisesByLogs}
 
--- ---- as many CHECKPOINTs name a state as hosts have one that does
+-- ---- where f+1 CHECKPOINTs name one state, they make a certificate
 
--- counted from the first host on
-tally_first : (q : ℕ → Bool) (n : ℕ) → tally q (suc n) ≡ (if q 0 then 1 else 0) + tally (λ h. q (suc h)) n
-tally_first q zero = refl
-tally_first q (suc n) = omega (arith, tally_first q n)
-
-counted : (state : Bytes) (o : Option Checkpoint) (l : List Checkpoint) → length (filter (λ c. same_bytes c.state state) (cons_option o l)) ≡ (if names_state state o then 1 else 0) + length (filter (λ c. same_bytes c.state state) l)
-counted state None l = omega arith
-counted state (Some c) l = elim (cases_Bool (same_bytes c.state state)) [
-  | inl names ↦ rw names (omega arith)
-  | inr other ↦ rw other (omega arith)
-]
-
-as_many : (state : Bytes) (f : ℕ → Option Checkpoint) (n a : ℕ) → length (filter (λ c. same_bytes c.state state) (filter_map f (range_with_len a n))) ≡ tally (λ h. names_state state (f (a + h))) n
-as_many state f zero a = refl
-as_many state f (suc n) a =
-    let rest = as_many state f n (a + 1) ∙ tally_same (λ h. names_state state (f (a + 1 + h))) (λ h. names_state state (f (a + suc h))) n (λ h. ap (λ (x : ℕ). names_state state (f x)) (omega arith)) in
-    let here : a + 0 ≡ a = omega arith in
-    let first = ap {B = ℕ} (λ (x : ℕ). if names_state state (f x) then 1 else 0) here in
-    omega (arith, counted state (f a) (filter_map f (range_with_len (a + 1) n)), rest, first, tally_first (λ h. names_state state (f (a + h))) n)
-
--- ---- where f+1 of them name one state, they make a certificate
-
-module _ {A : Type 0} where
-  some_in : (p : A → Bool) (l : List A) → 1 ≤ length (filter p l) → (x : A) × (In l x) × (p x ≡ true)
-  some_in p [] many = absurd (omega arith)
-  some_in p (y ∷ l) many = elim (cases_Bool (p y)) [
-    | inl passes ↦ (y, inl refl, passes)
-    | inr fails ↦ let more = some_in p l (rw fails at many) in (more.0, inr more.1, more.2)
-  ]
-
-  filter_more : (p q : A → Bool) (l : List A) → ((x : A) → p x ≡ true → q x ≡ true) → length (filter p l) ≤ length (filter q l)
-  filter_more p q [] so = omega arith
-  filter_more p q (y ∷ l) so = elim (cases_Bool (p y)) [
-    | inl passes ↦ rw (passes, so y passes) (omega (arith, filter_more p q l so))
-    | inr fails ↦ elim (cases_Bool (q y)) [
-      | inl passes ↦ rw (fails, passes) (omega (arith, filter_more p q l so))
-      | inr fails_too ↦ rw (fails, fails_too) (filter_more p q l so)
-    ]
-  ]
-
-  agreement : (like : A → A → Bool) (many : ℕ) (all l : List A) (x : A) → In l x → many ≤ length (filter (like x) all)
-      → (r : List A) × (first_agreed like many all l ≡ Some r) × (length r ≡ many)
-  unfolding first_agreed
-  agreement like many all [] x i enough = absurd i
-  agreement like many all (y ∷ l) x i enough = elim (cases_Bool (nat_le many (length (filter (like y) all)))) [
-    | inl here ↦ (take many (filter (like y) all), rw here refl, length-take-le many (filter (like y) all) (leb-true many (length (filter (like y) all)) here))
-    | inr few ↦ let r = agreement like many all l x (behind few i) enough in (r.0, rw few r.1, r.2)
-  ] where
-    behind : nat_le many (length (filter (like y) all)) ≡ false → In (y ∷ l) x → In l x
-    behind few (inl is) =
-        let all_same : many ≤ length (filter (like y) all) = subst (λ (z : A). many ≤ length (filter (like z) all)) (sym is) enough in
-        absurd (omega (arith, all_same, leb-false many (length (filter (like y) all)) few))
-    behind few (inr i) = i
+names : (state : Bytes) (o : Option Checkpoint) → passes (λ c. same_bytes c.state state) o ≡ names_state state o
+names state None = refl
+names state (Some c) = refl
 
 module _ (s : Shape) where
   cert_made : (pos : ℕ) (r : List Checkpoint) → 1 ≤ length r → (c : StableCert) × (stable_cert s pos r ≡ Some c) × (c.pos ≡ pos)
@@ -85,8 +33,8 @@ module _ (s : Shape) where
   unfolding agreed_at
   agreed_where d pos state many =
       let all : List Checkpoint = checkpoints_at s d pos in
-      let every = tally_same (λ h. names_state state (checkpoint_of d (0 + h) pos)) (λ h. names_state state (checkpoint_of d h pos)) (host_count s) (λ h. ap (λ (x : ℕ). names_state state (checkpoint_of d x pos)) (omega arith)) in
-      let named : quorum s ≤ length (filter (λ c. same_bytes c.state state) all) = omega (arith, many, as_many state (λ h. checkpoint_of d h pos) (host_count s) 0, every) in
+      let every = tally_same (λ h. passes (λ c. same_bytes c.state state) (checkpoint_of d h pos)) (λ h. names_state state (checkpoint_of d h pos)) (host_count s) (λ h. names state (checkpoint_of d h pos)) in
+      let named : quorum s ≤ length (filter (λ c. same_bytes c.state state) all) = omega (arith, many, as_many (λ c. same_bytes c.state state) (λ h. checkpoint_of d h pos) (host_count s), every) in
       let one = some_in (λ c. same_bytes c.state state) all (omega (arith, named)) in
       let its : one.0.state ≡ state = same_bytes-true one.0.state state one.2 in
       let alike : length (filter (λ c. same_bytes c.state state) all) ≤ length (filter (same_state s one.0) all) =

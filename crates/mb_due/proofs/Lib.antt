@@ -6,7 +6,9 @@
 -- before the rules end (`Running`), so the vote that completes f+1 executes in its step (`Completing`, `CompletingOpens`). Gates stand behind the last message
 -- of their host (`KeptGates`), and what is found came (`WhatCame`, `TablesCame`). What came is found until something takes its place
 -- (`KeptTables`): requests and wishes (`KeptRequests`), parts of a state and snapshots (`KeptParts`), VIEW_CHANGEs and ENTERs (`KeptChanges`), OPENs, NEW_VIEWs,
--- plans and evidence (`KeptOpenings`), CHECKPOINTs and what is stable by them (`KeptStable`).
+-- plans and evidence (`KeptOpenings`), CHECKPOINTs and what is stable by them (`KeptStable`). A host leaves its view with cause alone (`LeavesWithCause`),
+-- cuts its log where f+1 agree on a floor (`CutsLog`), takes LOGs with their first entry (`LogsStand`, `JumpsToFloors`, `TakesLogs`), sends what it stamps and
+-- each fresh reply (`Sends`), and answers who asks (`Answers`).
 pub mod Taken
 pub mod TakesValid
 pub mod AcceptedFits
@@ -17,6 +19,7 @@ pub mod Staying
 pub mod Voted
 pub mod Running
 pub mod Completing
+pub mod FoundMembers
 pub mod KeptRequests
 pub mod KeptParts
 pub mod KeptChanges
@@ -29,3 +32,10 @@ pub mod OwnBehind
 pub mod OwnCounts
 pub mod KeptGates
 pub mod CompletingOpens
+pub mod LeavesWithCause
+pub mod CutsLog
+pub mod LogsStand
+pub mod JumpsToFloors
+pub mod TakesLogs
+pub mod Sends
+pub mod Answers

@@ -1,3 +1,6 @@
 -- All promises of each world, put together: agreement from `mb_views`, one list and results from `mb_line`, what is justified, bounded and blameless
--- from `mb_justified`, and what is due from `mb_theory` and `mb_due`.
+-- from `mb_justified`, and what is due from `mb_theory` and `mb_due`; that each event is a step of the host to which it comes (`EventsStep`), and that none
+-- is answered with blame where it brings what correct hosts stamped (`NobodyBlamed`).
+pub mod EventsStep
+pub mod NobodyBlamed
 pub mod Promised

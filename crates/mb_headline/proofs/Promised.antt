@@ -1,5 +1,4 @@
 -- All promises hold of each world that nothing stopped, while no two of its hashed strings share a digest.
-use Rattle.std.proofs.Common.{ap}
 use Rattle.mb_theory.specs.World.{self_of}
 use Rattle.mb_theory.specs.WorldSteps.{world}
 use Rattle.mb_theory.specs.AllDue.{HostsLeaveNothing}
@@ -22,6 +21,13 @@ use Rattle.mb_due.proofs.OwnCounts.{hosts_count_own}
 use Rattle.mb_due.proofs.WhatCame.{hosts_find_what_came}
 use Rattle.mb_due.proofs.TablesCame.{hosts_find_tables}
 use Rattle.mb_due.proofs.KeptGates.{hosts_gates_stand}
+use Rattle.mb_due.proofs.LeavesWithCause.{hosts_leave_with_cause}
+use Rattle.mb_due.proofs.CutsLog.{hosts_cut_logs}
+use Rattle.mb_due.proofs.TakesLogs.{hosts_take_logs}
+use Rattle.mb_due.proofs.Sends.{hosts_send_all}
+use Rattle.mb_due.proofs.Answers.{hosts_answer}
+use Rattle.mb_headline.proofs.EventsStep.{events_step}
+use Rattle.mb_headline.proofs.NobodyBlamed.{no_event_blames}
 
 -- Nothing that is due is left undone, whoever is faulty and whatever is forged.
 pub nothing_left : (S : Type 0) → HostsLeaveNothing S
@@ -33,7 +39,9 @@ nothing_left S system k h =
       commits = c.commits;
       executes = c.executes;
       checkpoints = c.checkpoints;
+      cuts = hosts_cut_logs system k h;
       leaves = c.leaves;
+      leaves_with_cause = hosts_leave_with_cause system k h;
       announces = c.announces;
       enters = c.enters;
       opens = c.opens;
@@ -43,11 +51,14 @@ nothing_left S system k h =
       installs = c.installs;
       takes = hosts_take_what_passes system k h;
       takes_valid = hosts_take_what_is_valid system k h;
+      takes_logs = hosts_take_logs system k h;
       keeps_slots = c.keeps_slots;
       counts_prepares = c.counts_prepares;
       counts_commits = c.counts_commits;
       counts_opens = counts_opens_of system k h;
       keeps = keeps_tables (self_of system h) ((world system k).histories h);
+      sends = hosts_send_all system k h;
+      answers = hosts_answer system k h;
       executes_with_commit = hosts_execute_with_commit system k h;
       executes_with_prepare = hosts_execute_with_prepare system k h;
       executes_with_both = hosts_execute_with_both system k h;
@@ -70,4 +81,6 @@ all_stay_one S system service fits k le none apart =
       done = λ h correct. nothing_left S system k h;
       bounded = held.bounded;
       blameless = held.blameless;
+      unblamed = no_event_blames system (world system k) held.blameless;
+      steps = events_step system (world system k);
     }

@@ -64,7 +64,7 @@ module _ {S : Type 0} (system : System S) (w : World) where
   reads_same c bytes (Ok (message.Reply r)) = record { histories = λ g. refl; line = refl; tagged = refl }
   reads_same c bytes (Ok m) = record { histories = λ g. refl; line = refl; tagged = refl }
 
-  client_same : (c : ℕ) (bytes : Bytes) → Same (give_client system.schedule c bytes w)
+  pub client_same : (c : ℕ) (bytes : Bytes) → Same (give_client system.schedule c bytes w)
   unfolding give_client
   client_same c bytes = elim (cases_Bool (is_faulty_client system.schedule c)) [
     | inl faulty ↦ rw faulty (record { histories = λ g. refl; line = refl; tagged = refl })
@@ -75,7 +75,7 @@ module _ {S : Type 0} (system : System S) (w : World) where
   given_moves h None lt = inl same_world
   given_moves h (Some bytes) lt = host_moves h bytes lt
 
-  taken_same : (c : ℕ) (o : Option Bytes) → Same (with_message (give_client system.schedule c) o w)
+  pub taken_same : (c : ℕ) (o : Option Bytes) → Same (with_message (give_client system.schedule c) o w)
   taken_same c None = same_world
   taken_same c (Some bytes) = client_same c bytes
 
@@ -83,7 +83,7 @@ module _ {S : Type 0} (system : System S) (w : World) where
   faulty_same true f s = s
   faulty_same false f s = same_world
 
-  stamp_same : (h : ℕ) (m : Option StampedMessage) → Same (stamps_some system h m w)
+  pub stamp_same : (h : ℕ) (m : Option StampedMessage) → Same (stamps_some system h m w)
   stamp_same h m = faulty_same (is_faulty system.schedule h) (stamp_some (stamp_content system.schedule h) m) (go m) where
     go : (o : Option StampedMessage) → Same (stamp_some (stamp_content system.schedule h) o w)
     go None = same_world

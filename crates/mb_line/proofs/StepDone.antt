@@ -17,7 +17,7 @@ use Rattle.mb_model.specs.HostStep.{transition}
 use Rattle.mb_theory.proofs.Lists.{all_append}
 use Rattle.mb_known.proofs.Cases.{all_more}
 use Rattle.mb_known.proofs.Moments.{IsPast}
-use Rattle.mb_line.proofs.Walks.{is_quiet, is_reply, IsWalked}
+use Rattle.mb_line.proofs.Walks.{is_quiet, is_reply, stamp_keeps, IsWalked}
 use Rattle.mb_line.proofs.WalkEvents.{walked}
 
 -- the executed slots of a piece of a history, oldest first
@@ -32,8 +32,8 @@ quiet_slots (Served pos placed) q = refl
 quiet_slots (Executed slot) q = absurd cc
 quiet_slots (Installed pos parts) q = refl
 quiet_slots (Accepted m) q = refl
-quiet_slots (Stamped m) q = refl
-quiet_slots (Jumped h f) q = refl
+quiet_slots (Stamped m) q = absurd cc
+quiet_slots (Jumped h f) q = absurd cc
 quiet_slots (Closed h c) q = refl
 quiet_slots DroppedParts q = refl
 quiet_slots LostPatience q = refl
@@ -89,6 +89,9 @@ module _ {S : Type 0} (self : Identity S) where
       replies = letters_more e x.history x.sent a.replies;
     }
 
+    letter_done : (l : Letter) (x : Progress) → is_reply l.says ≡ false → IsDone x → IsDone (send l x)
+    letter_done l x q a = record { new = a.new; is = a.is; slots = a.slots; replies = one_letter x.history x.sent l a.replies (inl q) }
+
     replies_done : (c : ℕ) (x : Progress) → IsDone x → IsDone (send (to_client c (stored_reply self x.history c)) x)
     replies_done c x a = record {
       new = a.new;
@@ -123,8 +126,10 @@ module _ {S : Type 0} (self : Identity S) where
     unfolding slots_in
     done_kept = record {
       quiet = λ e x q a. written e x (quiet_slots e q) a;
+      stamped = stamp_keeps self IsDone (λ m x a. written (Stamped m) x refl a) letter_done;
+      jumped = λ h f x free lower a. written (Jumped h f) x refl a;
       noted = λ strings x a. record { new = a.new; is = a.is; slots = a.slots; replies = a.replies };
-      sent = λ l x q a. record { new = a.new; is = a.is; slots = a.slots; replies = one_letter x.history x.sent l a.replies (inl q) };
+      sent = letter_done;
       replied = replies_done;
       executed = λ pos b x a. let y : Progress = serve_all self pos b.requests x in slot_done (slot_for self y.history pos) y (serves_done pos b.requests x a);
       installed = λ x a.

@@ -7,7 +7,6 @@ use Rattle.mb_base.specs.Shapes.{interval}
 use Rattle.mb_parts.specs.declared.batch.Batch.{Batch}
 use Rattle.mb_msg.specs.declared.message.Message.{Message}
 use Rattle.mb_msg.specs.Plans.{plan_text}
-use Rattle.mb_msg.specs.Spelling.{kind_of}
 use Rattle.mb_msg.specs.Reading.{message_of}
 use Rattle.mb_msg.specs.declared.event.Event.{Event}
 use Rattle.mb_msg.specs.declared.event.Event.TheVariants as event
@@ -23,7 +22,7 @@ use Rattle.mb_model.specs.Given.{Answer, give}
 use Rattle.mb_model.specs.Positions.{is_behind}
 use Rattle.mb_model.specs.HostStep.{on_patience, on_nudge, wish_again, with_fetch, low_rose, finished_where, on_message, on_bytes, transition}
 use Rattle.mb_model.proofs.Options.{option_cases}
-use Rattle.mb_line.proofs.Walks.{IsWalked, stamps_keep, give_keeps}
+use Rattle.mb_line.proofs.Walks.{IsWalked, give_keeps}
 
 module _ {S : Type 0} (self : Identity S) (Q : Progress → Type 0) (kept : IsWalked self Q) where
   -- ---- the rules
@@ -33,7 +32,7 @@ module _ {S : Type 0} (self : Identity S) (Q : Progress → Type 0) (kept : IsWa
   execute_keeps pos b x q = interval_keeps (close_slot self pos (serve_all self pos b.requests x)) (kept.executed pos b x q) where
     checkpoint_keeps : (y : Progress) → Q y → Q (with_checkpoint self pos y)
     checkpoint_keeps y p = elim (cases_Bool (has_room self y.history)) [
-      | inl room ↦ rw room (stamps_keep self Q kept (checkpoint self y.history pos) y p)
+      | inl room ↦ rw room (kept.stamped (checkpoint self y.history pos) y p)
       | inr full ↦ rw full p
     ]
 
@@ -45,14 +44,14 @@ module _ {S : Type 0} (self : Identity S) (Q : Progress → Type 0) (kept : IsWa
 
   carried_keeps : (rule : Rule) (x : Progress) → Q x → Q (carry_out self rule x)
   unfolding carry_out
-  carried_keeps (rule.ChangeView view) x q = kept.noted (compared_in_own self (signed self x.history (view_change self x.history view))) (stamp self (view_change self x.history view) x) (stamps_keep self Q kept (view_change self x.history view) x q)
-  carried_keeps (rule.Announce changes) x q = kept.noted (plan_text (plan_from self changes) ∷ []) (stamp self (new_view self x.history changes) x) (stamps_keep self Q kept (new_view self x.history changes) x q)
-  carried_keeps (rule.Enter n) x q = stamps_keep self Q kept (enter n) x q
-  carried_keeps (rule.Open e plan) x q = kept.noted (plan_text plan ∷ []) (stamp self (opening e plan) x) (stamps_keep self Q kept (opening e plan) x q)
-  carried_keeps rule.Join x q = stamps_keep self Q kept (join self x.history) x q
-  carried_keeps (rule.Commit pos k b) x q = stamps_keep self Q kept (commit self x.history pos k b) x q
+  carried_keeps (rule.ChangeView view) x q = kept.noted (compared_in_own self (signed self x.history (view_change self x.history view))) (stamp self (view_change self x.history view) x) (kept.stamped (view_change self x.history view) x q)
+  carried_keeps (rule.Announce changes) x q = kept.noted (plan_text (plan_from self changes) ∷ []) (stamp self (new_view self x.history changes) x) (kept.stamped (new_view self x.history changes) x q)
+  carried_keeps (rule.Enter n) x q = kept.stamped (enter n) x q
+  carried_keeps (rule.Open e plan) x q = kept.noted (plan_text plan ∷ []) (stamp self (opening e plan) x) (kept.stamped (opening e plan) x q)
+  carried_keeps rule.Join x q = kept.stamped (join self x.history) x q
+  carried_keeps (rule.Commit pos k b) x q = kept.stamped (commit self x.history pos k b) x q
   carried_keeps (rule.Execute pos b) x q = execute_keeps pos b x q
-  carried_keeps (rule.Prepare pos b) x q = stamps_keep self Q kept (prepare self x.history pos b) x q
+  carried_keeps (rule.Prepare pos b) x q = kept.stamped (prepare self x.history pos b) x q
 
   rules_keep : (n : ℕ) (x : Progress) → Q x → Q (run_rules self n x)
   unfolding run_rules
@@ -70,7 +69,7 @@ module _ {S : Type 0} (self : Identity S) (Q : Progress → Type 0) (kept : IsWa
     | inr not_so ↦ rw not_so q
   ]
 
-  finished_keeps : (runs asks : Bool) (d : History) (a : Answer) → Q a.left → Q (finished_where self runs asks d a).left
+  pub finished_keeps : (runs asks : Bool) (d : History) (a : Answer) → Q a.left → Q (finished_where self runs asks d a).left
   finished_keeps true asks d a q = fetch_sent_keeps asks d (run_rules self enough a.left) (rules_keep enough a.left q)
   finished_keeps false asks d a q = q
 
@@ -81,7 +80,7 @@ module _ {S : Type 0} (self : Identity S) (Q : Progress → Type 0) (kept : IsWa
     | inr more ↦ rw more (kept.sent (to_all (wish self (LostPatience ∷ x.history))) (write LostPatience x) refl (kept.quiet LostPatience x refl q))
   ]
 
-  again_keeps : (x : Progress) → Q x → Q (wish_again self x)
+  pub again_keeps : (x : Progress) → Q x → Q (wish_again self x)
   again_keeps x q = elim (cases_Bool (nat_lt (view_of self x.history) (wish_of self x.history self.host))) [
     | inl does ↦ rw does (kept.sent (to_all (wish self x.history)) x refl q)
     | inr not_so ↦ rw not_so q

@@ -1,11 +1,11 @@
 -- What a given message keeps of what a step of a host has done so far.
 --
--- A step is made of a few moves: an entry that serves, executes and installs nothing is written, strings are noted, a message that is no REPLY is sent,
--- the stored reply of a client is sent, a batch is executed, a state is installed. What each of these keeps (`IsWalked`) is kept by each given message
--- (`give_keeps`).
-use Rattle.std.proofs.Common.{◌≡◌, ℕ, Bool, true, false, ◌&&◌, List, [], ◌∷◌, refl, inl, inr, Option, Some, None}
+-- A step is made of a few moves: a quiet entry is written, a message is stamped and sent, a gate jumps forward, strings are noted, a message that is no
+-- REPLY is sent, the stored reply of a client is sent, a batch is executed, a state is installed. What each of these keeps (`IsWalked`) is kept by each given
+-- message (`give_keeps`). What entries and letters keep, a stamp keeps (`stamp_keeps`).
+use Rattle.std.proofs.Common.{◌≡◌, ℕ, ◌<◌, Bool, true, false, ◌&&◌, List, [], ◌∷◌, refl, inl, inr, Option, Some, None}
 use Rattle.std.specs.Prelude.{nat_lt, is_none}
-use Rattle.std.proofs.lemmas.Bool.{cases_Bool}
+use Rattle.std.proofs.lemmas.Bool.{cases_Bool, and_parts, ltb-true}
 use Rattle.mb_base.specs.Shapes.{Bytes}
 use Rattle.mb_base.specs.declared.names.Ui.{Ui}
 use Rattle.mb_parts.specs.declared.floor.Floor.{Floor}
@@ -34,8 +34,10 @@ use Rattle.mb_model.specs.CarriedOut.{serve_all, close_slot}
 use Rattle.mb_model.specs.Given.{Answer, closing, offer_prepare, named_prepare, casts_vote, accept, give_stamped, give_request, give_wish, give_resend, give_fetch, give_state, install, install_where_all, jump, floor_shown, go_on, give_entries, give_log, give, stored_reply}
 use Rattle.mb_model.proofs.Options.{option_cases}
 
--- Nothing is served, nothing executed, and no state is installed.
+-- Nothing is stamped, served or executed, no gate jumps, and no state is installed.
 abbrev pub is_quiet : Entry → Bool
+is_quiet (Stamped m) = false
+is_quiet (Jumped h floor) = false
 is_quiet (Served pos placed) = false
 is_quiet (Executed slot) = false
 is_quiet (Installed pos parts) = false
@@ -45,7 +47,7 @@ abbrev pub is_reply : Message → Bool
 is_reply (message.Reply m) = true
 is_reply m = false
 
-pub no_reply_stamped : (m : StampedMessage) → is_reply (as_message m) ≡ false
+no_reply_stamped : (m : StampedMessage) → is_reply (as_message m) ≡ false
 no_reply_stamped (stamped.Prepare m) = refl
 no_reply_stamped (stamped.Commit m) = refl
 no_reply_stamped (stamped.Checkpoint m) = refl
@@ -56,8 +58,16 @@ no_reply_stamped (stamped.Open m) = refl
 no_reply_stamped (stamped.Join m) = refl
 
 module _ {S : Type 0} (self : Identity S) (Q : Progress → Type 0) where
+  -- A stamp is an entry and a letter that is no REPLY.
+  pub stamp_keeps : ((m : StampedMessage) (x : Progress) → Q x → Q (write (Stamped m) x)) → ((l : Letter) (x : Progress) → is_reply l.says ≡ false → Q x → Q (send l x)) → (m : StampedMessage) (x : Progress) → Q x → Q (stamp self m x)
+  stamp_keeps written sent m x q =
+      let made : StampedMessage = signed self x.history m in
+      sent (to_all (as_message made)) (write (Stamped made) x) (no_reply_stamped made) (written made x q)
+
   pub record IsWalked : Type 0 where
     pub quiet : (e : Entry) (x : Progress) → is_quiet e ≡ true → Q x → Q (write e x)
+    pub stamped : (m : StampedMessage) (x : Progress) → Q x → Q (stamp self m x)
+    pub jumped : (h : ℕ) (f : Floor) (x : Progress) → closed_at x.history h ≡ None → (gate x.history h).counter < f.counter → Q x → Q (write (Jumped h f) x)
     pub noted : (strings : List Bytes) (x : Progress) → Q x → Q (note strings x)
     pub sent : (l : Letter) (x : Progress) → is_reply l.says ≡ false → Q x → Q (send l x)
     pub replied : (c : ℕ) (x : Progress) → Q x → Q (send (to_client c (stored_reply self x.history c)) x)
@@ -65,16 +75,13 @@ module _ {S : Type 0} (self : Identity S) (Q : Progress → Type 0) where
     pub installed : (x : Progress) → Q x → Q (install self x)
 
   module _ (kept : IsWalked) where
-    pub stamps_keep : (m : StampedMessage) (x : Progress) → Q x → Q (stamp self m x)
-    stamps_keep m x q = kept.sent (to_all (as_message (signed self x.history m))) (write (Stamped (signed self x.history m)) x) (no_reply_stamped (signed self x.history m)) (kept.quiet (Stamped (signed self x.history m)) x refl q)
-
     -- ---- a message that is given
 
     closing_keeps : (o : Outcome) (u : Ui) (x : Progress) → Q x → Q (closing o u x)
     closing_keeps (outcome.Illegal r) u x q = kept.quiet (Closed u.host u.counter) x refl q
     closing_keeps o u x q = q
 
-    offer_keeps : (m : Prepare) (x : Progress) → Q x → Q (offer_prepare self m x)
+    pub offer_keeps : (m : Prepare) (x : Progress) → Q x → Q (offer_prepare self m x)
     unfolding offer_prepare
     offer_keeps m x q = elim (option_cases (stamped_refusal self x.history (stamped.Prepare m))) [
       | inl none ↦ rw none (kept.quiet (Accepted (message.Prepare m)) x refl q)
@@ -151,10 +158,16 @@ module _ {S : Type 0} (self : Identity S) (Q : Progress → Type 0) where
       go (outcome.BadState part at) some = rw some (kept.quiet DroppedParts x refl q)
       go o some = rw some q
 
+    is_nothing : (o : Option ℕ) → is_none o ≡ true → o ≡ None
+    is_nothing None e = refl
+    is_nothing (Some n) e = absurd cc
+
     jump_keeps : (h : ℕ) (f : Option Floor) (x : Progress) → Q x → Q (jump self h f x)
     jump_keeps h None x q = q
     jump_keeps h (Some f) x q = elim (cases_Bool (is_none (closed_at x.history h) && nat_lt (gate x.history h).counter f.counter)) [
-      | inl does ↦ rw does (kept.quiet (Jumped h f) x refl q)
+      | inl does ↦
+          let t = and_parts (is_none (closed_at x.history h)) (nat_lt (gate x.history h).counter f.counter) does in
+          rw does (kept.jumped h f x (is_nothing (closed_at x.history h) t.0) (ltb-true (gate x.history h).counter f.counter t.1) q)
       | inr not_so ↦ rw not_so q
     ]
 
@@ -164,7 +177,7 @@ module _ {S : Type 0} (self : Identity S) (Q : Progress → Type 0) where
     go_keeps outcome.Idle x more f q = f x q
     go_keeps o x more f q = q
 
-    entries_keep : (ms : List StampedMessage) (x : Progress) → Q x → Q (give_entries self ms x).left
+    pub entries_keep : (ms : List StampedMessage) (x : Progress) → Q x → Q (give_entries self ms x).left
     unfolding give_entries
     entries_keep [] x q = q
     entries_keep (m ∷ ms) x q = go_keeps (give_stamped self m x).outcome (give_stamped self m x).left (λ y. give_entries self ms y) (λ y r. entries_keep ms y r) (stamped_keeps m x q)

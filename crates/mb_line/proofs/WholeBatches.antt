@@ -58,8 +58,8 @@ module _ {S : Type 0} (self : Identity S) where
   quiet_whole (Executed slot) x q a = absurd cc
   quiet_whole (Installed pos parts) x q a = absurd cc
   quiet_whole (Accepted m) x q a = ((a.1, a.0), tt)
-  quiet_whole (Stamped m) x q a = ((a.1, a.0), tt)
-  quiet_whole (Jumped h f) x q a = ((a.1, a.0), tt)
+  quiet_whole (Stamped m) x q a = absurd cc
+  quiet_whole (Jumped h f) x q a = absurd cc
   quiet_whole (Closed h c) x q a = ((a.1, a.0), tt)
   quiet_whole DroppedParts x q a = ((a.1, a.0), tt)
   quiet_whole LostPatience x q a = ((a.1, a.0), tt)
@@ -68,6 +68,8 @@ module _ {S : Type 0} (self : Identity S) where
   whole_kept : IsWalked self Whole
   whole_kept = record {
     quiet = quiet_whole;
+    stamped = λ m x a. ((a.1, a.0), tt);
+    jumped = λ h f x free lower a. ((a.1, a.0), tt);
     noted = λ strings x a. a;
     sent = λ l x r a. a;
     replied = λ c x a. a;

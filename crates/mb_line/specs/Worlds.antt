@@ -1,5 +1,5 @@
 -- What correct hosts executed and what clients accepted, in each world of a schedule.
-use Rattle.std.specs.Prelude.{◌≡◌, ℕ, ◌≤◌, length}
+use Rattle.std.specs.Prelude.{ℕ, ◌≤◌, length}
 use Rattle.mb_theory.specs.Headline.{IsService}
 use Rattle.mb_theory.specs.Hashed.{HashesApart}
 use Rattle.mb_sched.specs.Limits.{IsSchedule}

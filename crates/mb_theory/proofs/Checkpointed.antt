@@ -34,7 +34,7 @@ same_slot s slot is = cc
 module _ {S : Type 0} (self : Identity S) where
   -- one more entry in front
   further : (d : History) (e : Entry) (later before : History) (slot : Slot) → IsCheckpointed self d later before slot → IsCheckpointed self (e ∷ d) (e ∷ later) before slot
-  further d e later before slot c = record { message = c.message; more = e ∷ c.more; follows = ap (λ (l : History). e ∷ l) c.follows; position = c.position; digest = c.digest }
+  further d e later before slot c = record { message = c.message; more = e ∷ c.more; follows = ap (λ (l : History). e ∷ l) c.follows; position = c.position; digest = c.digest; floors = c.floors }
 
   in_front : (e : Entry) (d : History) → ((slot : Slot) → e ≡ Executed slot → ⊥) → StampsCheckpoints self d → StampsCheckpoints self (e ∷ d)
   in_front e d none all later before slot is multiple room = elim (split e d later before slot is) [
@@ -68,6 +68,7 @@ module _ {S : Type 0} (self : Identity S) where
     follows = refl;
     position = refl;
     digest = refl;
+    floors = refl;
   }
 
   accompanied : (s : Slot) (d : History) → StampsCheckpoints self d → StampsCheckpoints self (with_its s d)

@@ -70,7 +70,7 @@ rise_mapped key P key' Q g so n (x ∷ l) r = elim (option_cases (g x)) [
       rw some (omega (arith, above, s.0), s.1, subst (λ (k : ℕ). RiseFrom key' Q (k + 1) (filter_map g l)) (sym s.0) (rise_mapped key P key' Q g so (key x + 1) l r.2))
 ]
 
-agreed_many : {A : Type 0} (like : A → A → Bool) (many : ℕ) (all l r : List A) → first_agreed like many all l ≡ Some r → (x : A) × (many ≤ length (filter (like x) all)) × (take many (filter (like x) all) ≡ r)
+pub agreed_many : {A : Type 0} (like : A → A → Bool) (many : ℕ) (all l r : List A) → first_agreed like many all l ≡ Some r → (x : A) × (many ≤ length (filter (like x) all)) × (take many (filter (like x) all) ≡ r)
 unfolding first_agreed
 agreed_many like many all [] r e = absurd cc
 agreed_many like many all (x ∷ l) r e = elim (cases_Bool (nat_le many (length (filter (like x) all)))) [

@@ -10,6 +10,11 @@ use Rattle.mb_theory.specs.OwnStamps.{CountsOwn}
 use Rattle.mb_theory.specs.WhatCame.{FindsWhatCame}
 use Rattle.mb_theory.specs.FindsTables.{FindsTables}
 use Rattle.mb_theory.specs.GatesStand.{GatesStand}
+use Rattle.mb_theory.specs.LeavesWithCause.{LeavesWithCause}
+use Rattle.mb_theory.specs.CutsLog.{CutsLog}
+use Rattle.mb_theory.specs.TakesLogs.{TakesLogs}
+use Rattle.mb_theory.specs.Sends.{SendsAll}
+use Rattle.mb_theory.specs.Answers.{AnswersAll}
 
 module _ {S : Type 0} (self : Identity S) (d : History) where
   pub record LeavesNothing : Type 0 where
@@ -18,7 +23,9 @@ module _ {S : Type 0} (self : Identity S) (d : History) where
     pub commits : CommitsNext self d
     pub executes : ExecutesAtQuorum self d
     pub checkpoints : StampsCheckpoints self d
+    pub cuts : CutsLog self d
     pub leaves : LeavesView self d
+    pub leaves_with_cause : LeavesWithCause self d
     pub announces : AnnouncesView self d
     pub enters : EntersView self d
     pub opens : OpensByEvidence self d
@@ -28,11 +35,14 @@ module _ {S : Type 0} (self : Identity S) (d : History) where
     pub installs : InstallsState self d
     pub takes : TakesWhatPasses self d
     pub takes_valid : TakesWhatIsValid self d
+    pub takes_logs : TakesLogs self d
     pub keeps_slots : KeepsSlots self d
     pub counts_prepares : CountsPrepares self d
     pub counts_commits : CountsCommits self d
     pub counts_opens : CountsOpens self d
     pub keeps : KeepsTables self d
+    pub sends : SendsAll self d
+    pub answers : AnswersAll self d
     pub executes_with_commit : ExecutesWithCommit self d
     pub executes_with_prepare : ExecutesWithPrepare self d
     pub executes_with_both : ExecutesWithBoth self d

@@ -16,6 +16,8 @@ use Rattle.mb_theory.specs.Justification.{IsJustified}
 use Rattle.mb_theory.specs.AllDue.{LeavesNothing}
 use Rattle.mb_theory.specs.Safety.{IsSafe, AreServedResults}
 use Rattle.mb_theory.specs.Bounds.{AreBounded, IsBlameless}
+use Rattle.mb_theory.specs.EventsStep.{EventsStep}
+use Rattle.mb_theory.specs.NoEventBlames.{NoEventBlames}
 
 -- ---- the service
 
@@ -35,7 +37,8 @@ pub record IsService {S : Type 0} (machine : Machine S) (snapshots : Snapshots S
 
 module _ {S : Type 0} (system : System S) where
   -- Views agree; correct hosts execute beginnings of one list; accepted results are the service's; each execution is justified by what the
-  -- host was given; nothing due is left undone; logs keep their limits; and the correct are never blamed.
+  -- host was given; nothing due is left undone; logs keep their limits; the correct are never blamed, and no correct host's message was
+  -- answered with blame by the event before; and each event that may be next is a step of the correct host to which it comes.
   pub record Promises (w : World) : Type 0 where
     pub agrees : ViewsAgree system.schedule w
     pub safe : IsSafe system w
@@ -44,6 +47,8 @@ module _ {S : Type 0} (system : System S) where
     pub done : (h : ℕ) → IsCorrect system.schedule h → LeavesNothing (self_of system h) (w.histories h)
     pub bounded : AreBounded system w
     pub blameless : IsBlameless system w
+    pub unblamed : NoEventBlames system w
+    pub steps : EventsStep system w
 
   -- after each event that nothing stopped, while no two of the strings hashed so far share a digest
   abbrev pub HoldsAtEachEvent : Type 0

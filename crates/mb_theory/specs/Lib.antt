@@ -12,6 +12,11 @@ pub mod Justification
 pub mod TakesValid
 pub mod KeepsTables
 pub mod NothingLeft
+pub mod LeavesWithCause
+pub mod CutsLog
+pub mod TakesLogs
+pub mod Sends
+pub mod Answers
 pub mod OwnStamps
 pub mod WhatCame
 pub mod FindsTables
@@ -20,4 +25,6 @@ pub mod AllDue
 pub mod CarriedOut
 pub mod Safety
 pub mod Bounds
+pub mod EventsStep
+pub mod NoEventBlames
 pub mod Headline

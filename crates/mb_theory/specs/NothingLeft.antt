@@ -38,7 +38,7 @@ use Rattle.mb_model.specs.Stable.{low_of}
 use Rattle.mb_model.specs.OwnLog.{own_log, is_normal}
 use Rattle.mb_model.specs.Positions.{exec_of, slot_in, slot_vote, vote_of, batch_from}
 use Rattle.mb_model.specs.Execution.{state_of, pending, missing}
-use Rattle.mb_model.specs.Making.{present_parts}
+use Rattle.mb_model.specs.Making.{present_parts, floors_under}
 use Rattle.mb_model.specs.EnabledRules.{unordered}
 use Rattle.mb_model.specs.Passed.{Passes}
 use Rattle.mb_model.specs.Given.{named_prepare}
@@ -119,13 +119,14 @@ module _ {S : Type 0} (self : Identity S) (d : History) where
   ExecutesAtQuorum = (k : KnownSlot) (b : Batch) → is_open self d ≡ true → HasSlot self d (exec_of d + 1) k b
       → HasQuorum self.shape (has_vote self d (exec_of d + 1) (slot_vote k)) → ⊥
 
-  -- Right behind an executed slot stands a CHECKPOINT of its position, with the digest of the state there.
+  -- Right behind an executed slot stands a CHECKPOINT of its position, with the digest of the state there, and each host's floor under it.
   pub record IsCheckpointed (later before : History) (slot : Slot) : Type 0 where
     pub message : Checkpoint
     pub more : History
     pub follows : later ≡ more ++ Stamped (stamped.Checkpoint message) ∷ []
     pub position : message.pos ≡ slot.pos
     pub digest : message.state ≡ state_digest (present_parts self (Executed slot ∷ before)) slot.pos
+    pub floors : message.body ≡ Whole (record { floors = floors_under self (Executed slot ∷ before) slot.pos })
 
   -- When a multiple of the interval was executed, and there was room at that moment, one was stamped.
   abbrev pub StampsCheckpoints : Type 0
