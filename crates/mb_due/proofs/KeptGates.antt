@@ -29,7 +29,7 @@ use Rattle.mb_steps.proofs.StepArises.{Arises, Makes}
 use Rattle.mb_steps.proofs.StepOwnList.{stands_here, own_passed}
 use Rattle.mb_steps.proofs.StepOwnStamped.{steady}
 use Rattle.mb_theory.specs.KeepsTables.{NoneIs}
-use Rattle.mb_theory.specs.GatesStand.{IsMessage, is_of, moves_gate, MovesTo, KeepsGates, KeepsJumps, StartsGates, GatesStand}
+use Rattle.mb_theory.specs.GatesStand.{IsMessage, is_of, moves_gate, MovesTo, TakesInTurn, KeepsGates, KeepsJumps, StartsGates, GatesStand}
 use Rattle.mb_theory.specs.World.{System, self_of}
 use Rattle.mb_theory.specs.WorldSteps.{world}
 use Rattle.mb_theory.proofs.KeptByWorlds.{world_arises}
@@ -354,8 +354,12 @@ module _ {S : Type 0} (self : Identity S) where
       let same : gate d h ≡ gate (e ∷ before) h = ap (λ (x : History). gate x h) is ∙ gate_stays later (e ∷ before) h none in
       subst (λ (g : Floor). Moved before m g) (sym same) (moved before e m message a)
 
+  takes_in_turn : (d : History) → Arises self d → TakesInTurn d
+  takes_in_turn d arises later before e m is message =
+      (enters before e m message (arises_past later (e ∷ before) (subst (λ (x : History). Arises self x) is arises))).next
+
   pub gates_stand : (d : History) → Arises self d → GatesStand d
-  gates_stand d a = record { keeps = keeps_gates d a; jumps = keeps_jumps d; starts = starts_gates d }
+  gates_stand d a = record { turns = takes_in_turn d a; keeps = keeps_gates d a; jumps = keeps_jumps d; starts = starts_gates d }
 
 -- In each world, whoever is faulty and whatever is forged.
 pub hosts_gates_stand : {S : Type 0} (system : System S) → (k h : ℕ) → GatesStand ((world system k).histories h)

@@ -20,7 +20,7 @@ use Rattle.mb_theory.specs.KeepsTables.{NoneIs, is_checkpoint_of, IsCheckpoint, 
 
 -- ---- where f+1 CHECKPOINTs name one state, they make a certificate
 
-names : (state : Bytes) (o : Option Checkpoint) → passes (λ c. same_bytes c.state state) o ≡ names_state state o
+pub names : (state : Bytes) (o : Option Checkpoint) → passes (λ c. same_bytes c.state state) o ≡ names_state state o
 names state None = refl
 names state (Some c) = refl
 
@@ -47,7 +47,7 @@ module _ (s : Shape) where
   cert_place pos [] c e = absurd cc
   cert_place pos (m ∷ r) c e = let same : record { pos = pos; state = m.state; members = map (stable_member s) (m ∷ r) } ≡ c = cc in ap (λ (x : StableCert). x.pos) (sym same)
 
-  agreed_place : (d : History) (pos : ℕ) (c : StableCert) → agreed_at s d pos ≡ Some c → c.pos ≡ pos
+  pub agreed_place : (d : History) (pos : ℕ) (c : StableCert) → agreed_at s d pos ≡ Some c → c.pos ≡ pos
   unfolding agreed_at
   agreed_place d pos c e = of_list (first_agreed (same_state s) (quorum s) (checkpoints_at s d pos) (checkpoints_at s d pos)) e where
     of_list : (o : Option (List Checkpoint)) → option_and_then (stable_cert s pos) o ≡ Some c → c.pos ≡ pos

@@ -48,6 +48,7 @@ use Rattle.mb_views.proofs.OwnSeen.{seen_prepare, seen_commit}
 use Rattle.mb_views.proofs.PlanMoments.{base_below, low_grows}
 use Rattle.mb_due.proofs.AcceptedFits.{HasValues, values_in_worlds}
 use Rattle.mb_due.proofs.OpensCount.{opened_same, plan_same, view_same, vote_is, held_short, counted, Values}
+use Rattle.mb_due.proofs.WhatCame.{named_in}
 use Rattle.mb_due.proofs.OwnBehind.{no_vote_of_prepare, no_slot_of_prepare, no_vote_of_commit, no_vote_of_open}
 
 module _ {S : Type 0} (self : Identity S) where
@@ -117,15 +118,16 @@ module _ {S : Type 0} (self : Identity S) where
       let u = if_some (in_window self d (next_position self d)) (slot_in self d (view_of self d) (next_position self d)) k m.1 in
       subst (λ (n : ℕ). IsInWindow self d n) m.0 (window_says self d (next_position self d) u.0)
 
-  commit_place : (m : Commit) (b : Batch) → m.body ≡ Whole b → vote_by self.host (Stamped (stamped.Commit m)) self.host m.view m.pos ≡ Some (record { counter = m.counter; request = batch_digest b })
-  commit_place m b whole = rw (eq-eqb m.view m.view refl, eq-eqb m.pos m.pos refl, eq-eqb self.host self.host refl, whole) refl
+  commit_place : (m : Commit) (k : KnownSlot) (b : Batch) → m.body ≡ Whole b → m.counter ≡ k.counter → k.digest ≡ batch_digest b
+      → vote_by self.host (Stamped (stamped.Commit m)) self.host m.view m.pos ≡ Some (slot_vote k)
+  commit_place m k b whole counter named = rw (eq-eqb m.view m.view refl, eq-eqb m.pos m.pos refl, eq-eqb self.host self.host refl, whole, counter, named) refl
 
   counts_own_commits : (d : History) → Arises self d → CountsOwnCommits self d
   counts_own_commits d arises later before m is =
       let e : Entry = Stamped (stamped.Commit m) in
       let a = arises_since later before e d arises is in
       let s = seen_commit self before m a.0 in
-      let x : Vote = record { counter = m.counter; request = batch_digest s.batch } in
+      let x : Vote = slot_vote s.slot in
       let view : view_of self before ≡ m.view = sym s.view in
       let inside : IsInWindow self before m.pos = subst (λ (n : ℕ). IsInWindow self before n) (own_commit before a.0.0 a.0.1 a.0.2 m a.0.4) (commit_inside before a.0.0 a.0.1 a.0.2 a.0.3) in
       let counts = counts_where self e before m.view m.pos (view_same self e before a refl) (commit_low m before) view inside in
@@ -139,7 +141,7 @@ module _ {S : Type 0} (self : Identity S) where
         held = s.there;
         body = s.body;
         vote = subst (λ (h : History). vote_of self h self.host m.view m.pos ≡ Some x) (sym is) (vote_stays self later (e ∷ before) self.host m.view m.pos x
-            (vote_new self e before self.host m.view m.pos x counts (no_vote_of_commit self before m a) (commit_place m s.batch s.body)));
+            (vote_new self e before self.host m.view m.pos x counts (no_vote_of_commit self before m a) (commit_place m s.slot s.batch s.body s.counter (named_in self before (view_of self before) m.pos s.slot s.batch s.known s.there))));
       }
 
   -- ---- the own OPEN

@@ -49,7 +49,7 @@ prepare_says m v p k e =
     let s = same_two m.view v m.pos p t.0 in
     (s.0, s.1, sym (some_is made k t.1))
 
-and_then_at : {A B : Type 0} (f : A → Option B) (o : Option A) (z : B) → option_and_then f o ≡ Some z → (x : A) × (o ≡ Some x) × (f x ≡ Some z)
+pub and_then_at : {A B : Type 0} (f : A → Option B) (o : Option A) (z : B) → option_and_then f o ≡ Some z → (x : A) × (o ≡ Some x) × (f x ≡ Some z)
 and_then_at f None z e = absurd cc
 and_then_at f (Some x) z e = (x, refl, e)
 
@@ -65,6 +65,22 @@ says_slot (Accepted (message.Prepare m)) v p k e = prepare_says m v p k e
 says_slot (Stamped (stamped.Prepare m)) v p k e = prepare_says m v p k e
 says_slot (Stamped (stamped.Open m)) v p k e = open_says m v p k e
 says_slot x v p k e = absurd cc
+
+-- A slot has the digest of its batch.
+whole_named : (body : Body Batch) (b : Batch) → whole_body body ≡ Some b → body_digest batch_bytes body ≡ batch_digest b
+whole_named body b e = ap (λ (x : Body Batch). body_digest batch_bytes x) (whole_is body b e)
+
+prepare_named : (m : Prepare) (v p : ℕ) (k : KnownSlot) (b : Batch) → IsSlotOf m v p k → k.batch ≡ Some b → k.digest ≡ batch_digest b
+prepare_named m v p k b s e = ap (λ (x : KnownSlot). x.digest) s.2 ∙ whole_named m.body b (sym (ap (λ (x : KnownSlot). x.batch) s.2) ∙ e)
+
+open_named : (m : Open) (c b : Batch) (k : KnownSlot) → k ≡ carried_slot m.evidence c → k.batch ≡ Some b → k.digest ≡ batch_digest b
+open_named m c b k s e = ap (λ (x : KnownSlot). x.digest) s ∙ ap (λ (x : Batch). batch_digest x) (some_is c b (sym (ap (λ (x : KnownSlot). x.batch) s) ∙ e))
+
+slot_named : (x : Entry) (v p : ℕ) (k : KnownSlot) (b : Batch) → SaysSlot x v p k → k.batch ≡ Some b → k.digest ≡ batch_digest b
+slot_named (Accepted (message.Prepare m)) v p k b s e = prepare_named m v p k b s e
+slot_named (Stamped (stamped.Prepare m)) v p k b s e = prepare_named m v p k b s e
+slot_named (Stamped (stamped.Open m)) v p k b s e = open_named m s.0 b k s.2 e
+slot_named x v p k b s e = absurd s
 
 with_says : (voter g v p view pos : ℕ) (body : Body Batch) (counter : ℕ) (x : Vote) → vote_with voter g v p view pos body counter ≡ Some x → (voter ≡ g) × IsVoteAt view pos body counter v p x
 with_says voter g v p view pos body counter x e =
@@ -145,6 +161,9 @@ module _ {S : Type 0} (self : Identity S) where
         let m = moment (x ∷ d) v p t.0 in
         record { later = []; before = d; entry = x; is = refl; current = m.0; inside = m.1; says = says_slot x v p k t.1 }
   ]
+
+  pub named_in : (d : History) (v p : ℕ) (k : KnownSlot) (b : Batch) → slot_in self d v p ≡ Some k → k.batch ≡ Some b → k.digest ≡ batch_digest b
+  named_in d v p k b e is = let c = slots_came d v p k e in slot_named c.entry v p k b c.says is
 
   votes_came : (d : History) (g v p : ℕ) (x : Vote) → vote_of self d g v p ≡ Some x → VoteCame self d g v p x
   unfolding vote_of

@@ -1,8 +1,9 @@
--- What a host finds in its other tables came: requests that wait, wishes, VIEW_CHANGEs, ENTERs, OPENs, the NEW_VIEW, evidence, the plan, CHECKPOINTs and
--- snapshots. Each of them stands in the history as an entry that says it.
+-- What a host finds in its other tables came: requests that wait, wishes, VIEW_CHANGEs, ENTERs, OPENs, the NEW_VIEW, evidence, the plan, CHECKPOINTs, what is
+-- stable and snapshots. Each of them stands in the history as an entry that says it.
 use Rattle.std.specs.Prelude.{◌≡◌, ℕ, ◌+◌, ◌<◌, ◌⊎◌, Bool, List, ◌∷◌, ◌++◌, Some, Contains}
-use Rattle.mb_base.specs.Shapes.{Bytes}
+use Rattle.mb_base.specs.Shapes.{Bytes, HasQuorum}
 use Rattle.mb_parts.specs.declared.request.Request.{Request}
+use Rattle.mb_parts.specs.declared.certificates.StableCert.{StableCert}
 use Rattle.mb_parts.specs.declared.certificates.Evidence.{Evidence}
 use Rattle.mb_msg.specs.declared.event.Slot.{Slot}
 use Rattle.mb_msg.specs.declared.message.Body.TheVariants.{Whole}
@@ -19,9 +20,9 @@ use Rattle.mb_msg.specs.declared.stamped.Stamped.TheVariants as stamped
 use Rattle.mb_model.specs.States.{parts_of}
 use Rattle.mb_model.specs.Histories.{Entry, Accepted, Stamped, Executed, LostPatience, History, Identity, view_of}
 use Rattle.mb_model.specs.Held.{wish_of, changes_of, enters_for, opened_by, new_view_of, evidence_of, plan_held, plan_from}
-use Rattle.mb_model.specs.Stable.{checkpoint_of}
+use Rattle.mb_model.specs.Stable.{checkpoint_of, stable_of, low_of}
 use Rattle.mb_model.specs.Execution.{state_of, pending, snapshot_of}
-use Rattle.mb_theory.specs.KeepsTables.{NoneIs, IsChange, IsEnter, IsCheckpoint, outdoes, is_enter_of, is_open_of, is_checkpoint_of, is_execution_of}
+use Rattle.mb_theory.specs.KeepsTables.{NoneIs, IsChange, IsEnter, IsCheckpoint, names_state, outdoes, is_enter_of, is_open_of, is_checkpoint_of, is_execution_of}
 
 -- An entry that says it stands in the history.
 pub record Came (says : Entry → History → Type 0) (d : History) : Type 0 where
@@ -70,6 +71,18 @@ module _ {S : Type 0} (self : Identity S) where
   BringsPlan (Accepted (message.Open m)) v p = (b : OpenBody) × (m.body ≡ Whole b) × (m.evidence.view ≡ v) × (p ≡ record { base = b.stable; batches = b.batches })
   BringsPlan e v p = ⊥
 
+  -- f+1 hosts have a CHECKPOINT of the position of this certificate that names its state.
+  abbrev pub IsAgreed : History → StableCert → Type 0
+  IsAgreed d c = HasQuorum self.shape (λ h. names_state c.state (checkpoint_of d h c.pos))
+
+  -- It shows this certificate: in a JOIN or a LOG, as the base of a plan, or as the CHECKPOINT behind which f+1 agree.
+  abbrev pub ShowsStable : History → Entry → StableCert → Type 0
+  ShowsStable before (Accepted (message.Join m)) c = m.stable ≡ c
+  ShowsStable before (Accepted (message.Log m)) c = m.stable ≡ c
+  ShowsStable before (Accepted (message.Checkpoint m)) c = IsAgreed (Accepted (message.Checkpoint m) ∷ before) c
+  ShowsStable before (Stamped (stamped.Checkpoint m)) c = IsAgreed (Stamped (stamped.Checkpoint m) ∷ before) c
+  ShowsStable before e c = (v : ℕ) × (p : Plan) × BringsPlan e v p × (p.base ≡ c)
+
 module _ {S : Type 0} (self : Identity S) (d : History) where
   -- A request that waits was taken, and none took its place.
   abbrev pub FindsRequests : Type 0
@@ -108,6 +121,10 @@ module _ {S : Type 0} (self : Identity S) (d : History) where
   FindsCheckpoints = (h pos : ℕ) (m : Checkpoint) → checkpoint_of d h pos ≡ Some m
       → (m.ui.host ≡ h) × (m.pos ≡ pos) × CameLast (is_checkpoint_of h pos) (λ e before. IsCheckpoint e m) d
 
+  -- What is stable above the start was shown.
+  abbrev pub FindsStable : Type 0
+  FindsStable = 0 < low_of self d → Came (λ e before. ShowsStable self before e (stable_of self d)) d
+
   -- The snapshot of a position is of the state behind its last execution.
   abbrev pub FindsSnapshots : Type 0
   FindsSnapshots = (pos : ℕ) (parts : List Bytes) → snapshot_of self d pos ≡ Some parts
@@ -123,4 +140,5 @@ module _ {S : Type 0} (self : Identity S) (d : History) where
     pub evidence : FindsEvidence
     pub plans : FindsPlans
     pub checkpoints : FindsCheckpoints
+    pub stable : FindsStable
     pub snapshots : FindsSnapshots

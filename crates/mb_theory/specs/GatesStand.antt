@@ -1,6 +1,6 @@
 -- The gate of a host stands behind the last message that was taken of it, or at the floor to which it jumped later; the gate for the host itself, behind the
 -- last message that it stamped.
-use Rattle.std.specs.Prelude.{◌≡◌, ℕ, ◌==◌, ◌⊎◌, Bool, false, max, ◌∷◌, ◌++◌, Option, Some, None}
+use Rattle.std.specs.Prelude.{◌≡◌, ℕ, ◌+◌, ◌==◌, ◌⊎◌, Bool, false, max, ◌∷◌, ◌++◌, Option, Some, None}
 use Rattle.mb_parts.specs.declared.floor.Floor.{Floor}
 use Rattle.mb_parts.specs.declared.floor.Phase.{Phase}
 use Rattle.mb_parts.specs.declared.floor.Phase.TheVariants as phase
@@ -50,6 +50,11 @@ abbrev pub KeepsGates : History → Type 0
 KeepsGates d = (later before : History) (e : Entry) (m : StampedMessage) → d ≡ later ++ e ∷ before → IsMessage e m → NoneIs (moves_gate (ui_of m).host) later
     → ((gate d (ui_of m).host).counter ≡ (ui_of m).counter) × MovesTo (gate before (ui_of m).host) m (gate d (ui_of m).host)
 
+-- Each message of a host was the next one, as its gate stood: none was taken twice, and none was passed over.
+abbrev pub TakesInTurn : History → Type 0
+TakesInTurn d = (later before : History) (e : Entry) (m : StampedMessage) → d ≡ later ++ e ∷ before → IsMessage e m
+    → (ui_of m).counter ≡ (gate before (ui_of m).host).counter + 1
+
 -- Behind a jump it stands at the floor of the jump.
 abbrev pub KeepsJumps : History → Type 0
 KeepsJumps d = (later before : History) (h : ℕ) (floor : Floor) → d ≡ later ++ Jumped h floor ∷ before → NoneIs (moves_gate h) later → gate d h ≡ floor
@@ -59,6 +64,7 @@ abbrev pub StartsGates : History → Type 0
 StartsGates d = (h : ℕ) → NoneIs (moves_gate h) d → gate d h ≡ initial_floor
 
 pub record GatesStand (d : History) : Type 0 where
+  pub turns : TakesInTurn d
   pub keeps : KeepsGates d
   pub jumps : KeepsJumps d
   pub starts : StartsGates d

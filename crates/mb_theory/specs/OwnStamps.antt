@@ -20,7 +20,7 @@ use Rattle.mb_model.specs.declared.known.Vote.{Vote}
 use Rattle.mb_model.specs.declared.known.KnownSlot.{KnownSlot}
 use Rattle.mb_model.specs.Histories.{Entry, Stamped, History, Identity, view_of, is_open}
 use Rattle.mb_model.specs.Held.{opened_by, plan_held}
-use Rattle.mb_model.specs.Positions.{exec_of, batch_from, slot_in, vote_of}
+use Rattle.mb_model.specs.Positions.{exec_of, batch_from, slot_in, slot_vote, vote_of}
 use Rattle.mb_theory.specs.NothingLeft.{IsInWindow, slot_of, has_vote}
 
 -- the slot and the vote of a batch that an OPEN of this evidence carries on
@@ -41,7 +41,7 @@ module _ {S : Type 0} (self : Identity S) (d : History) where
   abbrev pub CountsOwnPrepares : Type 0
   CountsOwnPrepares = (later before : History) (m : Prepare) → d ≡ later ++ Stamped (stamped.Prepare m) ∷ before → PrepareCounts before m
 
-  -- So is a COMMIT. It is for the slot there, and the own vote.
+  -- So is a COMMIT. It names the counter and the batch of the slot there, and is the own vote for it.
   pub record CommitCounts (before : History) (m : Commit) : Type 0 where
     pub view : view_of self before ≡ m.view
     pub inside : IsInWindow self before m.pos
@@ -51,7 +51,7 @@ module _ {S : Type 0} (self : Identity S) (d : History) where
     pub counter : m.counter ≡ slot.counter
     pub held : slot.batch ≡ Some batch
     pub body : m.body ≡ Whole batch
-    pub vote : vote_of self d self.host m.view m.pos ≡ Some (record { counter = m.counter; request = batch_digest batch })
+    pub vote : vote_of self d self.host m.view m.pos ≡ Some (slot_vote slot)
 
   abbrev pub CountsOwnCommits : Type 0
   CountsOwnCommits = (later before : History) (m : Commit) → d ≡ later ++ Stamped (stamped.Commit m) ∷ before → CommitCounts before m
