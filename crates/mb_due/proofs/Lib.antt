@@ -7,7 +7,7 @@
 -- of their host (`KeptGates`), and what is found came (`WhatCame`, `EntriesCame`, `StableCame`, `TablesCame`). What came is found until something takes its place
 -- (`KeptTables`): requests and wishes (`KeptRequests`), parts of a state and snapshots (`KeptParts`), VIEW_CHANGEs and ENTERs (`KeptChanges`), OPENs, NEW_VIEWs,
 -- plans and evidence (`KeptOpenings`), CHECKPOINTs and what is stable by them (`KeptStable`). A host leaves its view with cause alone (`LeavesWithCause`),
--- cuts its log where f+1 agree on a floor (`CutsLog`), takes LOGs with their first entry (`LogsStand`, `JumpsToFloors`, `TakesLogs`), sends what it stamps and
+-- cuts its log where f+1 agree on a floor (`CutsLog`), takes LOGs and their entries (`LogsStand`, `JumpsToFloors`, `TakesLogs`), sends what it stamps and
 -- each fresh reply (`Sends`), and answers who asks (`Answers`).
 pub mod Taken
 pub mod TakesValid

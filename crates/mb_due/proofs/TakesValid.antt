@@ -99,7 +99,7 @@ module _ {S : Type 0} (self : Identity S) where
   all_batches [] a = refl
   all_batches (b ∷ l) a = and_from _ _ (all_tagged b.requests a.0) (all_batches l a.1)
 
-  certified : (m : StampedMessage) → IsCertified self m → valid self (stamp_claim m) ≡ true
+  pub certified : (m : StampedMessage) → IsCertified self m → valid self (stamp_claim m) ≡ true
   certified m c = true-same_bytes (ui_of m).cert (certificate self.secret (ui_of m).host (ui_of m).counter (bare_bytes (bare_of m))) c
 
   usable : (m : ViewChange) → IsUsable self m → change_fault self m ≡ None

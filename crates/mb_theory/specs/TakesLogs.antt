@@ -1,5 +1,5 @@
--- A LOG of another host is taken, and then its entries from the first one on.
-use Rattle.std.specs.Prelude.{◌≡◌, ◌≤◌, true, List, ◌∷◌, Some, None, Ok, Contains}
+-- A LOG of another host is taken, and then its entries one after the other.
+use Rattle.std.specs.Prelude.{◌≡◌, ◌≤◌, true, List, [], ◌∷◌, Some, None, Ok, Contains}
 use Rattle.mb_base.specs.Shapes.{Bytes}
 use Rattle.mb_parts.specs.declared.floor.Floor.{Floor}
 use Rattle.mb_parts.specs.declared.certificates.FloorCert.{FloorCert}
@@ -9,14 +9,14 @@ use Rattle.mb_msg.specs.declared.message.Message.TheVariants as message
 use Rattle.mb_msg.specs.declared.transfer.Log.{Log}
 use Rattle.mb_msg.specs.declared.stamped.Stamped.{Stamped as StampedMessage}
 use Rattle.mb_msg.specs.declared.event.Event.TheVariants as event
-use Rattle.mb_msg.specs.Stamps.{as_message}
+use Rattle.mb_msg.specs.Stamps.{ui_of, as_message}
 use Rattle.mb_msg.specs.Reading.{message_of}
 use Rattle.mb_model.specs.Verified.{verifies}
 use Rattle.mb_model.specs.Histories.{Accepted, History, Identity, gate, closed_at}
 use Rattle.mb_model.specs.Sending.{begin}
-use Rattle.mb_model.specs.Given.{jump, floor_shown}
+use Rattle.mb_model.specs.Given.{accept, jump, floor_shown}
 use Rattle.mb_model.specs.HostStep.{transition}
-use Rattle.mb_theory.specs.TakesValid.{IsValid}
+use Rattle.mb_theory.specs.TakesValid.{IsCertified, IsValid}
 
 module _ {S : Type 0} (self : Identity S) where
   -- A LOG of another host: the floor that it shows, its stable certificate and its evidence hold.
@@ -30,6 +30,24 @@ module _ {S : Type 0} (self : Identity S) where
   abbrev pub with_floor_of : Log → History → History
   with_floor_of m d = Accepted (message.Log m) ∷ (jump self m.host (floor_shown self m.host m.floor) (begin d)).history
 
+  -- ---- its entries
+
+  -- a stamped message of another host, rightly certified, which its gate has passed already
+  pub record IsPassed (d : History) (x : StampedMessage) : Type 0 where
+    pub certified : IsCertified self x
+    pub other : (ui_of x).host ≡ self.host → ⊥
+    pub free : closed_at d (ui_of x).host ≡ None
+    pub passed : (ui_of x).counter ≤ (gate d (ui_of x).host).counter
+
+  -- the history with a stamped message that is accepted, and with the PREPARE that a COMMIT brings
+  abbrev pub with_accepted : StampedMessage → History → History
+  with_accepted x d = (accept self x (begin d)).history
+
+  -- As long as each of these messages is valid behind those before it, or passed already, all valid ones are accepted.
+  abbrev pub AreTaken : History → History → List StampedMessage → Type 0
+  AreTaken left d [] = Unit {0}
+  AreTaken left d (x ∷ l) = (IsValid self d (as_message x) → Contains left (Accepted (as_message x)) × AreTaken left (with_accepted x d) l) × (IsPassed d x → AreTaken left d l)
+
 module _ {S : Type 0} (self : Identity S) (d : History) where
   -- A valid LOG stands in the history from then on.
   abbrev pub KeepsLogs : Type 0
@@ -41,12 +59,12 @@ module _ {S : Type 0} (self : Identity S) (d : History) where
   JumpsToFloors = (bytes : Bytes) (m : Log) (c : FloorCert) (f : Floor) → message_of self.shape bytes ≡ Ok (message.Log m) → IsValidLog self m → m.floor ≡ Some c
       → certified_floor self.shape (verifies self.secret) m.host c ≡ Some f → closed_at d m.host ≡ None → f.counter ≤ (gate (transition self d (event.Given bytes)).left.history m.host).counter
 
-  -- Its first entry, where it is valid behind the floor, is accepted.
-  abbrev pub TakesFirstEntries : Type 0
-  TakesFirstEntries = (bytes : Bytes) (m : Log) (x : StampedMessage) (more : List StampedMessage) → message_of self.shape bytes ≡ Ok (message.Log m) → IsValidLog self m
-      → m.entries ≡ x ∷ more → IsValid self (with_floor_of self m d) (as_message x) → Contains (transition self d (event.Given bytes)).left.history (Accepted (as_message x))
+  -- Behind its floor its entries are taken.
+  abbrev pub TakesEntries : Type 0
+  TakesEntries = (bytes : Bytes) (m : Log) → message_of self.shape bytes ≡ Ok (message.Log m) → IsValidLog self m
+      → AreTaken self (transition self d (event.Given bytes)).left.history (with_floor_of self m d) m.entries
 
   pub record TakesLogs : Type 0 where
     pub keeps : KeepsLogs
     pub jumps : JumpsToFloors
-    pub first : TakesFirstEntries
+    pub entries : TakesEntries
