@@ -7,6 +7,7 @@ ghost use Rattle.mb_theory.specs.AllDue.{HostsLeaveNothing};
 /// After any events no correct host has left anything undone that is due, whoever else is faulty and whatever is forged: it has ordered, committed,
 /// executed and changed views as far as it may; each valid message is taken, each vote that it takes or stamps counts, what else came is found until
 /// something takes its place, nothing else is found, each gate stands behind the last message of its host, and the f+1st matching vote executes in its step.
+/// It leaves its view with cause alone, and cuts its log where f+1 hosts agree on a floor; it sends what it stamps and each fresh reply, and answers who asks.
 /// So it is of whole hosts over any service.
 pub fn hosts_leave_nothing<V>()
     ensures { HostsLeaveNothing V }
@@ -15,7 +16,8 @@ pub fn hosts_leave_nothing<V>()
 /// For every service that can be replicated and every schedule with at most f faulty hosts and nothing forged, whatever is lost, repeated and
 /// reordered: views agree; correct hosts execute beginnings of one list; accepted results are the service's there; each execution is justified
 /// by what the host was given; nothing that is due is left undone, and the f+1st matching vote executes in its step; logs and votes keep their
-/// limits; and the correct are never blamed. So it is after each event, of whole hosts, while no two of the strings hashed so far share a digest.
+/// limits; the correct are never blamed, by no event; and each event is a step of the correct host to which it comes, and of no other. So it is
+/// after each event, of whole hosts, while no two of the strings hashed so far share a digest.
 pub fn hosts_stay_one<V>()
     ensures { HostsStayOne V }
 {}

@@ -1,4 +1,4 @@
--- All that is due at a host, put together: what it has done, what it takes and finds, and what it executes in the step in which it is given.
+-- All that is due at a host, put together: what it has done, what it takes and finds, what it sends, and what it executes in the step in which it is given.
 use Rattle.std.specs.Prelude.{ℕ}
 use Rattle.mb_model.specs.Histories.{History, Identity}
 use Rattle.mb_theory.specs.World.{System, self_of}
