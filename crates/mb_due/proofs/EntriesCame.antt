@@ -1,8 +1,8 @@
 -- What a host finds in its tables of requests, wishes, VIEW_CHANGEs, ENTERs, OPENs, NEW_VIEWs, evidence, plans, CHECKPOINTs and snapshots stands in the history as
 -- an entry that says it.
-use Rattle.std.proofs.Common.{◌≡◌, ℕ, ◌+◌, ◌<◌, ◌⊎◌, Bool, true, false, ◌&&◌, not, List, [], ◌∷◌, ◌++◌, refl, sym, ap, subst, inl, inr, arith, max, Option, Some, None}
+use Rattle.std.proofs.Common.{◌≡◌, ℕ, ◌+◌, ◌<◌, ◌⊎◌, Bool, true, false, ◌&&◌, not, List, [], ◌∷◌, refl, sym, ap, subst, inl, inr, arith, max, Option, Some, None}
 use Rattle.std.specs.Prelude.{◌==◌, nat_lt, nat_le, filter, filter_map, if◌then◌else◌}
-use Rattle.std.specs.List.{range_with_len, cons_option}
+use Rattle.std.specs.List.{range_with_len}
 use Rattle.std.specs.Option.{option_or}
 use Rattle.std.proofs.lemmas.Bool.{cases_Bool, cases_lt, and_parts, and_right, eqb-true, ltb-true}
 use Rattle.mb_base.specs.Shapes.{Bytes, host_count}
