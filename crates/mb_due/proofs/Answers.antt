@@ -1,5 +1,5 @@
 -- Who asks is answered: what is sent at once stays among what is sent, whatever the rest of the step does.
-use Rattle.std.proofs.Common.{◌≡◌, ℕ, ◌<◌, Bool, true, false, List, [], ◌∷◌, ◌++◌, refl, sym, ap, subst, ◌∙◌, inl, inr, arith, Option, Some}
+use Rattle.std.proofs.Common.{◌≡◌, ℕ, ◌<◌, Bool, true, false, List, [], ◌∷◌, ◌++◌, refl, sym, ap, subst, ◌∙◌, inl, inr, arith, Option, Some, Ok}
 use Rattle.std.specs.Prelude.{if◌then◌else◌, Contains, unwrap_or, Result}
 use Rattle.std.specs.Bool.{then_some}
 use Rattle.std.specs.Option.{option_or}
@@ -7,14 +7,18 @@ use Rattle.std.proofs.lemmas.Bool.{cases_Bool, eq-eqb, ne_eqb, lt-ltb, le-ltb, l
 use Rattle.std.proofs.lemmas.List.Elements.{Contains-append_left, Contains-append_right}
 use Rattle.mb_usig.specs.Tags.{request_tag}
 use Rattle.mb_usig.proofs.Laws.{true-same_bytes}
+use Rattle.mb_base.specs.Shapes.{Bytes}
 use Rattle.mb_parts.specs.declared.request.Request.{Request}
 use Rattle.mb_msg.specs.declared.event.Placed.{Placed}
+use Rattle.mb_msg.specs.declared.event.Event.TheVariants as event
 use Rattle.mb_msg.specs.declared.event.Outcome.{Outcome}
 use Rattle.mb_msg.specs.declared.event.Outcome.TheVariants as outcome
 use Rattle.mb_msg.specs.declared.message.Message.{Message}
+use Rattle.mb_msg.specs.declared.message.Message.TheVariants as message
 use Rattle.mb_msg.specs.declared.transfer.Resend.{Resend}
 use Rattle.mb_msg.specs.declared.transfer.Fetch.{Fetch}
 use Rattle.mb_msg.specs.Stamps.{as_message}
+use Rattle.mb_msg.specs.Reading.{message_of}
 use Rattle.mb_model.specs.Histories.{Served, LostPatience, Nudged, History, Identity, view_of, origin, taken_of}
 use Rattle.mb_model.specs.Held.{view_limit, wish_of}
 use Rattle.mb_model.specs.Service.{reply_of}
@@ -34,6 +38,7 @@ use Rattle.mb_theory.specs.TakesValid.{IsTagged}
 use Rattle.mb_theory.specs.Answers.{AnswersResend, AnswersFetch, AnswersAgain, WishesOnward, AsksAll, TellsWishAgain, AsksWhereBehind, FetchesOnNudge, FetchesOn, AnswersAll}
 use Rattle.mb_line.proofs.Walks.{IsWalked}
 use Rattle.mb_line.proofs.WalkEvents.{finished_keeps, again_keeps}
+use Rattle.mb_due.proofs.ShowsLog.{log_shown, shows_log, state_shown, shows_state}
 
 module _ {S : Type 0} (self : Identity S) (d : History) where
   -- ---- a letter that is sent stays so
@@ -134,18 +139,29 @@ module _ {S : Type 0} (self : Identity S) (d : History) where
   outcome_stays true asks a e = e
   outcome_stays false asks a e = e
 
+  resend_has : (m : Resend) (r : Result Message ℕ) → Ok (message.Resend m) ≡ r → (on_bytes self r d).outcome ≡ outcome.Took → Contains (on_bytes self r d).left.sent (to_host m.host (log_for self d m))
+  resend_has m r is =
+      subst (λ (r : Result Message ℕ). (on_bytes self r d).outcome ≡ outcome.Took → Contains (on_bytes self r d).left.sent (to_host m.host (log_for self d m))) is
+      (λ e. finished_has (to_host m.host (log_for self d m)) _ _ (give_resend self m (begin d)) (resend_sent m (outcome_stays _ _ (give_resend self m (begin d)) e)))
+
   answers_resend : AnswersResend self d
   unfolding transition
-  answers_resend bytes m reads =
-      subst (λ (r : Result Message ℕ). (on_bytes self r d).outcome ≡ outcome.Took → Contains (on_bytes self r d).left.sent (to_host m.host (log_for self d m))) (sym reads)
-      (λ e. finished_has (to_host m.host (log_for self d m)) _ _ (give_resend self m (begin d)) (resend_sent m (outcome_stays _ _ (give_resend self m (begin d)) e)))
+  answers_resend bytes m reads took = (log_shown self d m, resend_has m (message_of self.shape bytes) (sym reads) took, shows_log self d m)
+
+  fetch_has : (m : Fetch) (r : Result Message ℕ) → Ok (message.Fetch m) ≡ r → (on_bytes self r d).outcome ≡ outcome.Took
+      → Contains (on_bytes self r d).left.sent (to_host m.host (state_message self m.pos m.first (unwrap_or (snapshot_of self d m.pos) [])))
+  fetch_has m r is =
+      let l : Letter = to_host m.host (state_message self m.pos m.first (unwrap_or (snapshot_of self d m.pos) [])) in
+      subst (λ (r : Result Message ℕ). (on_bytes self r d).outcome ≡ outcome.Took → Contains (on_bytes self r d).left.sent l) is
+      (λ e. finished_has l _ _ (give_fetch self m (begin d)) (fetch_sent m (outcome_stays _ _ (give_fetch self m (begin d)) e)))
 
   answers_fetch : AnswersFetch self d
   unfolding transition
-  answers_fetch bytes m reads =
-      let l : Letter = to_host m.host (state_message self m.pos m.first (unwrap_or (snapshot_of self d m.pos) [])) in
-      subst (λ (r : Result Message ℕ). (on_bytes self r d).outcome ≡ outcome.Took → Contains (on_bytes self r d).left.sent l) (sym reads)
-      (λ e. finished_has l _ _ (give_fetch self m (begin d)) (fetch_sent m (outcome_stays _ _ (give_fetch self m (begin d)) e)))
+  answers_fetch bytes m parts reads took there = (
+    state_shown self d m parts,
+    subst (λ (o : Option (List Bytes)). Contains (transition self d (event.Given bytes)).left.sent (to_host m.host (state_message self m.pos m.first (unwrap_or o [])))) there (fetch_has m (message_of self.shape bytes) (sym reads) took),
+    shows_state self d m parts,
+  )
 
   -- ---- Patience and Nudge
 

@@ -8,7 +8,7 @@
 -- (`KeptTables`): requests and wishes (`KeptRequests`), parts of a state and snapshots (`KeptParts`), VIEW_CHANGEs and ENTERs (`KeptChanges`), OPENs, NEW_VIEWs,
 -- plans and evidence (`KeptOpenings`), CHECKPOINTs and what is stable by them (`KeptStable`). A host leaves its view with cause alone (`LeavesWithCause`),
 -- cuts its log where f+1 agree on a floor (`CutsLog`), takes LOGs and their entries (`LogsStand`, `JumpsToFloors`, `TakesLogs`), sends what it stamps and
--- each fresh reply (`Sends`), and answers who asks (`Answers`).
+-- each fresh reply (`Sends`), and answers who asks (`ShowsLog`, `Answers`).
 pub mod Taken
 pub mod TakesValid
 pub mod AcceptedFits
@@ -40,4 +40,5 @@ pub mod LogsStand
 pub mod JumpsToFloors
 pub mod TakesLogs
 pub mod Sends
+pub mod ShowsLog
 pub mod Answers

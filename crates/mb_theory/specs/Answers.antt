@@ -1,10 +1,11 @@
 -- Who asks is answered: a RESEND with a LOG, a FETCH with a STATE, a request that was served with its reply; lost patience with a wish, a Nudge with a
 -- RESEND and with the own wish, where that is not fulfilled. And while a host lacks state, it asks for it.
-use Rattle.std.specs.Prelude.{◌≡◌, ℕ, ◌<◌, List, [], Contains, Ok, unwrap_or}
+use Rattle.std.specs.Prelude.{◌≡◌, ℕ, ◌<◌, List, Contains, Some, Ok}
 use Rattle.mb_base.specs.Shapes.{Bytes}
 use Rattle.mb_parts.specs.declared.request.Request.{Request}
 use Rattle.mb_msg.specs.declared.message.Message.TheVariants as message
 use Rattle.mb_msg.specs.declared.transfer.Resend.{Resend}
+use Rattle.mb_msg.specs.declared.transfer.Log.{Log}
 use Rattle.mb_msg.specs.declared.transfer.Fetch.{Fetch}
 use Rattle.mb_msg.specs.declared.transfer.StateMsg.{StateMsg}
 use Rattle.mb_msg.specs.declared.event.Event.TheVariants as event
@@ -17,21 +18,22 @@ use Rattle.mb_model.specs.Stable.{low_of}
 use Rattle.mb_model.specs.Positions.{exec_of}
 use Rattle.mb_model.specs.Execution.{state_of, snapshot_of, asked_host}
 use Rattle.mb_model.specs.Sending.{Letter, Progress, to_all, to_host, to_client}
-use Rattle.mb_model.specs.Making.{wish_for, wish, resend, log_for, fetch, state_message}
+use Rattle.mb_model.specs.Making.{wish_for, wish, resend, fetch}
 use Rattle.mb_model.specs.Given.{stored_reply}
 use Rattle.mb_model.specs.HostStep.{transition}
 use Rattle.mb_theory.specs.TakesValid.{IsTagged}
+use Rattle.mb_theory.specs.ShowsLog.{ShowsLog, ShowsState}
 
 module _ {S : Type 0} (self : Identity S) (d : History) where
-  -- The LOG of what its sender has not taken goes to the sender of a RESEND that is taken.
+  -- A LOG of what its sender lacks goes to the sender of a RESEND that is taken.
   abbrev pub AnswersResend : Type 0
   AnswersResend = (bytes : Bytes) (m : Resend) → message_of self.shape bytes ≡ Ok (message.Resend m) → (transition self d (event.Given bytes)).outcome ≡ outcome.Took
-      → Contains (transition self d (event.Given bytes)).left.sent (to_host m.host (log_for self d m))
+      → (l : Log) × Contains (transition self d (event.Given bytes)).left.sent (to_host m.host (message.Log l)) × ShowsLog self d m l
 
   -- The parts of the snapshot from the first one that is asked for go to the sender of a FETCH that is taken.
   abbrev pub AnswersFetch : Type 0
-  AnswersFetch = (bytes : Bytes) (m : Fetch) → message_of self.shape bytes ≡ Ok (message.Fetch m) → (transition self d (event.Given bytes)).outcome ≡ outcome.Took
-      → Contains (transition self d (event.Given bytes)).left.sent (to_host m.host (state_message self m.pos m.first (unwrap_or (snapshot_of self d m.pos) [])))
+  AnswersFetch = (bytes : Bytes) (m : Fetch) (parts : List Bytes) → message_of self.shape bytes ≡ Ok (message.Fetch m) → (transition self d (event.Given bytes)).outcome ≡ outcome.Took
+      → snapshot_of self d m.pos ≡ Some parts → (s : StateMsg) × Contains (transition self d (event.Given bytes)).left.sent (to_host m.host (message.State s)) × ShowsState self d m parts s
 
   -- The stored reply goes to the client whose last served request comes again.
   abbrev pub AnswersAgain : Type 0

@@ -16,6 +16,7 @@ pub mod LeavesWithCause
 pub mod CutsLog
 pub mod TakesLogs
 pub mod Sends
+pub mod ShowsLog
 pub mod Answers
 pub mod OwnStamps
 pub mod WhatCame
