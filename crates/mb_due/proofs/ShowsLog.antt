@@ -1,13 +1,11 @@
 -- A LOG begins with what its reader lacks first, in the form in which it is kept, which changes neither what it says nor its identifier; a STATE begins with
 -- the part that is asked for.
-use Rattle.std.proofs.Common.{◌≡◌, ℕ, zero, suc, ◌+◌, ◌-◌, ◌≤◌, true, List, [], ◌∷◌, ◌++◌, length, take, reverse, max, refl, sym, ap, subst, ◌∙◌, inl, inr, arith, Option, Some, None}
+use Rattle.std.proofs.Common.{◌≡◌, ℕ, zero, suc, ◌+◌, ◌-◌, ◌≤◌, true, List, [], ◌∷◌, ◌++◌, length, take, reverse, refl, sym, ap, subst, ◌∙◌, inl, inr, arith, Option, Some, None}
 use Rattle.std.specs.Prelude.{◌==◌, map, drop, slice_get, nat_le, if◌then◌else◌}
 use Rattle.std.proofs.lemmas.Bool.{cases_Bool, eq-eqb, le-leb}
 use Rattle.std.proofs.lemmas.List.{length-map, reverse-append, take-take}
 use Rattle.mb_base.specs.Shapes.{Bytes}
-use Rattle.mb_base.specs.declared.names.Ui.{Ui}
 use Rattle.mb_parts.specs.declared.certificates.Evidence.{Evidence}
-use Rattle.mb_parts.specs.Bares.{Bare}
 use Rattle.mb_parts.specs.Counters.{at_counter}
 use Rattle.mb_parts.proofs.Counters.{at_more}
 use Rattle.mb_msg.specs.declared.transfer.Resend.{Resend}
@@ -21,7 +19,7 @@ use Rattle.mb_model.specs.States.{part_digests}
 use Rattle.mb_model.specs.Histories.{History, Identity, stamped as all_stamped, counter_of, view_of}
 use Rattle.mb_model.specs.Held.{evidence_of, evidence_in}
 use Rattle.mb_model.specs.Stable.{stable_of, log_floor}
-use Rattle.mb_model.specs.OwnLog.{behind, behind_opening, behind_change, kept_forms, packed, first_packed, entry_limit, log_start, log_kept, count_from, since}
+use Rattle.mb_model.specs.OwnLog.{behind, behind_opening, behind_change, kept_forms, first_packed, log_start, count_from, since}
 use Rattle.mb_model.specs.Making.{expected, first_fitting}
 use Rattle.mb_steps.proofs.StepHeldEvidence.{some_is}
 use Rattle.mb_theory.specs.ShowsLog.{next_shown, BeginsAt, ShowsLog, ShowsState}
