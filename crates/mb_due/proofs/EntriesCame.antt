@@ -127,7 +127,7 @@ module _ {S : Type 0} (self : Identity S) where
 
   -- ---- VIEW_CHANGEs
 
-  change_said : (x : Entry) (d : History) (m : ViewChange) → change_in self d x ≡ Some m → IsChange x m
+  pub change_said : (x : Entry) (d : History) (m : ViewChange) → change_in self d x ≡ Some m → IsChange x m
   change_said (Accepted (message.ViewChange c)) d m e = let t = if_some _ (Some c) m e in inl (ap (λ (z : ViewChange). Accepted (message.ViewChange z)) (some_is c m t.1))
   change_said (Stamped (stamped.ViewChange c)) d m e = let t = if_some _ (Some c) m e in inr (ap (λ (z : ViewChange). Stamped (stamped.ViewChange z)) (some_is c m t.1))
   change_said x d m e = absurd cc
@@ -224,7 +224,7 @@ checkpoints_came (x ∷ d) h pos m e = elim (or_else (checkpoint_by h pos (check
 module _ {S : Type 0} (self : Identity S) where
   -- ---- NEW_VIEWs, evidence and plans
 
-  new_view_said : (x : Entry) (d : History) (m : NewView) → new_view_in self d x ≡ Some m → IsNewView x m
+  pub new_view_said : (x : Entry) (d : History) (m : NewView) → new_view_in self d x ≡ Some m → IsNewView x m
   new_view_said (Accepted (message.NewView n)) d m e = let t = if_some _ (Some n) m e in inl (ap (λ (z : NewView). Accepted (message.NewView z)) (some_is n m t.1))
   new_view_said (Stamped (stamped.NewView n)) d m e = inr (ap (λ (z : NewView). Stamped (stamped.NewView z)) (some_is n m e))
   new_view_said x d m e = absurd cc
@@ -244,7 +244,7 @@ module _ {S : Type 0} (self : Identity S) where
     | inr old ↦ inl (rw old at e)
   ]
 
-  shown_said : (y : Entry) (x : Evidence) → evidence_shown y ≡ Some x → ShowsEvidence y x
+  pub shown_said : (y : Entry) (x : Evidence) → evidence_shown y ≡ Some x → ShowsEvidence y x
   shown_said (Accepted (message.Open m)) x e = some_is m.evidence x e
   shown_said (Accepted (message.Join m)) x e = e
   shown_said (Accepted (message.Log m)) x e = e

@@ -19,7 +19,7 @@ use Rattle.mb_theory.specs.KeepsTables.{NoneIs, is_change_of, is_enter_of, IsEnt
 -- ---- members of lists
 
 module _ {A : Type 0} where
-  in_filter : (p : A → Bool) (l : List A) (x : A) → In l x → p x ≡ true → In (filter p l) x
+  pub in_filter : (p : A → Bool) (l : List A) (x : A) → In l x → p x ≡ true → In (filter p l) x
   in_filter p [] x i e = i
   in_filter p (y ∷ l) x (inl is) e = rw (subst (λ (z : A). p z ≡ true) (sym is) e) (inl is)
   in_filter p (y ∷ l) x (inr i) e = elim (cases_Bool (p y)) [

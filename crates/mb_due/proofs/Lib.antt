@@ -4,7 +4,7 @@
 -- (`OpensCount`), and what a host stamps counts for itself (`OwnBehind`, `OwnCounts`). A taken vote leaves slots, votes and view as they were for the rules
 -- behind it (`Staying`, `Voted`), and a position that waits is executed
 -- before the rules end (`Running`), so the vote that completes f+1 executes in its step (`Completing`, `CompletingOpens`). Gates stand behind the last message
--- of their host (`KeptGates`), and what is found came (`WhatCame`, `EntriesCame`, `StableCame`, `TablesCame`). What came is found until something takes its place
+-- of their host (`KeptGates`), and what is found came (`WhatCame`, `EntriesCame`, `StableCame`, `TablesCame`) and gives place only in time (`TablesReplaced`). What came is found until something takes its place
 -- (`KeptTables`): requests and wishes (`KeptRequests`), parts of a state and snapshots (`KeptParts`), VIEW_CHANGEs and ENTERs (`KeptChanges`), OPENs, NEW_VIEWs,
 -- plans and evidence (`KeptOpenings`), CHECKPOINTs and what is stable by them (`KeptStable`). A host leaves its view with cause alone (`LeavesWithCause`),
 -- cuts its log where f+1 agree on a floor (`CutsLog`), takes LOGs and their entries (`LogsStand`, `JumpsToFloors`, `TakesLogs`), sends what it stamps and
@@ -30,6 +30,7 @@ pub mod WhatCame
 pub mod EntriesCame
 pub mod StableCame
 pub mod TablesCame
+pub mod TablesReplaced
 pub mod OwnBehind
 pub mod OwnCounts
 pub mod KeptGates

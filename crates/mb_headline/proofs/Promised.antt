@@ -20,6 +20,7 @@ use Rattle.mb_due.proofs.KeptTables.{keeps_tables}
 use Rattle.mb_due.proofs.OwnCounts.{hosts_count_own}
 use Rattle.mb_due.proofs.WhatCame.{hosts_find_what_came}
 use Rattle.mb_due.proofs.TablesCame.{hosts_find_tables}
+use Rattle.mb_due.proofs.TablesReplaced.{hosts_replace_tables}
 use Rattle.mb_due.proofs.KeptGates.{hosts_gates_stand}
 use Rattle.mb_due.proofs.LeavesWithCause.{hosts_leave_with_cause}
 use Rattle.mb_due.proofs.CutsLog.{hosts_cut_logs}
@@ -66,6 +67,7 @@ nothing_left S system k h =
       counts_own = hosts_count_own system k h;
       finds = hosts_find_what_came system k h;
       finds_tables = hosts_find_tables system k h;
+      replaces = hosts_replace_tables system k h;
       gates = hosts_gates_stand system k h;
     }
 

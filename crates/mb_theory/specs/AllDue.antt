@@ -9,6 +9,7 @@ use Rattle.mb_theory.specs.NothingLeft.{OrdersRequests, OrdersAllThatFit, Commit
 use Rattle.mb_theory.specs.OwnStamps.{CountsOwn}
 use Rattle.mb_theory.specs.WhatCame.{FindsWhatCame}
 use Rattle.mb_theory.specs.FindsTables.{FindsTables}
+use Rattle.mb_theory.specs.ReplacesTables.{ReplacesTables}
 use Rattle.mb_theory.specs.GatesStand.{GatesStand}
 use Rattle.mb_theory.specs.LeavesWithCause.{LeavesWithCause}
 use Rattle.mb_theory.specs.CutsLog.{CutsLog}
@@ -50,6 +51,7 @@ module _ {S : Type 0} (self : Identity S) (d : History) where
     pub counts_own : CountsOwn self d
     pub finds : FindsWhatCame self d
     pub finds_tables : FindsTables self d
+    pub replaces : ReplacesTables self d
     pub gates : GatesStand d
 
 -- After any events, whoever is faulty and whatever is forged, no host has left anything undone.

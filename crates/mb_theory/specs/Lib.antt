@@ -21,6 +21,7 @@ pub mod Answers
 pub mod OwnStamps
 pub mod WhatCame
 pub mod FindsTables
+pub mod ReplacesTables
 pub mod GatesStand
 pub mod AllDue
 pub mod CarriedOut
