@@ -6,6 +6,8 @@ use Rattle.mb_usig.specs.Tags.{certificate, wish_tag}
 use Rattle.mb_parts.specs.declared.request.Request.{Request}
 use Rattle.mb_parts.specs.declared.certificates.StableMember.{StableMember}
 use Rattle.mb_parts.specs.declared.certificates.StableCert.{StableCert}
+use Rattle.mb_parts.specs.declared.certificates.FloorMember.{FloorMember}
+use Rattle.mb_parts.specs.declared.certificates.FloorCert.{FloorCert}
 use Rattle.mb_parts.specs.declared.floor.Floor.{Floor}
 use Rattle.mb_parts.specs.declared.floor.Phase.TheVariants as phase
 use Rattle.mb_parts.specs.Bares.{Bare, bare_bytes, batch_digest}
@@ -121,6 +123,13 @@ member h counter = record { host = h; counter = counter; floors = body_digest fl
 
 abbrev pub stable_4 : StableCert
 stable_4 = record { pos = 4; state = state_4; members = member 0 2 ∷ member 1 2 ∷ [] }
+
+-- The same two with their floors: where the log of h0 begins.
+abbrev floor_member : ℕ → FloorMember
+floor_member h = record { host = h; counter = 2; floors = Some floor_0 ∷ None ∷ None ∷ []; cert = (point h 2).ui.cert }
+
+abbrev pub floor_cert_0 : FloorCert
+floor_cert_0 = record { pos = 4; state = state_4; members = floor_member 0 ∷ floor_member 1 ∷ [] }
 
 -- h1 joins view 0 there.
 abbrev pub join_1 : Join

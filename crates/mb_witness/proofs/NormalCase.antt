@@ -49,7 +49,7 @@ abbrev ordered : History
 ordered = Accepted (message.Prepare prepare_1) ∷ []
 
 -- the slot that it makes
-abbrev slot_of_1 : KnownSlot
+abbrev pub slot_of_1 : KnownSlot
 slot_of_1 = record { counter = 1; cert = prepare_cert; digest = batch_digest asked; batch = Some asked }
 
 a_batch_is_committed : CommitsNext (host 1) ordered → ⊥
@@ -60,7 +60,7 @@ a_batch_is_committed commits =
     commits slot_of_1 asked refl refl (record { place = few; counter = left }) ((record { above = omega arith; near = omega arith; allowed = omega arith }, refl), refl)
 
 -- It stamped its COMMIT, so two of three hosts have the vote, and it did not execute the batch.
-abbrev committed : History
+abbrev pub committed : History
 committed = Stamped (stamped.Commit commit_1) ∷ ordered
 
 a_committed_batch_is_executed : ExecutesAtQuorum (host 1) committed → ⊥
@@ -88,7 +88,7 @@ a_checkpoint_is_stamped stamps =
 -- ---- what goes into a batch
 
 -- Two clients wait, and one PREPARE orders both: nothing is left out.
-abbrev two_wait : History
+abbrev pub two_wait : History
 two_wait = Accepted (message.Request asked_1) ∷ Accepted (message.Request asked_0) ∷ []
 
 both_are_in : (OrdersAllThatFit (host 0) (Stamped (stamped.Prepare prepare_1) ∷ two_wait) → IsFull (unordered (host 0) two_wait) asked) × (unordered (host 0) two_wait ≡ asked.requests)
@@ -126,7 +126,7 @@ a_slot_is_kept : (KeepsSlots (host 1) committed → slot_in (host 1) committed 0
 unfolding host_on_literals
 a_slot_is_kept = (λ keeps. keeps (Stamped (stamped.Commit commit_1) ∷ []) [] prepare_1 refl refl (record { above = omega arith; near = omega arith; allowed = omega arith }) refl, refl)
 
-abbrev vote_1 : Vote
+abbrev pub vote_1 : Vote
 vote_1 = record { counter = 1; request = batch_digest asked }
 
 a_prepare_counts : (CountsPrepares (host 1) committed → vote_of (host 1) committed 0 0 1 ≡ Some vote_1) × (vote_of (host 1) committed 0 0 1 ≡ Some vote_1)
@@ -143,7 +143,7 @@ a_commit_counts = (λ counts. counts [] [] commit_1 refl refl (record { above = 
 -- ---- the vote that completes f+1 executes
 
 -- what a message leaves at a host
-abbrev left_by : ℕ → History → Message → History
+abbrev pub left_by : ℕ → History → Message → History
 left_by h d m = (transition (host h) d (event.Given (spelling m))).left.history
 
 -- The primary stamped the PREPARE, and the COMMIT of h1 comes.

@@ -25,7 +25,7 @@ use Rattle.mb_witness.proofs.Data.{host, prepare_1, commit_1, wish_1, change_1, 
 -- ---- requests
 
 -- a request behind which that of another client came
-abbrev two_came : History
+abbrev pub two_came : History
 two_came = Accepted (message.Request asked_1) ∷ Accepted (message.Request asked_0) ∷ []
 
 -- One message is no state that was installed.
@@ -45,7 +45,7 @@ a_request_waits = (
 -- ---- wishes
 
 -- the wish of h1, behind which h2 loses patience, too
-abbrev both_wish : History
+abbrev pub both_wish : History
 both_wish = LostPatience ∷ Accepted (message.ReqViewChange wish_1) ∷ []
 
 a_wish_stands : (keeps.KeepsWishes (host 2) both_wish → 1 ≤ wish_of (host 2) both_wish 1) × (wish_of (host 2) both_wish 1 ≡ 1)
@@ -58,10 +58,10 @@ an_own_wish_stands = (λ keeps. keeps [] (Accepted (message.ReqViewChange wish_1
 
 -- ---- the change of the view at h1, which leads view 1
 
-abbrev changed_1 : History
+abbrev pub changed_1 : History
 changed_1 = Stamped (stamped.ViewChange change_1) ∷ Stamped (stamped.Commit commit_1) ∷ Accepted (message.Prepare prepare_1) ∷ []
 
-abbrev announced_1 : History
+abbrev pub announced_1 : History
 announced_1 = Stamped (stamped.NewView new_view_1) ∷ Accepted (message.ViewChange change_2) ∷ changed_1
 
 a_change_is_a_wish : (keeps.KeepsWishesOfChanges (host 1) announced_1 → 1 ≤ wish_of (host 1) announced_1 2) × (wish_of (host 1) announced_1 2 ≡ 1)
@@ -88,7 +88,7 @@ unfolding host_on_literals
 an_own_plan_is_held = (λ keeps. keeps [] (Accepted (message.ViewChange change_2) ∷ changed_1) new_view_1 (record { changes = change_1 ∷ change_2 ∷ [] }) refl refl tt, refl)
 
 -- the ENTER and the OPEN of h2
-abbrev opened_1 : History
+abbrev pub opened_1 : History
 opened_1 = Accepted (message.Open open_2) ∷ Accepted (message.Enter enter_2) ∷ announced_1
 
 an_enter_is_held : (keeps.KeepsEnters (host 1) opened_1 → Contains (enters_for (host 1) opened_1 new_view_1) enter_2) × (enters_for (host 1) opened_1 new_view_1 ≡ enter_2 ∷ [])
@@ -106,7 +106,7 @@ an_open_is_found = (λ keeps. keeps [] (Accepted (message.Enter enter_2) ∷ ann
 abbrev given_2 : History
 given_2 = Accepted (message.NewView new_view_1) ∷ Stamped (stamped.ViewChange change_2) ∷ []
 
-abbrev opened_2 : History
+abbrev pub opened_2 : History
 opened_2 = Stamped (stamped.Open open_2) ∷ Stamped (stamped.Enter enter_2) ∷ given_2
 
 a_new_view_is_held : (keeps.KeepsNewViews (host 2) opened_2 → new_view_of (host 2) opened_2 ≡ Some new_view_1) × (new_view_of (host 2) opened_2 ≡ Some new_view_1)
@@ -147,7 +147,7 @@ a_plan_of_an_open_is_held =
 abbrev join_of_1 : Join
 join_of_1 = record join_1 { view = 1; evidence = Some evidence_1 }
 
-abbrev by_join : History
+abbrev pub by_join : History
 by_join = Accepted (message.Join join_of_1) ∷ []
 
 evidence_of_a_join_is_held : (keeps.KeepsEvidenceOfJoins (host 0) by_join → evidence_of (host 0) by_join ≡ Some evidence_1) × (evidence_of (host 0) by_join ≡ Some evidence_1)
@@ -160,7 +160,7 @@ evidence_of_a_join_is_held =
 abbrev log_of_1 : Log
 log_of_1 = record { host = 1; floor = None; stable = stable_4; evidence = Some evidence_1; entries = [] }
 
-abbrev by_log : History
+abbrev pub by_log : History
 by_log = Accepted (message.Log log_of_1) ∷ []
 
 evidence_of_a_log_is_held : (keeps.KeepsEvidenceOfLogs (host 0) by_log → evidence_of (host 0) by_log ≡ Some evidence_1) × (evidence_of (host 0) by_log ≡ Some evidence_1)
@@ -173,7 +173,7 @@ evidence_of_a_log_is_held =
 -- ---- what is stable: by CHECKPOINTs of two hosts, a JOIN, a LOG, the base of a plan
 
 -- h0 stamped its CHECKPOINT, and that of h1 came.
-abbrev two_points : History
+abbrev pub two_points : History
 two_points = Accepted (message.Checkpoint (point 1 2)) ∷ Stamped (stamped.Checkpoint (point 0 2)) ∷ []
 
 a_checkpoint_is_kept : (keeps.KeepsCheckpoints (host 0) two_points → checkpoint_of two_points 0 4 ≡ Some (point 0 2)) × (checkpoint_of two_points 0 4 ≡ Some (point 0 2))
@@ -214,7 +214,7 @@ a_plan_makes_stable = (λ keeps. keeps 1 (record { base = stable_4; batches = as
 abbrev state_0 : StateMsg
 state_0 = record { host = 0; pos = 4; digests = part_digests parts_4; first = 0; parts = asked_0.op ∷ [] }
 
-abbrev one_part : History
+abbrev pub one_part : History
 one_part = Accepted (message.State state_0) ∷ Accepted (message.Join join_1) ∷ []
 
 a_part_is_held : (keeps.KeepsParts (host 2) one_part → (part_of (host 2) one_part 4 0 ≡ Some asked_0.op) × (missing (host 2) one_part ≡ Some 0 → ⊥)) × (missing (host 2) one_part ≡ Some 1)
@@ -222,7 +222,7 @@ unfolding host_on_literals
 a_part_is_held = (λ keeps. keeps [] (Accepted (message.Join join_1) ∷ []) state_0 0 asked_0.op refl refl refl refl tt refl, refl)
 
 -- the state behind position 4, which is executed, with another position behind it
-abbrev executed_5 : History
+abbrev pub executed_5 : History
 executed_5 = Executed (record slot_4 { pos = 5 }) ∷ Executed slot_4 ∷ Served 4 (placed asked_0) ∷ []
 
 a_snapshot_is_kept : (keeps.KeepsSnapshots (host 0) executed_5 → snapshot_of (host 0) executed_5 4 ≡ Some parts_4) × (snapshot_of (host 0) executed_5 4 ≡ Some parts_4)

@@ -1,8 +1,9 @@
 -- Of each kind a message that is valid at a host, as it is said of the message and of what the host holds; the host takes it. Bytes are read back.
 use Rattle.std.proofs.Common.{inl, subst, ◌≡◌, ◌≤◌, ◌<◌, ℕ, List, [], ◌∷◌, refl, arith, ap, Some, None}
-use Rattle.std.specs.Prelude.{slice_get, Ok, ◌+◌, drop, zero, suc}
+use Rattle.std.specs.Prelude.{slice_get, Ok, ◌+◌, drop, zero, suc, replicate}
 use Rattle.mb_base.specs.Shapes.{Bytes}
 use Rattle.sha2.specs.Sha256.{sha256}
+use Rattle.mb_parts.specs.declared.request.Request.{Request}
 use Rattle.mb_msg.specs.declared.event.Event.TheVariants as event
 use Rattle.mb_msg.specs.declared.event.Outcome.TheVariants as outcome
 use Rattle.mb_msg.specs.declared.message.Body.TheVariants.{Whole}
@@ -24,6 +25,8 @@ use Rattle.mb_model.specs.HostStep.{transition}
 use Rattle.mb_model.specs.Verified.{verifies}
 use Rattle.mb_model.specs.UsableLogs.{log_fault}
 use Rattle.mb_model.proofs.StepOnLiterals.{host_on_literals}
+use Rattle.mb_model.specs.Passed.{Passes}
+use Rattle.mb_theory.specs.NothingLeft.{TakesWhatPasses}
 use Rattle.mb_theory.specs.TakesValid.{IsValid, IsUsable, IsPlanned, IsPlanOf}
 use Rattle.mb_agreement.proofs.ViewChangeData.{three, asked_0, evidence_1}
 use Rattle.mb_witness.proofs.Data.{host, prepare_1, commit_1, wish_1, change_1, change_2, new_view_1, enter_2, open_2, slot_4, parts_4, point, join_1, placed}
@@ -34,7 +37,7 @@ record IsTaken (h : ℕ) (d : History) (m : Message) : Type 0 where
   valid : IsValid (host h) d m
   taken : (transition (host h) d (event.Given (spelling m))).outcome ≡ outcome.Took
 
-none_some : {A : Type 0} (x : A) → None ≡ Some x → ⊥
+pub none_some : {A : Type 0} (x : A) → None ≡ Some x → ⊥
 none_some x e = absurd cc
 
 -- ---- the normal case
@@ -96,10 +99,10 @@ a_wish =
     record { reads = refl; valid = record { tagged = refl; above = above }; taken = refl }
 
 -- What two whole bodies have in common is the body.
-in_whole : {B : Type 0} (x y : B) → Whole x ≡ Whole y → Some x ≡ Some y
+pub in_whole : {B : Type 0} (x y : B) → Whole x ≡ Whole y → Some x ≡ Some y
 in_whole x y e = ap whole_body e
 
-some_is : {A : Type 0} (x y : A) → Some x ≡ Some y → x ≡ y
+pub some_is : {A : Type 0} (x y : A) → Some x ≡ Some y → x ≡ y
 some_is x y e = cc
 
 -- A VIEW_CHANGE of h1, whose log shows a COMMIT, behind this COMMIT.
@@ -179,10 +182,10 @@ a_join = record {
 -- ---- what is asked for
 
 -- h1 expects the first message of h0, which h0 has stamped.
-abbrev resend_1 : Resend
+abbrev pub resend_1 : Resend
 resend_1 = record { host = 1; low = 0; nexts = 1 ∷ 1 ∷ 1 ∷ [] }
 
-abbrev stamped_1 : History
+abbrev pub stamped_1 : History
 stamped_1 = Stamped (stamped.Prepare prepare_1) ∷ []
 
 a_resend : IsTaken 0 stamped_1 (message.Resend resend_1)
@@ -192,10 +195,10 @@ a_resend =
     record { reads = refl; valid = record { other = λ e. let is : 1 ≡ 0 = e in absurd (omega (arith, is)); news = inl there }; taken = refl }
 
 -- h2 asks h0 for the state at position 4, which h0 executed.
-abbrev fetch_2 : Fetch
+abbrev pub fetch_2 : Fetch
 fetch_2 = record { host = 2; of = 0; pos = 4; first = 0 }
 
-abbrev executed_4 : History
+abbrev pub executed_4 : History
 executed_4 = Executed slot_4 ∷ Served 4 (placed asked_0) ∷ []
 
 a_fetch : IsTaken 0 executed_4 (message.Fetch fetch_2)
@@ -206,10 +209,10 @@ a_fetch =
     record { reads = refl; valid = record { asked = refl; slot = slot_4; executed = (0, some, refl); position = refl; multiple = refl; above = above }; taken = refl }
 
 -- A STATE brings h2 the first part of the state at the stable position.
-abbrev state_0 : StateMsg
+abbrev pub state_0 : StateMsg
 state_0 = record { host = 0; pos = 4; digests = part_digests parts_4; first = 0; parts = asked_0.op ∷ [] }
 
-abbrev behind_join : History
+abbrev pub behind_join : History
 behind_join = Accepted (message.Join join_1) ∷ []
 
 -- In a list of one that begins with the digest of this one, each has its digest.
@@ -231,3 +234,20 @@ a_state =
       valid = record { position = refl; behind = behind; list = refl; parts = its_digest; news = (0, some, refl); whole = λ e. let no : Some 1 ≡ None = e in absurd cc };
       taken = refl;
     }
+
+-- ---- exactly what passes is taken
+
+-- The request of a client passes, and with another tag it does not.
+what_is_taken_passes : TakesWhatPasses (host 0) [] → Passes (host 0) [] (message.Request asked_0)
+unfolding host_on_literals transition
+what_is_taken_passes takes = (takes (spelling (message.Request asked_0)) (message.Request asked_0) refl tt).0 refl
+
+abbrev badly_tagged : Request
+badly_tagged = record asked_0 { tag = replicate 32 0 }
+
+not_taken : outcome.BadTag ≡ outcome.Took → ⊥
+not_taken is = absurd cc
+
+what_is_not_taken_does_not : TakesWhatPasses (host 0) [] → Passes (host 0) [] (message.Request badly_tagged) → ⊥
+unfolding host_on_literals transition
+what_is_not_taken_does_not takes passes = not_taken ((takes (spelling (message.Request badly_tagged)) (message.Request badly_tagged) refl tt).1 passes)

@@ -16,6 +16,7 @@ use Rattle.mb_model.specs.UsableLogs.{log_fault}
 use Rattle.mb_msg.specs.declared.event.Slot.{Slot}
 use Rattle.mb_msg.specs.declared.event.Outcome.TheVariants as outcome
 use Rattle.mb_model.specs.Clients as client
+use Rattle.mb_model.specs.Histories.{closed_at}
 use Rattle.mb_model.specs.Positions.{exec_of}
 use Rattle.mb_sched.specs.declared.report.RefusedLine.{RefusedLine}
 use Rattle.mb_sched.specs.declared.report.Word.{Word}
@@ -23,7 +24,7 @@ use Rattle.mb_sched.specs.declared.report.Word.TheVariants as word
 use Rattle.mb_sched.specs.declared.schedule.Name.TheVariants as name
 use Rattle.mb_sched.specs.declared.schedule.WorldEvent.{WorldEvent}
 use Rattle.mb_sched.specs.declared.schedule.WorldEvent.TheVariants.{Ask, Give, Take, Raw, Nudge, Sign, TagReply, TagWish, StampPrepare, StampCommit, StampChange, StampAs, StampRaw}
-use Rattle.mb_theory.specs.World.{Seen, OfHost, OfClient, Unread, Lost, World, System}
+use Rattle.mb_theory.specs.World.{Seen, OfClient, Unread, Lost, World, System}
 use Rattle.mb_theory.specs.FaultyHosts.{log_after}
 use Rattle.mb_theory.specs.WorldSteps.{world}
 use Rattle.mb_theory.specs.Stops.{WorldStop, NotFaulty, NoSuchMessage, WrongKind, Forged, ForgedTag}
@@ -57,6 +58,11 @@ two_prepares_refused = refl
 two_prepares_line : map (λ x. x.pos ∷ map (λ p. p.request.client) x.requests) (world two_prepares 10).line ≡ (1 ∷ 0 ∷ []) ∷ []
 unfolding worlds_on_literals
 two_prepares_line = refl
+
+-- Both correct hosts have closed their gates for h0 at its second message, and none for each other: of the hosts in turn, the counters.
+two_prepares_convict : map (λ g. map (closed_at ((world two_prepares 10).histories g)) (0 ∷ 1 ∷ 2 ∷ [])) (1 ∷ 2 ∷ []) ≡ (Some 2 ∷ None ∷ None ∷ []) ∷ (Some 2 ∷ None ∷ None ∷ []) ∷ []
+unfolding worlds_on_literals
+two_prepares_convict = refl
 
 -- ---- two requests in one batch, of which one was served before
 

@@ -20,3 +20,7 @@ mod Corners
 mod LimitsOfHosts
 mod BadWorlds
 mod InsideOfMessages
+mod Apart
+mod WholeRun
+mod RunFacts
+mod TwoRequests

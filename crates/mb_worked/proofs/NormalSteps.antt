@@ -1,13 +1,11 @@
 -- Single steps of the normal case, computed on the definitions: the order of refusals, and when each rule applies.
 use Rattle.std.proofs.Common.{◌≡◌, ℕ, ◌+◌, List, [], ◌∷◌, length, map, Option, Some, None, refl}
 use Rattle.std.specs.Prelude.{true, replicate}
-use Rattle.mb_base.specs.Shapes.{Bytes}
 use Rattle.mb_usig.specs.Tags.{certificate, request_tag, stop_tag}
 use Rattle.mb_parts.specs.declared.request.Request.{Request}
 use Rattle.mb_parts.specs.declared.batch.Batch.{Batch}
 use Rattle.mb_parts.specs.Bares.{bare_bytes, batch_digest}
 use Rattle.mb_msg.specs.declared.event.Placed.{Placed}
-use Rattle.mb_msg.specs.declared.event.Outcome.{Outcome}
 use Rattle.mb_msg.specs.declared.event.Outcome.TheVariants as outcome
 use Rattle.mb_msg.specs.declared.message.Body.{Body}
 use Rattle.mb_msg.specs.declared.message.Body.TheVariants as body
@@ -17,7 +15,7 @@ use Rattle.mb_msg.specs.declared.stamped.Stamped.{Stamped as StampedMessage}
 use Rattle.mb_msg.specs.declared.stamped.Stamped.TheVariants as stamped
 use Rattle.mb_msg.specs.Spelling.{kind_of}
 use Rattle.mb_msg.specs.Stamps.{bare_of, with_ui, as_message}
-use Rattle.mb_model.specs.Histories.{Entry, Accepted, Stamped, Served, Executed, History, Identity}
+use Rattle.mb_model.specs.Histories.{Entry, Accepted, Stamped, Served, Executed, History}
 use Rattle.mb_model.specs.Sending.{Progress, begin}
 use Rattle.mb_model.specs.KindChecks.{stamped_refusal}
 use Rattle.mb_model.specs.PlainChecks.{request_refusal}

@@ -81,7 +81,7 @@ unfolding worlds_on_literals
 one_request_seen = refl
 
 -- what stands in the way of each of these events, one behind the other
-abbrev stops_from : System Bytes → World → List WorldEvent → List (Option WorldStop)
+abbrev pub stops_from : System Bytes → World → List WorldEvent → List (Option WorldStop)
 stops_from system w [] = []
 stops_from system w (e ∷ events) = stop_of system.schedule w e ∷ stops_from system (happens system w e) events
 
@@ -97,7 +97,7 @@ one_request_goes = refl
 abbrev pub of_faulty_primary : List WorldEvent → System Bytes
 of_faulty_primary events = system_of (record { shape = one_client; secret = replicate 32 0; faulty_hosts = true ∷ false ∷ false ∷ []; faulty_clients = false ∷ []; events = events })
 
-abbrev change_of_view : System Bytes
+abbrev pub change_of_view : System Bytes
 change_of_view = of_faulty_primary (Ask 0 operation ∷ StampPrepare 0 0 1 (1 ∷ []) ∷ Give 2 1 ∷ Patience 1 ∷ Patience 2 ∷ Give 5 2 ∷ Give 6 1 ∷ Give 7 1 ∷ Give 3 2 ∷ Give 8 2 ∷ Give 9 2 ∷ Give 10 1 ∷ Give 11 1 ∷ Give 12 2 ∷ [])
 
 change_of_view_told : told change_of_view 14 ≡ (1 ∷ 2 ∷ 3 ∷ 4 ∷ 6 ∷ 6 ∷ 7 ∷ 7 ∷ 8 ∷ 9 ∷ 10 ∷ 10 ∷ 4 ∷ []) ∷ (1 ∷ []) ∷ (0 ∷ 0 ∷ 0 ∷ 0 ∷ []) ∷ (1 ∷ 1 ∷ 0 ∷ 4 ∷ []) ∷ (1 ∷ 1 ∷ 0 ∷ 3 ∷ []) ∷ []
@@ -108,47 +108,47 @@ change_of_view_told = refl
 abbrev pub stop_at : System Bytes → ℕ → Option WorldStop
 stop_at system k = option_and_then (stop_of system.schedule (world system k)) (slice_get system.schedule.events k)
 
-change_of_view_begins : stops_from change_of_view nothing_happened (take 8 change_of_view.schedule.events) ≡ replicate 8 None
+pub change_of_view_begins : stops_from change_of_view nothing_happened (take 8 change_of_view.schedule.events) ≡ replicate 8 None
 unfolding worlds_on_literals
 change_of_view_begins = refl
 
-goes_8 : stop_at change_of_view 8 ≡ None
+pub goes_8 : stop_at change_of_view 8 ≡ None
 unfolding worlds_on_literals
 goes_8 = refl
 
-goes_9 : stop_at change_of_view 9 ≡ None
+pub goes_9 : stop_at change_of_view 9 ≡ None
 unfolding worlds_on_literals
 goes_9 = refl
 
-goes_10 : stop_at change_of_view 10 ≡ None
+pub goes_10 : stop_at change_of_view 10 ≡ None
 unfolding worlds_on_literals
 goes_10 = refl
 
-goes_11 : stop_at change_of_view 11 ≡ None
+pub goes_11 : stop_at change_of_view 11 ≡ None
 unfolding worlds_on_literals
 goes_11 = refl
 
-goes_12 : stop_at change_of_view 12 ≡ None
+pub goes_12 : stop_at change_of_view 12 ≡ None
 unfolding worlds_on_literals
 goes_12 = refl
 
-goes_13 : stop_at change_of_view 13 ≡ None
+pub goes_13 : stop_at change_of_view 13 ≡ None
 unfolding worlds_on_literals
 goes_13 = refl
 
 -- what is promised of it, as far as it is decided by computing: the state of the correct hosts is the service's after the line's first
 -- slot; what each stamped stands in order, with checked and issued certificates; each log that it showed is usable; no gate is closed
-abbrev last_world : World
+abbrev pub last_world : World
 last_world = world change_of_view 14
 
-abbrev served_once : Served Bytes
+abbrev pub served_once : Served Bytes
 served_once = record { state = operation; table = record { seq = 1; pos = 1; result = [] } ∷ [] }
 
-line_serves : after_line change_of_view last_world 1 ≡ served_once
+pub line_serves : after_line change_of_view last_world 1 ≡ served_once
 unfolding worlds_on_literals
 line_serves = refl
 
-hosts_served : map (λ h. state_of (self_of change_of_view h) (last_world.histories h)) (1 ∷ 2 ∷ []) ≡ served_once ∷ served_once ∷ []
+pub hosts_served : map (λ h. state_of (self_of change_of_view h) (last_world.histories h)) (1 ∷ 2 ∷ []) ≡ served_once ∷ served_once ∷ []
 unfolding worlds_on_literals
 hosts_served = refl
 
@@ -174,18 +174,18 @@ unfolding worlds_on_literals
 changes_usable = refl
 
 -- The evidence that h2 holds of the next view was issued, and its plan has the batch.
-abbrev evidence : Option Evidence
+abbrev pub evidence : Option Evidence
 evidence = evidence_of (self_of change_of_view 2) (last_world.histories 2)
 
-evidence_issued : option_map (is_evidence one_client (issued change_of_view.schedule last_world)) evidence ≡ Some true
+pub evidence_issued : option_map (is_evidence one_client (issued change_of_view.schedule last_world)) evidence ≡ Some true
 unfolding worlds_on_literals
 evidence_issued = refl
 
 -- the batch of the one request
-abbrev batch : Batch
+abbrev pub batch : Batch
 batch = record { requests = request_of change_of_view.schedule 0 1 operation ∷ [] }
 
-evidence_plans : option_map (λ e. planned (plans change_of_view.schedule last_world e.plan) 1) evidence ≡ Some (Some (batch_digest batch))
+pub evidence_plans : option_map (λ e. planned (plans change_of_view.schedule last_world e.plan) 1) evidence ≡ Some (Some (batch_digest batch))
 unfolding worlds_on_literals
 evidence_plans = refl
 
