@@ -1,10 +1,8 @@
 -- What hosts send: what they stamp and the replies, answers to who asks, wishes, and what they ask for. And what becomes of a LOG.
-use Rattle.std.proofs.Common.{◌≡◌, ◌≤◌, ◌<◌, ℕ, true, List, [], ◌∷◌, ◌++◌, map, refl, arith, subst, Some, None}
+use Rattle.std.proofs.Common.{◌≡◌, ◌≤◌, ◌<◌, ℕ, List, [], ◌∷◌, map, refl, arith, subst, Some, None}
 use Rattle.std.specs.Prelude.{Contains, ◌^◌, ◌-◌}
-use Rattle.mb_base.specs.Shapes.{Bytes}
 use Rattle.mb_parts.specs.declared.floor.Floor.{Floor}
 use Rattle.mb_parts.specs.declared.certificates.FloorCert.{FloorCert}
-use Rattle.mb_parts.specs.declared.certificates.Evidence.{Evidence}
 use Rattle.mb_parts.specs.Certificates.{certified_floor}
 use Rattle.mb_model.specs.Verified.{verifies}
 use Rattle.mb_msg.specs.declared.event.Event.TheVariants as event
@@ -16,7 +14,7 @@ use Rattle.mb_msg.specs.declared.transfer.Log.{Log}
 use Rattle.mb_msg.specs.declared.transfer.StateMsg.{StateMsg}
 use Rattle.mb_msg.specs.declared.stamped.Stamped.TheVariants as stamped
 use Rattle.mb_msg.specs.Spelling.{spelling, kind_of}
-use Rattle.mb_model.specs.Histories.{Accepted, Stamped, LostPatience, History, gate}
+use Rattle.mb_model.specs.Histories.{Accepted, LostPatience, History, gate}
 use Rattle.mb_model.specs.Sending.{Letter, to_all, to_host, to_client}
 use Rattle.mb_model.specs.Making.{resend, wish}
 use Rattle.mb_model.specs.Given.{stored_reply}
@@ -26,9 +24,9 @@ use Rattle.mb_theory.specs.Answers as answers
 use Rattle.mb_theory.specs.ShowsLog.{ShowsLog, ShowsState}
 use Rattle.mb_theory.specs.Sends.{SendsAll, SendsAdded}
 use Rattle.mb_theory.specs.TakesLogs as logs
-use Rattle.mb_agreement.proofs.ViewChangeData.{secret, three, at_zero, asked_0, asked}
-use Rattle.mb_witness.proofs.Data.{host, prepare_1, commit_1, wish_1, slot_1, state_4, floor_0, stable_4, parts_4, floor_cert_0}
-use Rattle.mb_witness.proofs.NormalCase.{committed, left_by}
+use Rattle.mb_agreement.proofs.ViewChangeData.{secret, three, at_zero, asked_0}
+use Rattle.mb_witness.proofs.Data.{host, prepare_1, commit_1, floor_0, stable_4, parts_4, floor_cert_0}
+use Rattle.mb_witness.proofs.NormalCase.{left_by}
 use Rattle.mb_witness.proofs.ValidMessages.{resend_1, stamped_1, fetch_2, executed_4, behind_join, state_0, some_is, none_some}
 
 -- what a host sends at an event: to whom, and which kind of message
@@ -85,24 +83,34 @@ a_nudge_asks_all : (answers.AsksAll (host 2) impatient → Contains (transition 
     × (answers.TellsWishAgain (host 2) impatient → Contains (transition (host 2) impatient event.Nudge).left.sent (to_all (wish (host 2) impatient)))
     × (map to_and_kind (transition (host 2) impatient event.Nudge).left.sent ≡ (to.All, 12) ∷ (to.All, 6) ∷ [])
 unfolding host_on_literals transition
-a_nudge_asks_all = (λ asks. asks, λ tells.
-    let above : 0 < 1 = omega arith in
-    tells above, refl)
+a_nudge_asks_all = (
+  λ asks. asks,
+  λ tells.
+      let above : 0 < 1 = omega arith in
+      tells above,
+  refl,
+)
 
 -- While it lacks the state at position 4 it asks for it: at a Nudge the next host, and behind each STATE that is taken.
 state_is_asked_for : (answers.FetchesOnNudge (host 2) behind_join → Contains (transition (host 2) behind_join event.Nudge).left.sent (to_host 1 (message.Fetch (record fetch_2 { of = 1 }))))
     × (map to_and_kind (transition (host 2) behind_join event.Nudge).left.sent ≡ (to.All, 12) ∷ (to.Host 1, 14) ∷ [])
 unfolding host_on_literals transition
-state_is_asked_for = (λ fetches.
-    let behind : 0 < 4 = omega arith in
-    fetches behind, refl)
+state_is_asked_for = (
+  λ fetches.
+      let behind : 0 < 4 = omega arith in
+      fetches behind,
+  refl,
+)
 
 more_is_asked_for : (answers.FetchesOn (host 2) behind_join → Contains (transition (host 2) behind_join (event.Given (spelling (message.State state_0)))).left.sent (to_host 0 (message.Fetch (record fetch_2 { first = 1 }))))
     × (sent_by 2 behind_join (message.State state_0) ≡ (to.Host 0, 14) ∷ [])
 unfolding host_on_literals transition
-more_is_asked_for = (λ fetches.
-    let behind : 0 < 4 = omega arith in
-    fetches (spelling (message.State state_0)) state_0 refl refl behind, refl)
+more_is_asked_for = (
+  λ fetches.
+      let behind : 0 < 4 = omega arith in
+      fetches (spelling (message.State state_0)) state_0 refl refl behind,
+  refl,
+)
 
 -- ---- a LOG
 
@@ -116,21 +124,26 @@ valid_log_1 = record { other = λ e. let is : 1 ≡ 2 = e in absurd (omega (arit
 
 a_log_is_taken : (logs.KeepsLogs (host 2) [] → Contains (left_by 2 [] (message.Log log_1)) (Accepted (message.Log log_1))) × Contains (left_by 2 [] (message.Log log_1)) (Accepted (message.Log log_1))
 unfolding host_on_literals transition
-a_log_is_taken = (λ keeps. keeps (spelling (message.Log log_1)) log_1 refl valid_log_1,
-    let last : 6 < 7 = omega arith in
-    (6, last, refl))
+a_log_is_taken = (
+  λ keeps. keeps (spelling (message.Log log_1)) log_1 refl valid_log_1,
+  let last : 6 < 7 = omega arith in
+      (6, last, refl),
+)
 
 -- Its entry is taken, too.
 its_entry_is_taken : (logs.TakesEntries (host 2) [] → Contains (left_by 2 [] (message.Log log_1)) (Accepted (message.Commit commit_1))) × Contains (left_by 2 [] (message.Log log_1)) (Accepted (message.Commit commit_1))
 unfolding host_on_literals transition
-its_entry_is_taken = (λ takes.
-    let same : 0 ≤ 0 = omega arith in
-    let near : 1 ≤ 8 = omega arith in
-    ((takes (spelling (message.Log log_1)) log_1 refl valid_log_1).0
-      (record { certified = refl; other = λ e. let is : 1 ≡ 2 = e in absurd (omega (arith, is)); free = refl; next = refl; permitted = refl },
-        record { reached = same; near = λ e. near; shown = λ e. (refl, (refl, tt)) })).0,
-    let fifth : 5 < 7 = omega arith in
-    (5, fifth, refl))
+its_entry_is_taken = (
+  λ takes.
+      let same : 0 ≤ 0 = omega arith in
+      let near : 1 ≤ 8 = omega arith in
+      ((takes (spelling (message.Log log_1)) log_1 refl valid_log_1).0 (
+        record { certified = refl; other = λ e. let is : 1 ≡ 2 = e in absurd (omega (arith, is)); free = refl; next = refl; permitted = refl },
+        record { reached = same; near = λ e. near; shown = λ e. (refl, (refl, tt)) },
+      )).0,
+  let fifth : 5 < 7 = omega arith in
+      (5, fifth, refl),
+)
 
 -- A LOG of h0 shows a certified floor behind its first message: the gate of h2 for h0 stands there.
 abbrev log_0 : Log

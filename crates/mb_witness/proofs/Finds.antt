@@ -1,27 +1,22 @@
 -- What is found came: for each table something that is found, and the entry that the statement then gives. What is found is what `Tables` finds there.
-use Rattle.std.proofs.Common.{◌≡◌, ◌<◌, ℕ, List, [], ◌∷◌, refl, arith, Some}
-use Rattle.mb_base.specs.Shapes.{Bytes}
+use Rattle.std.proofs.Common.{◌≡◌, ◌<◌, refl, arith}
 use Rattle.mb_parts.specs.Bares.{batch_digest}
-use Rattle.mb_parts.specs.declared.certificates.Evidence.{Evidence}
 use Rattle.mb_msg.specs.declared.change.Open.{Open}
 use Rattle.mb_msg.specs.declared.event.Slot.{Slot}
 use Rattle.mb_msg.specs.declared.message.Message.TheVariants as message
-use Rattle.mb_msg.specs.declared.stamped.Stamped.TheVariants as stamped
-use Rattle.mb_model.specs.declared.known.KnownSlot.{KnownSlot}
 use Rattle.mb_model.specs.declared.known.Vote.{Vote}
-use Rattle.mb_model.specs.Histories.{Accepted, Executed, History, view_of}
+use Rattle.mb_model.specs.Histories.{Accepted, Executed, view_of}
 use Rattle.mb_model.specs.Stable.{stable_of}
 use Rattle.mb_model.specs.States.{parts_of}
 use Rattle.mb_model.specs.Execution.{state_of}
-use Rattle.mb_model.specs.Held.{wish_of}
 use Rattle.mb_model.proofs.StepOnLiterals.{host_on_literals}
 use Rattle.mb_theory.specs.KeepsTables.{IsChange, outdoes, is_open_of, is_checkpoint_of, is_execution_of, IsCheckpoint}
 use Rattle.mb_theory.specs.WhatCame.{FindsWhatCame, SlotCame, VoteCame, PartCame}
 use Rattle.mb_theory.specs.FindsTables as finds
-use Rattle.mb_agreement.proofs.ViewChangeData.{asked_0, asked, prepare_cert, evidence_1}
-use Rattle.mb_witness.proofs.Data.{host, commit_1, change_1, change_2, new_view_1, enter_2, carried, parts_4, point}
+use Rattle.mb_agreement.proofs.ViewChangeData.{asked_0, asked, evidence_1}
+use Rattle.mb_witness.proofs.Data.{host, change_2, new_view_1, enter_2, carried, parts_4, point}
 use Rattle.mb_witness.proofs.NormalCase.{committed, slot_of_1, vote_1}
-use Rattle.mb_witness.proofs.Tables.{two_came, both_wish, announced_1, opened_1, opened_2, by_join, by_log, two_points, one_part, executed_5}
+use Rattle.mb_witness.proofs.Tables.{two_came, both_wish, announced_1, opened_1, opened_2, by_join, two_points, one_part, executed_5}
 
 -- ---- positions, and parts of a state
 

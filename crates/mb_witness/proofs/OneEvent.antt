@@ -1,5 +1,5 @@
 -- One event of a world of three correct hosts: the COMMIT of h1 comes to h2, which was given nothing before. It is a step of h2, and is answered with no blame.
-use Rattle.std.proofs.Common.{◌≡◌, ◌<◌, ℕ, zero, suc, List, [], ◌∷◌, map, refl, arith, subst}
+use Rattle.std.proofs.Common.{◌≡◌, ◌<◌, ℕ, zero, suc, [], ◌∷◌, map, refl, arith, subst}
 use Rattle.std.specs.Prelude.{Contains, false}
 use Rattle.mb_base.specs.Shapes.{Bytes}
 use Rattle.mb_msg.specs.declared.event.Event.TheVariants as event

@@ -1,7 +1,7 @@
 -- What a host stamps: it counts for itself, gates move with each message, views are left with cause, and the log is cut. Where a statement refuses a history,
 -- all its premises hold there.
-use Rattle.std.proofs.Common.{inl, inr, ◌⊎◌, ◌≡◌, ◌≤◌, ◌<◌, ℕ, ◌+◌, true, false, List, [], ◌∷◌, ◌++◌, refl, arith, subst, Some, None}
-use Rattle.std.specs.Prelude.{◌^◌, ◌-◌, Contains, slice_get}
+use Rattle.std.proofs.Common.{inl, inr, ◌≡◌, ◌≤◌, ◌<◌, ℕ, [], ◌∷◌, refl, arith, subst, Some}
+use Rattle.std.specs.Prelude.{Contains}
 use Rattle.mb_base.specs.Shapes.{Bytes}
 use Rattle.mb_usig.specs.Tags.{certificate}
 use Rattle.mb_parts.specs.declared.floor.Floor.{Floor}
@@ -12,7 +12,7 @@ use Rattle.mb_parts.specs.declared.certificates.FloorCert.{FloorCert}
 use Rattle.mb_parts.specs.Certificates.{certified_floor}
 use Rattle.mb_parts.specs.Ordered.{initial_floor}
 use Rattle.mb_model.specs.Verified.{verifies}
-use Rattle.mb_msg.specs.Bodies.{body_digest, whole_body}
+use Rattle.mb_msg.specs.Bodies.{body_digest}
 use Rattle.mb_msg.specs.Spelling.{spelling, open_body_bytes}
 use Rattle.mb_msg.specs.declared.message.Body.TheVariants.{Whole}
 use Rattle.mb_msg.specs.declared.message.Message.TheVariants as message
@@ -35,7 +35,7 @@ use Rattle.mb_theory.specs.LeavesWithCause.{LeavesWithCause, HasCause}
 use Rattle.mb_theory.specs.CutsLog.{CutsLog, AgreeOnFloor, IsKeptAt}
 use Rattle.mb_agreement.proofs.ViewChangeData.{secret, three, at_zero, asked, evidence_1, new_view_cert}
 use Rattle.mb_witness.proofs.Data.{host, prepare_1, commit_1, change_1, change_2, new_view_1, enter_2, open_2, carried, slot_1, state_4, floor_0, floor_cert_0, point}
-use Rattle.mb_witness.proofs.NormalCase.{committed, two_wait, slot_of_1, vote_1, left_by}
+use Rattle.mb_witness.proofs.NormalCase.{committed, two_wait, vote_1, left_by}
 use Rattle.mb_witness.proofs.Tables.{opened_1, opened_2, announced_1, two_points}
 use Rattle.mb_witness.proofs.ValidMessages.{some_is, none_some, in_whole}
 
@@ -92,7 +92,7 @@ unfolding host_on_literals
 a_planned_position_is_executed executes =
     let two : 2 ≤ 2 = omega arith in
     executes (Accepted (message.Open open_1) ∷ []) entered_2 open_2 (record { stable = at_zero; batches = asked ∷ [] }) asked refl refl refl refl
-      (record { above = omega arith; near = omega arith; allowed = omega arith }) refl refl two
+    (record { above = omega arith; near = omega arith; allowed = omega arith }) refl refl two
 
 -- It is executed in the step in which this OPEN is given: h2 was given all that h1 stamped before.
 abbrev given_all : History
@@ -105,12 +105,15 @@ its_plan x e = subst (IsPlanOf (host 2) evidence_1) (some_is _ _ (in_whole _ _ e
 
 an_open_executes : (ExecutesWithOpen (host 2) given_all → Executes (host 2) given_all (spelling (message.Open open_1)) 1 asked) × Contains (left_by 2 given_all (message.Open open_1)) (Executed slot_1)
 unfolding host_on_literals transition
-an_open_executes = (λ executes.
-    let one : 1 ≤ 1 = omega arith in
-    executes (spelling (message.Open open_1)) open_1 carried 1 slot_of_plan asked asked refl
+an_open_executes = (
+  λ executes.
+      let one : 1 ≤ 1 = omega arith in
+      executes (spelling (message.Open open_1)) open_1 carried 1 slot_of_plan asked asked refl
       (record { certified = refl; other = λ e. let is : 1 ≡ 2 = e in absurd (omega (arith, is)); free = refl; next = refl; permitted = refl })
       its_plan (record { opened = refl; current = refl; next = refl; within = record { above = omega arith; near = omega arith; allowed = omega arith } })
-      refl refl refl ((record { above = omega arith; near = omega arith; allowed = omega arith }, refl), refl) refl refl (record { first = refl; others = one }), let some : 0 < 10 = omega arith in (0, some, refl))
+      refl refl refl ((record { above = omega arith; near = omega arith; allowed = omega arith }, refl), refl) refl refl (record { first = refl; others = one }),
+  let some : 0 < 10 = omega arith in (0, some, refl),
+)
 
 -- ---- gates
 
@@ -143,12 +146,12 @@ two_of_none few = absurd (omega (arith, few))
 no_cause : HasCause (host 1) [] 1 → ⊥
 unfolding host_on_literals
 no_cause it = elim (it.cause) [
-    inl wished ↦ two_of_none wished
+  | inl wished ↦ two_of_none wished
   | inr held ↦ elim (held) [
-      inl announced ↦ none_some announced.0 announced.1
+    | inl announced ↦ none_some announced.0 announced.1
     | inr evident ↦ none_some evident.0 evident.1
-    ]
   ]
+]
 
 no_view_is_left_without_cause : LeavesWithCause (host 1) (Stamped (stamped.ViewChange change_1) ∷ []) → ⊥
 unfolding host_on_literals
@@ -168,12 +171,15 @@ none_above q other f (inr (inr is)) above agree = two_of_none (subst (λ (q : �
 
 a_log_is_cut : (CutsLog (host 0) two_points → 1 ≤ log_start (host 0) two_points) × (log_start (host 0) two_points ≡ 1)
 unfolding host_on_literals
-a_log_is_cut = (λ cuts.
-    let below : 0 ≤ 4 = omega arith in
-    let two : 2 ≤ 2 = omega arith in
-    let one : 1 ≤ 1 = omega arith in
-    cuts [] (Stamped (stamped.Checkpoint (point 0 2)) ∷ []) (Accepted (message.Checkpoint (point 1 2))) floor_0 refl
-      (record { message = point 1 2; comes = inl refl; above = below; agreed = record { pos = 4; state = state_4; kept = inl refl; agree = two; last = none_above }; reached = one }), refl)
+a_log_is_cut = (
+  λ cuts.
+      let below : 0 ≤ 4 = omega arith in
+      let two : 2 ≤ 2 = omega arith in
+      let one : 1 ≤ 1 = omega arith in
+      cuts [] (Stamped (stamped.Checkpoint (point 0 2)) ∷ []) (Accepted (message.Checkpoint (point 1 2))) floor_0 refl
+      (record { message = point 1 2; comes = inl refl; above = below; agreed = record { pos = 4; state = state_4; kept = inl refl; agree = two; last = none_above }; reached = one }),
+  refl,
+)
 
 -- The certificate with which it was cut certifies this floor.
 its_floor_is_certified : (c : FloorCert) × (log_floor (host 0) two_points ≡ Some c) × (certified_floor three (verifies secret) 0 c ≡ Some floor_0)

@@ -1,5 +1,5 @@
 -- A state that is installed on CHECKPOINTs of two hosts: h2 was given a JOIN that shows them.
-use Rattle.std.proofs.Common.{inr, ◌≡◌, ◌<◌, ℕ, zero, suc, true, List, [], ◌∷◌, refl, arith, subst, Some}
+use Rattle.std.proofs.Common.{inr, ◌<◌, ℕ, zero, suc, [], ◌∷◌, refl, arith, subst}
 use Rattle.std.specs.Prelude.{replicate, false, Contains, if◌then◌else◌, ◌==◌}
 use Rattle.mb_base.specs.Shapes.{Bytes}
 use Rattle.mb_parts.specs.Bares as bare
@@ -9,7 +9,7 @@ use Rattle.mb_msg.specs.declared.message.Message.TheVariants as message
 use Rattle.mb_model.specs.Histories.{Accepted, Installed, History}
 use Rattle.mb_sched.specs.declared.schedule.Schedule.{Schedule}
 use Rattle.mb_theory.specs.World.{World, nothing_happened}
-use Rattle.mb_theory.specs.Justification.{IsJustified, IsJustifiedState, IsKnown, IsGiven}
+use Rattle.mb_theory.specs.Justification.{IsJustified, IsJustifiedState, IsKnown}
 use Rattle.mb_theory.proofs.WorldsOnLiterals.{worlds_on_literals}
 use Rattle.mb_agreement.proofs.ViewChangeData.{secret, three}
 use Rattle.mb_witness.proofs.Data.{join_1, parts_4, state_4, floors_4, point}
@@ -67,5 +67,5 @@ a_state_rests_on_two_checkpoints =
       many = refl;
       rising = refl;
       each = of_two (λ g. (g < 3) × ((counter : ℕ) × (floors : Bytes) × IsKnown schedule installs 2 g counter (bare.Checkpoint 4 state_4 floors)))
-        (first, (2, body_digest floors_body_bytes floors_4, known_of_0)) (second, (2, body_digest floors_body_bytes floors_4, known_of_1));
+          (first, (2, body_digest floors_body_bytes floors_4, known_of_0)) (second, (2, body_digest floors_body_bytes floors_4, known_of_1));
     }
