@@ -59,7 +59,7 @@ digests =
     unhex (codes "9676e8c0b7d1959295db84e43c76b190f245aca42ce02cfc08173e6bf90b7774") ∷
     []
 
--- These are they, each once.
+-- Each string that is hashed is one of these, and their digests are these.
 strings_are_these : list_all (is_among hashed_strings) last_world.hashed ≡ true
 unfolding worlds_on_literals
 strings_are_these = refl
