@@ -154,7 +154,16 @@ module _ {S : Type 0} (self : Identity S) where
       completes self e d m.ui.host m.pos (slot_vote k) view host lacks.first new lacks.others
 
   pub executes_with_commit : IsShape self.shape → (d : History) → IsQuiescent self d → ArisesWhole self d → ExecutesWithCommit self d
-  executes_with_commit shape d quiet arises bytes m k b c is sent n body tagged slot counter digest lacks =
+  executes_with_commit shape d quiet arises bytes m k b c r =
+      let is = r.is in
+      let sent = r.sent in
+      let n = r.next in
+      let body = r.body in
+      let tagged = r.tagged in
+      let slot = r.slot in
+      let counter = r.counter in
+      let digest = r.digest in
+      let lacks = r.lacks in
       let e : Entry = Accepted (message.Commit m) in
       let same : body_digest batch_bytes m.body ≡ k.digest = ap (λ (x : Body Batch). body_digest batch_bytes x) body ∙ digest in
       let s : Stays self d (e ∷ d) = takes_commit self d m n.current n.within.above in
@@ -197,7 +206,14 @@ module _ {S : Type 0} (self : Identity S) where
       (calm_still self d (e ∷ d) m.pos s calm, voted)
 
   pub executes_with_prepare : IsShape self.shape → (d : History) → IsQuiescent self d → ArisesWhole self d → ExecutesWithPrepare self d
-  executes_with_prepare shape d quiet arises bytes m b is sent n body tagged no_slot lacks =
+  executes_with_prepare shape d quiet arises bytes m b r =
+      let is = r.is in
+      let sent = r.sent in
+      let n = r.next in
+      let body = r.body in
+      let tagged = r.tagged in
+      let no_slot = r.no_slot in
+      let lacks = r.lacks in
       let fits = read_fits self.shape shape bytes (message.Prepare m) is in
       let none = stamped_passed self d (stamped.Prepare m) (prepare_passes self d m sent (is_vote_here d m.view m.pos m.body b n body tagged)) in
       let lacks_it : Lacks self d m.ui.host m.pos (slot_vote (slot_of self d m)) = subst (λ (x : Body Batch). Lacks self d m.ui.host m.pos (record { counter = m.ui.counter; request = body_digest batch_bytes x })) (sym body) lacks in
@@ -259,7 +275,15 @@ module _ {S : Type 0} (self : Identity S) where
   both_waits d m k b none votes passes w = rw none (rw votes (rw passes w))
 
   pub executes_with_both : IsShape self.shape → (d : History) → IsQuiescent self d → ArisesWhole self d → ExecutesWithBoth self d
-  executes_with_both shape d quiet arises bytes m b is sent ordered n body tagged no_slot lack =
+  executes_with_both shape d quiet arises bytes m b r =
+      let is = r.is in
+      let sent = r.sent in
+      let ordered = r.ordered in
+      let n = r.next in
+      let body = r.body in
+      let tagged = r.tagged in
+      let no_slot = r.no_slot in
+      let lack = r.lack in
       let e : Entry = Accepted (message.Commit m) in
       let p : Prepare = named_prepare self m in
       let fits = read_fits self.shape shape bytes (message.Commit m) is in

@@ -122,7 +122,18 @@ module _ {S : Type 0} (self : Identity S) where
   open_waits d m pos k b none w = rw none w
 
   pub executes_with_open : IsShape self.shape → (d : History) → IsQuiescent self d → ArisesWhole self d → ExecutesWithOpen self d
-  executes_with_open shape d quiet arises bytes m plan pos k b c is sent planned n held digest at slot counter same lacks =
+  executes_with_open shape d quiet arises bytes m plan pos k b c r =
+      let is = r.is in
+      let sent = r.sent in
+      let planned = r.planned in
+      let n = r.next in
+      let held = r.held in
+      let digest = r.plan_is in
+      let at = r.at in
+      let slot = r.slot in
+      let counter = r.counter in
+      let same = r.digest in
+      let lacks = r.lacks in
       let e : Entry = Accepted (message.Open m) in
       let current = n.current in
       let evident : view_of self d ≤ evidence_view (evidence_of self d) = (steady self d arises.0).opened n.opened in

@@ -28,6 +28,7 @@ use Rattle.mb_due.proofs.TakesLogs.{hosts_take_logs}
 use Rattle.mb_due.proofs.Sends.{hosts_send_all}
 use Rattle.mb_due.proofs.Answers.{hosts_answer}
 use Rattle.mb_headline.proofs.EventsStep.{events_step}
+use Rattle.mb_headline.proofs.ExecutesAtOnce.{executes_at_once}
 use Rattle.mb_headline.proofs.NobodyBlamed.{no_event_blames}
 
 -- Nothing that is due is left undone, whoever is faulty and whatever is forged.
@@ -85,4 +86,5 @@ all_stay_one S system service fits k le none apart =
       blameless = held.blameless;
       unblamed = no_event_blames system (world system k) held.blameless;
       steps = events_step system (world system k);
+      executes_at_once = executes_at_once system (world system k) (nothing_left S system k);
     }

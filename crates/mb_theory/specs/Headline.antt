@@ -17,6 +17,7 @@ use Rattle.mb_theory.specs.AllDue.{LeavesNothing}
 use Rattle.mb_theory.specs.Safety.{IsSafe, AreServedResults}
 use Rattle.mb_theory.specs.Bounds.{AreBounded, IsBlameless}
 use Rattle.mb_theory.specs.EventsStep.{EventsStep}
+use Rattle.mb_theory.specs.ExecutesAtOnce.{ExecutesAtOnce}
 use Rattle.mb_theory.specs.NoEventBlames.{NoEventBlames}
 
 -- ---- the service
@@ -38,7 +39,8 @@ pub record IsService {S : Type 0} (machine : Machine S) (snapshots : Snapshots S
 module _ {S : Type 0} (system : System S) where
   -- Views agree; correct hosts execute beginnings of one list; accepted results are the service's; each execution is justified by what the
   -- host was given; nothing due is left undone; logs keep their limits; the correct are never blamed, and no correct host's message was
-  -- answered with blame by the event before; and each event that may be next is a step of the correct host to which it comes.
+  -- answered with blame by the event before; each event that may be next is a step of the correct host to which it comes; and the event that
+  -- brings it the vote that completes f+1 has the position executed.
   pub record Promises (w : World) : Type 0 where
     pub agrees : ViewsAgree system.schedule w
     pub safe : IsSafe system w
@@ -49,6 +51,7 @@ module _ {S : Type 0} (system : System S) where
     pub blameless : IsBlameless system w
     pub unblamed : NoEventBlames system w
     pub steps : EventsStep system w
+    pub executes_at_once : ExecutesAtOnce system w
 
   -- after each event that nothing stopped, while no two of the strings hashed so far share a digest
   abbrev pub HoldsAtEachEvent : Type 0

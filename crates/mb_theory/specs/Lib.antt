@@ -28,5 +28,6 @@ pub mod CarriedOut
 pub mod Safety
 pub mod Bounds
 pub mod EventsStep
+pub mod ExecutesAtOnce
 pub mod NoEventBlames
 pub mod Headline

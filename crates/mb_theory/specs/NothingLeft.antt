@@ -55,6 +55,13 @@ pub record IsFull (l : List Request) (b : Batch) : Type 0 where
   pub full : (r : Request) (more : List Request) → rest ≡ r ∷ more
       → (length b.requests ≡ 16) ⊎ (2048 < length (flat_map request_bytes (b.requests ++ r ∷ [])))
 
+-- This batch was executed at the position.
+pub record HasExecuted (d : History) (pos : ℕ) (b : Batch) : Type 0 where
+  pub slot : Slot
+  pub position : slot.pos ≡ pos
+  pub batch : batch_of slot ≡ b
+  pub there : Contains d (Executed slot)
+
 -- ---- words of what is due
 
 module _ {S : Type 0} (self : Identity S) where
@@ -256,23 +263,30 @@ module _ {S : Type 0} (self : Identity S) (d : History) where
     pub others : max_faults self.shape ≤ tally (has_vote self d pos x) (host_count self.shape)
 
   -- These bytes have this batch executed at the position.
-  pub record Executes (bytes : Bytes) (pos : ℕ) (b : Batch) : Type 0 where
-    pub slot : Slot
-    pub position : slot.pos ≡ pos
-    pub batch : batch_of slot ≡ b
-    pub there : Contains (transition self d (event.Given bytes)).left.history (Executed slot)
+  abbrev pub Executes : Bytes → ℕ → Batch → Type 0
+  Executes bytes pos b = HasExecuted (transition self d (event.Given bytes)).left.history pos b
 
-  -- by a COMMIT, where the slot is there
-  abbrev pub ExecutesWithCommit : Type 0
-  ExecutesWithCommit = (bytes : Bytes) (m : Commit) (k : KnownSlot) (b c : Batch) → message_of self.shape bytes ≡ Ok (message.Commit m) → IsNextOfSender self d (stamped.Commit m)
-      → IsNext m.view m.pos → m.body ≡ Whole c → AreTagged self c → HasSlot self d m.pos k b → m.counter ≡ k.counter → batch_digest c ≡ k.digest
-      → Lacks m.ui.host m.pos (slot_vote k) → Executes bytes m.pos b
+  -- A COMMIT, which is the next message of another host, brings the vote that lacks, where the slot is there.
+  pub record CommitCompletes (bytes : Bytes) (m : Commit) (k : KnownSlot) (b c : Batch) : Type 0 where
+    pub is : message_of self.shape bytes ≡ Ok (message.Commit m)
+    pub sent : IsNextOfSender self d (stamped.Commit m)
+    pub next : IsNext m.view m.pos
+    pub body : m.body ≡ Whole c
+    pub tagged : AreTagged self c
+    pub slot : HasSlot self d m.pos k b
+    pub counter : m.counter ≡ k.counter
+    pub digest : batch_digest c ≡ k.digest
+    pub lacks : Lacks m.ui.host m.pos (slot_vote k)
 
-  -- by the PREPARE itself
-  abbrev pub ExecutesWithPrepare : Type 0
-  ExecutesWithPrepare = (bytes : Bytes) (m : Prepare) (b : Batch) → message_of self.shape bytes ≡ Ok (message.Prepare m) → IsNextOfSender self d (stamped.Prepare m)
-      → IsNext m.view m.pos → m.body ≡ Whole b → AreTagged self b → slot_in self d m.view m.pos ≡ None
-      → Lacks m.ui.host m.pos (record { counter = m.ui.counter; request = batch_digest b }) → Executes bytes m.pos b
+  -- The PREPARE itself brings the vote that lacks.
+  pub record PrepareCompletes (bytes : Bytes) (m : Prepare) (b : Batch) : Type 0 where
+    pub is : message_of self.shape bytes ≡ Ok (message.Prepare m)
+    pub sent : IsNextOfSender self d (stamped.Prepare m)
+    pub next : IsNext m.view m.pos
+    pub body : m.body ≡ Whole b
+    pub tagged : AreTagged self b
+    pub no_slot : slot_in self d m.view m.pos ≡ None
+    pub lacks : Lacks m.ui.host m.pos (record { counter = m.ui.counter; request = batch_digest b })
 
   -- Neither of two hosts has a vote here, and with theirs f+1 hosts have this one.
   pub record LackBoth (g h pos : ℕ) (x : Vote) : Type 0 where
@@ -280,15 +294,40 @@ module _ {S : Type 0} (self : Identity S) (d : History) where
     pub second : vote_of self d h (view_of self d) pos ≡ None
     pub others : max_faults self.shape ≤ tally (has_vote self d pos x) (host_count self.shape) + 1
 
-  -- by a COMMIT that brings its PREPARE, which is the next of the primary
-  abbrev pub ExecutesWithBoth : Type 0
-  ExecutesWithBoth = (bytes : Bytes) (m : Commit) (b : Batch) → message_of self.shape bytes ≡ Ok (message.Commit m) → IsNextOfSender self d (stamped.Commit m)
-      → IsNextOfSender self d (stamped.Prepare (named_prepare self m)) → IsNext m.view m.pos → m.body ≡ Whole b → AreTagged self b → slot_in self d m.view m.pos ≡ None
-      → LackBoth m.ui.host (primary self.shape m.view) m.pos (record { counter = m.counter; request = batch_digest b }) → Executes bytes m.pos b
+  -- A COMMIT brings its PREPARE too, which is the next of the primary, and with it both votes that lack.
+  pub record BothComplete (bytes : Bytes) (m : Commit) (b : Batch) : Type 0 where
+    pub is : message_of self.shape bytes ≡ Ok (message.Commit m)
+    pub sent : IsNextOfSender self d (stamped.Commit m)
+    pub ordered : IsNextOfSender self d (stamped.Prepare (named_prepare self m))
+    pub next : IsNext m.view m.pos
+    pub body : m.body ≡ Whole b
+    pub tagged : AreTagged self b
+    pub no_slot : slot_in self d m.view m.pos ≡ None
+    pub lack : LackBoth m.ui.host (primary self.shape m.view) m.pos (record { counter = m.counter; request = batch_digest b })
 
-  -- by an OPEN of another in the open view, whose plan is held, where the slot is there
+  -- An OPEN of another host in the open view, whose plan is held, brings the vote that lacks, where the slot is there.
+  pub record OpenCompletes (bytes : Bytes) (m : Open) (plan : Plan) (pos : ℕ) (k : KnownSlot) (b c : Batch) : Type 0 where
+    pub is : message_of self.shape bytes ≡ Ok (message.Open m)
+    pub sent : IsNextOfSender self d (stamped.Open m)
+    pub planned : (x : OpenBody) → m.body ≡ Whole x → IsPlanOf self m.evidence x
+    pub next : IsNext m.evidence.view pos
+    pub held : plan_held self d ≡ Some (m.evidence.view, plan)
+    pub plan_is : plan_digest plan ≡ m.evidence.plan
+    pub at : batch_from plan.base.pos pos plan.batches ≡ Some c
+    pub slot : HasSlot self d pos k b
+    pub counter : m.evidence.counter ≡ k.counter
+    pub digest : batch_digest c ≡ k.digest
+    pub lacks : Lacks m.ui.host pos (slot_vote k)
+
+  -- Each of them is executed.
+  abbrev pub ExecutesWithCommit : Type 0
+  ExecutesWithCommit = (bytes : Bytes) (m : Commit) (k : KnownSlot) (b c : Batch) → CommitCompletes bytes m k b c → Executes bytes m.pos b
+
+  abbrev pub ExecutesWithPrepare : Type 0
+  ExecutesWithPrepare = (bytes : Bytes) (m : Prepare) (b : Batch) → PrepareCompletes bytes m b → Executes bytes m.pos b
+
+  abbrev pub ExecutesWithBoth : Type 0
+  ExecutesWithBoth = (bytes : Bytes) (m : Commit) (b : Batch) → BothComplete bytes m b → Executes bytes m.pos b
+
   abbrev pub ExecutesWithOpen : Type 0
-  ExecutesWithOpen = (bytes : Bytes) (m : Open) (plan : Plan) (pos : ℕ) (k : KnownSlot) (b c : Batch) → message_of self.shape bytes ≡ Ok (message.Open m) → IsNextOfSender self d (stamped.Open m)
-      → ((x : OpenBody) → m.body ≡ Whole x → IsPlanOf self m.evidence x) → IsNext m.evidence.view pos → plan_held self d ≡ Some (m.evidence.view, plan)
-      → plan_digest plan ≡ m.evidence.plan → batch_from plan.base.pos pos plan.batches ≡ Some c → HasSlot self d pos k b
-      → m.evidence.counter ≡ k.counter → batch_digest c ≡ k.digest → Lacks m.ui.host pos (slot_vote k) → Executes bytes pos b
+  ExecutesWithOpen = (bytes : Bytes) (m : Open) (plan : Plan) (pos : ℕ) (k : KnownSlot) (b c : Batch) → OpenCompletes bytes m plan pos k b c → Executes bytes pos b
