@@ -1,7 +1,7 @@
 -- What an event brings to a correct host is a step of this host: so it is of each event that brings something, by what happens in the world.
-use Rattle.std.proofs.Common.{◌≡◌, ℕ, Bool, true, false, refl, ap, subst, Option, Some, None}
+use Rattle.std.proofs.Common.{◌≡◌, ℕ, Bool, true, false, refl, sym, ap, subst, ◌∙◌, inl, inr, Option, Some, None}
 use Rattle.std.specs.Prelude.{option_map}
-use Rattle.std.proofs.lemmas.Bool.{eq-eqb, ne_eqb}
+use Rattle.std.proofs.lemmas.Bool.{cases_Bool, eq-eqb, ne_eqb}
 use Rattle.mb_base.specs.Shapes.{Bytes, host_count}
 use Rattle.mb_msg.specs.declared.message.Message.TheVariants as message
 use Rattle.mb_msg.specs.Spelling.{spelling}
@@ -111,5 +111,21 @@ module _ {S : Type 0} (system : System S) where
   otherwise_so w (StampAs h m) g none = let same = stamp_same system w h (content system.schedule w m as_stamped) in same.histories g
   otherwise_so w (StampRaw h bytes) g none = same_by (is_faulty system.schedule h) (stamp_bytes system.schedule h bytes) w g refl
 
+  -- what comes is one thing, to one host
+  first_of : Option (ℕ × Event) → ℕ
+  first_of None = 0
+  first_of (Some p) = p.0
+
+  nothing_comes : (w : World) (e : WorldEvent) (h : ℕ) (x : Event) → arrival w e ≡ None → arrival w e ≡ Some (h, x) → ⊥
+  nothing_comes w e h x at comes = absurd cc
+
+  stays_by : (w : World) (e : WorldEvent) (g : ℕ) (o : Option (ℕ × Event)) → arrival w e ≡ o → ((x : Event) → arrival w e ≡ Some (g, x) → ⊥) → (happens system w e).histories g ≡ w.histories g
+  unfolding first_of
+  stays_by w e g None at none = otherwise_so w e g (λ h x comes. absurd (nothing_comes w e h x at comes))
+  stays_by w e g (Some p) at none = elim (cases_Bool (is_faulty system.schedule p.0)) [
+    | inl faulty ↦ otherwise_so w e g (λ h y comes. subst (λ (n : ℕ). is_faulty system.schedule n ≡ true) (ap first_of (sym at ∙ comes)) faulty)
+    | inr correct ↦ (happens_so w e p.0 p.1 at correct).others g (λ same. none p.1 (at ∙ ap (λ (n : ℕ). Some (n, p.1)) (sym same)))
+  ]
+
   pub events_step : (w : World) → EventsStep system w
-  events_step w = record { steps = λ e h x comes correct. happens_so w e h x comes correct.1; stays = otherwise_so w }
+  events_step w = record { steps = λ e h x comes correct. happens_so w e h x comes correct.1; stays = λ e g none. stays_by w e g (arrival w e) refl none }

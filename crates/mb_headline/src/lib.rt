@@ -16,7 +16,8 @@ pub fn hosts_leave_nothing<V>()
 /// For every service that can be replicated and every schedule with at most f faulty hosts and nothing forged, whatever is lost, repeated and
 /// reordered: views agree; correct hosts execute beginnings of one list; accepted results are the service's there; each execution is justified
 /// by what the host was given; nothing that is due is left undone, and the f+1st matching vote executes in its step; logs and votes keep their
-/// limits; the correct are never blamed, by no event; and each event is a step of the correct host to which it comes, and of no other. So it is
+/// limits; the correct are never blamed, and no event that brings what they stamped is answered with blame; each event is a step of the correct host to
+/// which it comes, and of no other, and the one that brings the f+1st matching vote has its position executed. So it is
 /// after each event, of whole hosts, while no two of the strings hashed so far share a digest.
 pub fn hosts_stay_one<V>()
     ensures { HostsStayOne V }

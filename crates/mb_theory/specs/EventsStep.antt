@@ -1,5 +1,5 @@
 -- What an event does in the world: the correct host to which it comes makes the step of `transition`, and no other does anything.
-use Rattle.std.specs.Prelude.{◌≡◌, ℕ, true, ◌++◌, ◌∷◌, map, Option, Some, None, option_map}
+use Rattle.std.specs.Prelude.{◌≡◌, ℕ, ◌++◌, ◌∷◌, map, Option, Some, None, option_map}
 use Rattle.mb_msg.specs.Spelling.{spelling}
 use Rattle.mb_msg.specs.declared.event.Event.{Event}
 use Rattle.mb_msg.specs.declared.event.Event.TheVariants as host
@@ -8,7 +8,6 @@ use Rattle.mb_model.specs.HostStep.{transition}
 use Rattle.mb_sched.specs.declared.schedule.Name.TheVariants as name
 use Rattle.mb_sched.specs.declared.schedule.WorldEvent.{WorldEvent}
 use Rattle.mb_sched.specs.declared.schedule.WorldEvent.TheVariants.{Give, Raw, Patience, Nudge}
-use Rattle.mb_sched.specs.Limits.{is_faulty}
 use Rattle.mb_theory.specs.WorldEvents.{IsCorrect}
 use Rattle.mb_theory.specs.World.{OfHost, World, System, numbered, self_of}
 use Rattle.mb_theory.specs.WorldSteps.{happens}
@@ -30,7 +29,7 @@ module _ {S : Type 0} (system : System S) where
     pub sends : next.pool ≡ w.pool ++ map (λ (letter : Letter). spelling letter.says) (transition (self_of system h) (w.histories h) x).left.sent
     pub answers : next.seen ≡ OfHost (transition (self_of system h) (w.histories h) x).outcome ∷ w.seen
 
-  -- What an event brings to a correct host is a step of this host; one that brings nothing to a correct host leaves each history as it is.
+  -- What an event brings to a correct host is a step of this host. Of a host to which it brings nothing the history stays as it is.
   pub record EventsStep (w : World) : Type 0 where
     pub steps : (e : WorldEvent) (h : ℕ) (x : Event) → arrival w e ≡ Some (h, x) → IsCorrect system.schedule h → MakesStep h x w (happens system w e)
-    pub stays : (e : WorldEvent) (g : ℕ) → ((h : ℕ) (x : Event) → arrival w e ≡ Some (h, x) → is_faulty system.schedule h ≡ true) → (happens system w e).histories g ≡ w.histories g
+    pub stays : (e : WorldEvent) (g : ℕ) → ((x : Event) → arrival w e ≡ Some (g, x) → ⊥) → (happens system w e).histories g ≡ w.histories g

@@ -25,8 +25,9 @@ module _ {S : Type 0} (system : System S) (w : World) where
   abbrev pub ExecutesBehind : WorldEvent → ℕ → ℕ → Batch → Type 0
   ExecutesBehind e h pos b = HasExecuted ((happens system w e).histories h) pos b
 
-  -- Where an event brings a correct host, in its open view, the vote of another host that completes f+1 for the position behind the last executed one, this
-  -- position is executed in the world behind the event: by a COMMIT, by the PREPARE, by a COMMIT that brings its PREPARE, and by an OPEN.
+  -- Where an event brings a correct host, in its open view and as a message of its own, the vote of another host that completes f+1 for the position behind
+  -- the last executed one, this position is executed in the world behind the event: by a COMMIT, by the PREPARE, by a COMMIT that brings its PREPARE, and by
+  -- an OPEN.
   pub record ExecutesAtOnce : Type 0 where
     pub by_commit : (e : WorldEvent) (h : ℕ) (bytes : Bytes) (m : Commit) (k : KnownSlot) (b c : Batch) → Brings e h bytes
         → CommitCompletes (self_of system h) (w.histories h) bytes m k b c → ExecutesBehind e h m.pos b
