@@ -44,7 +44,7 @@ module _ {S : Type 0} (self : Identity S) (d : History) where
   -- ---- a letter that is sent stays so
 
   module _ (l : Letter) where
-    abbrev Q : Progress → Type 0
+    abbrev pub Q : Progress → Type 0
     Q x = Contains x.sent l
 
     more : (m : Letter) (x : Progress) → Q x → Q (send m x)
@@ -61,7 +61,7 @@ module _ {S : Type 0} (self : Identity S) (d : History) where
         let p : Placed = placed_in self x.history r in
         serves_keep pos rs (serve self pos r x) (reply_keeps p.fresh (to_client p.request.client (stored_reply self (Served pos p ∷ x.history) p.request.client)) (write (Served pos p) x) s)
 
-    letter_walked : IsWalked self Q
+    pub letter_walked : IsWalked self Q
     letter_walked = record {
       quiet = λ e x q s. s;
       stamped = λ m x s. Contains-append_left x.sent (to_all (as_message (signed self x.history m)) ∷ []) l s;
@@ -76,7 +76,7 @@ module _ {S : Type 0} (self : Identity S) (d : History) where
     finished_has : (runs asks : Bool) (a : Answer) → Contains a.left.sent l → Contains (finished_where self runs asks d a).left.sent l
     finished_has runs asks a s = finished_keeps self Q letter_walked runs asks d a s
 
-  last_of : (sent : List Letter) (l : Letter) → Contains (sent ++ l ∷ []) l
+  pub last_of : (sent : List Letter) (l : Letter) → Contains (sent ++ l ∷ []) l
   last_of sent l = Contains-append_right sent (l ∷ []) l (0, omega arith, refl)
 
   -- ---- RESEND and FETCH
@@ -169,7 +169,7 @@ module _ {S : Type 0} (self : Identity S) (d : History) where
   unfolding wish_of
   wished_above = rw (eq-eqb self.host self.host refl) (omega arith)
 
-  patience_sent : (view_of self d ≡ view_limit → ⊥) → Contains (on_patience self (begin d)).left.sent (to_all (wish self (LostPatience ∷ d)))
+  pub patience_sent : (view_of self d ≡ view_limit → ⊥) → Contains (on_patience self (begin d)).left.sent (to_all (wish self (LostPatience ∷ d)))
   unfolding on_patience
   patience_sent more = rw (ne_eqb (view_of self d) view_limit more) (last_of [] (to_all (wish self (LostPatience ∷ d))))
 

@@ -8,7 +8,8 @@
 -- (`KeptTables`): requests and wishes (`KeptRequests`), parts of a state and snapshots (`KeptParts`), VIEW_CHANGEs and ENTERs (`KeptChanges`), OPENs, NEW_VIEWs,
 -- plans and evidence (`KeptOpenings`), CHECKPOINTs and what is stable by them (`KeptStable`). A host leaves its view with cause alone (`LeavesWithCause`),
 -- cuts its log where f+1 agree on a floor (`CutsLog`), takes LOGs and their entries (`LogsStand`, `JumpsToFloors`, `TakesLogs`), sends what it stamps and
--- each fresh reply (`Sends`), and answers who asks (`ShowsLog`, `Answers`).
+-- each fresh reply (`Sends`), and answers who asks (`ShowsLog`, `Answers`). What an event brings is written first (`Written`), and what a step adds came
+-- with its event (`Added`).
 pub mod Taken
 pub mod TakesValid
 pub mod AcceptedFits
@@ -43,3 +44,11 @@ pub mod TakesLogs
 pub mod Sends
 pub mod ShowsLog
 pub mod Answers
+pub mod Written
+pub mod Added
+pub mod XJoinsWithCause
+pub mod JoinsWithCause
+pub mod XLeavesAlone
+pub mod LeftAlone
+pub mod XTells
+pub mod Tells

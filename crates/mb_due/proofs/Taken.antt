@@ -184,7 +184,7 @@ module _ {S : Type 0} (self : Identity S) where
 
   -- ---- the others
 
-  request_passed : (d : History) (r : Request) → PassesRequest self d r → request_refusal self d r ≡ None
+  pub request_passed : (d : History) (r : Request) → PassesRequest self d r → request_refusal self d r ≡ None
   unfolding request_refusal number_refusal
   request_passed d r p =
       let above = ltb-true (last_seq self d r.client) r.seq p.fresh in
@@ -205,7 +205,7 @@ module _ {S : Type 0} (self : Identity S) where
     go outcome.Again some = rw some refl
     go o some = rw some refl
 
-  wish_passed : (d : History) (m : ReqViewChange) → PassesWish self d m → wish_refusal self d m ≡ None
+  pub wish_passed : (d : History) (m : ReqViewChange) → PassesWish self d m → wish_refusal self d m ≡ None
   unfolding wish_refusal
   wish_passed d m p = or_both _ _ (none_where _ _ p.tagged) (none_where _ _ (lt-leb m.view (wish_of self d m.host) (ltb-true _ _ p.above)))
 
@@ -220,7 +220,7 @@ module _ {S : Type 0} (self : Identity S) where
     | inr (o, some) ↦ rw some refl
   ]
 
-  resend_passed : (d : History) (m : Resend) → PassesResend self d m → resend_refusal self d m ≡ None
+  pub resend_passed : (d : History) (m : Resend) → PassesResend self d m → resend_refusal self d m ≡ None
   unfolding resend_refusal
   resend_passed d m p = or_both _ _ (none_where _ _ p.not_own) (none_where _ _ (passes_not _ p.has_news))
 
@@ -235,7 +235,7 @@ module _ {S : Type 0} (self : Identity S) where
     | inr (o, some) ↦ rw some refl
   ]
 
-  fetch_passed : (d : History) (m : Fetch) → PassesFetch self d m → fetch_refusal self d m ≡ None
+  pub fetch_passed : (d : History) (m : Fetch) → PassesFetch self d m → fetch_refusal self d m ≡ None
   fetch_passed d m p = none_where _ _ (both_false _ _ (passes_not _ p.asked) (not_none _ p.has_snapshot))
 
   fetch_refuses : (d : History) (m : Fetch) → IsRefusal (fetch_refusal self d m)
@@ -248,7 +248,7 @@ module _ {S : Type 0} (self : Identity S) where
     | inr (o, some) ↦ rw some refl
   ]
 
-  state_passed : (d : History) (m : StateMsg) → PassesState self d m → state_refusal self d m ≡ None
+  pub state_passed : (d : History) (m : StateMsg) → PassesState self d m → state_refusal self d m ≡ None
   unfolding state_refusal
   state_passed d m p =
       or_both _ _ (none_where _ _ (passes_not _ p.wanted)) (or_both _ _ (none_where _ _ (passes_not _ p.list)) (or_both _ _ (ap wrong_digest p.parts) (or_both _ _ (none_where _ _ p.not_held) p.state)))

@@ -1,10 +1,10 @@
 -- The entries of a LOG that is taken are accepted one after the other, each that is valid, as long as each is valid or passed already; and all that is said of
 -- LOGs, together.
-use Rattle.std.proofs.Common.{◌≡◌, ℕ, Bool, true, false, List, [], ◌∷◌, refl, sym, subst, inl, inr, arith, Option, Some, None}
+use Rattle.std.proofs.Common.{◌≡◌, ℕ, Bool, true, false, List, [], ◌∷◌, ◌⊎◌, refl, sym, subst, inl, inr, arith, Option, Some, None}
 use Rattle.std.specs.Prelude.{if◌then◌else◌, Contains, Result, option_map}
 use Rattle.std.specs.Bool.{then_some}
 use Rattle.std.specs.Option.{option_or}
-use Rattle.std.proofs.lemmas.Bool.{cases_Bool, ne_eqb, le-leb}
+use Rattle.std.proofs.lemmas.Bool.{cases_Bool, le-leb}
 use Rattle.mb_base.specs.declared.names.Ui.{Ui}
 use Rattle.mb_msg.specs.declared.normal.Prepare.{Prepare}
 use Rattle.mb_msg.specs.declared.normal.Commit.{Commit}
@@ -78,16 +78,19 @@ module _ {S : Type 0} (self : Identity S) where
   not_refused (stamped.Open m) d v = stamped_passed self d (stamped.Open m) (valid_passes self d (message.Open m) v)
   not_refused (stamped.Join m) d v = stamped_passed self d (stamped.Join m) (valid_passes self d (message.Join m) v)
 
-  -- One that its gate has passed is stale.
-  stale : (m : StampedMessage) (d : History) → IsPassed self d m → stamped_refusal self d m ≡ Some (outcome.Stale (next_of d (ui_of m).host))
+  -- One that its gate has passed is stale, or the host's own.
+  passed_over : (m : StampedMessage) (d : History) → IsPassed self d m
+      → (stamped_refusal self d m ≡ Some outcome.Idle) ⊎ (stamped_refusal self d m ≡ Some (outcome.Stale (next_of d (ui_of m).host)))
   unfolding stamped_refusal identifier_refusal gate_refusal
-  stale m d p =
+  passed_over m d p =
       let u : Ui = ui_of m in
       let good : then_some (is_bad_ui self m) outcome.BadUi ≡ None = rw (certified self m p.certified) refl in
-      let not_own : then_some (is_own_future self d u) outcome.Idle ≡ None = rw (ne_eqb u.host self.host p.other) refl in
       let free : option_map outcome.Convicted (conviction self d u) ≡ None = rw p.free refl in
       let is : then_some (is_stale self d u) (outcome.Stale (next_of d u.host)) ≡ Some (outcome.Stale (next_of d u.host)) = rw (le-leb u.counter (gate d u.host).counter p.passed) refl in
-      or_first _ _ _ (or_next _ _ _ good (or_next _ _ _ not_own (or_next _ _ _ free (or_first _ _ _ is))))
+      elim (cases_Bool (is_own_future self d u)) [
+        | inl own ↦ let idle : then_some (is_own_future self d u) outcome.Idle ≡ Some outcome.Idle = rw own refl in inl (or_first _ _ _ (or_next _ _ _ good (or_first _ _ _ idle)))
+        | inr not_own ↦ let past : then_some (is_own_future self d u) outcome.Idle ≡ None = rw not_own refl in inr (or_first _ _ _ (or_next _ _ _ good (or_next _ _ _ past (or_next _ _ _ free (or_first _ _ _ is)))))
+      ]
 
   -- What is accepted depends on the history alone.
   offered : (m : Prepare) (x : Progress) → (offer_prepare self m x).history ≡ (offer_prepare self m (begin x.history)).history
@@ -123,7 +126,10 @@ module _ {S : Type 0} (self : Identity S) where
 
   passes_over : (left : History) (m : StampedMessage) (l : List StampedMessage) (x : Progress) → IsPassed self x.history m → Reaches left x (m ∷ l) → Reaches left (note (compared_in self x.history m) x) l
   unfolding give_entries give_stamped
-  passes_over left m l x p r e there = r e (rw (stale m x.history p) there)
+  passes_over left m l x p r e there = elim (passed_over m x.history p) [
+    | inl idle ↦ r e (rw idle there)
+    | inr stale ↦ r e (rw stale there)
+  ]
 
   entries_taken : (left : History) (l : List StampedMessage) (x : Progress) → Reaches left x l → AreTaken self left x.history l
   entries_taken left [] x r = tt

@@ -27,6 +27,8 @@ use Rattle.mb_due.proofs.CutsLog.{hosts_cut_logs}
 use Rattle.mb_due.proofs.TakesLogs.{hosts_take_logs}
 use Rattle.mb_due.proofs.Sends.{hosts_send_all}
 use Rattle.mb_due.proofs.Answers.{hosts_answer}
+use Rattle.mb_due.proofs.Written.{hosts_write}
+use Rattle.mb_due.proofs.Added.{hosts_add_given}
 use Rattle.mb_headline.proofs.EventsStep.{events_step}
 use Rattle.mb_headline.proofs.ExecutesAtOnce.{executes_at_once}
 use Rattle.mb_headline.proofs.NobodyBlamed.{no_event_blames}
@@ -70,6 +72,8 @@ nothing_left S system k h =
       finds_tables = hosts_find_tables system k h;
       replaces = hosts_replace_tables system k h;
       gates = hosts_gates_stand system k h;
+      writes = hosts_write system k h;
+      adds = hosts_add_given system k h;
     }
 
 pub all_stay_one : (S : Type 0) → HostsStayOne S

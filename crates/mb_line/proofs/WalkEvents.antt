@@ -1,5 +1,5 @@
 -- What each event of a host keeps of what its step has done so far: what each of its moves keeps (`IsWalked`) is kept by each rule, and so by each
--- event (`walked`).
+-- event (`walked`). The rules need less (`IsRuled`): they stamp, note, send and execute.
 use Rattle.std.proofs.Common.{ℕ, zero, suc, Bool, true, false, ◌&&◌, ◌||◌, [], ◌∷◌, refl, inl, inr, Ok, Err}
 use Rattle.std.specs.Prelude.{◌==◌, ◌%◌, nat_lt, Result}
 use Rattle.std.proofs.lemmas.Bool.{cases_Bool}
@@ -22,9 +22,9 @@ use Rattle.mb_model.specs.Given.{Answer, give}
 use Rattle.mb_model.specs.Positions.{is_behind}
 use Rattle.mb_model.specs.HostStep.{on_patience, on_nudge, wish_again, with_fetch, low_rose, finished_where, on_message, on_bytes, transition}
 use Rattle.mb_model.proofs.Options.{option_cases}
-use Rattle.mb_line.proofs.Walks.{IsWalked, give_keeps}
+use Rattle.mb_line.proofs.Walks.{IsRuled, IsWalked, ruled, give_keeps}
 
-module _ {S : Type 0} (self : Identity S) (Q : Progress → Type 0) (kept : IsWalked self Q) where
+module _ {S : Type 0} (self : Identity S) (Q : Progress → Type 0) (kept : IsRuled self Q) where
   -- ---- the rules
 
   execute_keeps : (pos : ℕ) (b : Batch) (x : Progress) → Q x → Q (execute self pos b x)
@@ -61,7 +61,7 @@ module _ {S : Type 0} (self : Identity S) (Q : Progress → Type 0) (kept : IsWa
     | inr (rule, some) ↦ rw some (rules_keep n (carry_out self rule x) (carried_keeps rule x q))
   ]
 
-  -- ---- an event
+  -- ---- the end of a step
 
   fetch_sent_keeps : (asks : Bool) (d : History) (x : Progress) → Q x → Q (with_fetch self asks d x)
   fetch_sent_keeps asks d x q = elim (cases_Bool (is_behind self x.history && (asks || low_rose self d x.history))) [
@@ -69,9 +69,15 @@ module _ {S : Type 0} (self : Identity S) (Q : Progress → Type 0) (kept : IsWa
     | inr not_so ↦ rw not_so q
   ]
 
+  pub ruled_keeps : (runs asks : Bool) (d : History) (a : Answer) → Q a.left → Q (finished_where self runs asks d a).left
+  ruled_keeps true asks d a q = fetch_sent_keeps asks d (run_rules self enough a.left) (rules_keep enough a.left q)
+  ruled_keeps false asks d a q = q
+
+module _ {S : Type 0} (self : Identity S) (Q : Progress → Type 0) (kept : IsWalked self Q) where
+  -- ---- an event
+
   pub finished_keeps : (runs asks : Bool) (d : History) (a : Answer) → Q a.left → Q (finished_where self runs asks d a).left
-  finished_keeps true asks d a q = fetch_sent_keeps asks d (run_rules self enough a.left) (rules_keep enough a.left q)
-  finished_keeps false asks d a q = q
+  finished_keeps runs asks d a q = ruled_keeps self Q (ruled self Q kept) runs asks d a q
 
   patience_keeps : (x : Progress) → Q x → Q (on_patience self x).left
   unfolding on_patience

@@ -74,6 +74,16 @@ module _ {S : Type 0} (self : Identity S) (Q : Progress → Type 0) where
     pub executed : (pos : ℕ) (b : Batch) (x : Progress) → Q x → Q (close_slot self pos (serve_all self pos b.requests x))
     pub installed : (x : Progress) → Q x → Q (install self x)
 
+  -- the moves of the rules alone
+  pub record IsRuled : Type 0 where
+    pub stamped : (m : StampedMessage) (x : Progress) → Q x → Q (stamp self m x)
+    pub noted : (strings : List Bytes) (x : Progress) → Q x → Q (note strings x)
+    pub sent : (l : Letter) (x : Progress) → is_reply l.says ≡ false → Q x → Q (send l x)
+    pub executed : (pos : ℕ) (b : Batch) (x : Progress) → Q x → Q (close_slot self pos (serve_all self pos b.requests x))
+
+  pub ruled : IsWalked → IsRuled
+  ruled kept = record { stamped = kept.stamped; noted = kept.noted; sent = kept.sent; executed = kept.executed }
+
   module _ (kept : IsWalked) where
     -- ---- a message that is given
 

@@ -16,6 +16,8 @@ use Rattle.mb_theory.specs.CutsLog.{CutsLog}
 use Rattle.mb_theory.specs.TakesLogs.{TakesLogs}
 use Rattle.mb_theory.specs.Sends.{SendsAll}
 use Rattle.mb_theory.specs.Answers.{AnswersAll}
+use Rattle.mb_theory.specs.Writes.{Writes}
+use Rattle.mb_theory.specs.AddsGiven.{AddsGiven}
 
 module _ {S : Type 0} (self : Identity S) (d : History) where
   pub record LeavesNothing : Type 0 where
@@ -53,6 +55,8 @@ module _ {S : Type 0} (self : Identity S) (d : History) where
     pub finds_tables : FindsTables self d
     pub replaces : ReplacesTables self d
     pub gates : GatesStand d
+    pub writes : Writes self d
+    pub adds : AddsGiven self d
 
 -- After any events, whoever is faulty and whatever is forged, no host has left anything undone.
 abbrev pub HostsLeaveNothing : Type 0 → Type 0

@@ -23,6 +23,8 @@ pub mod WhatCame
 pub mod FindsTables
 pub mod ReplacesTables
 pub mod GatesStand
+pub mod Writes
+pub mod AddsGiven
 pub mod AllDue
 pub mod CarriedOut
 pub mod Safety
