@@ -22,7 +22,7 @@ use Rattle.mb_theory.specs.WorldSteps.{world}
 use Rattle.mb_theory.specs.NothingLeft.{IsEvident}
 use Rattle.mb_theory.proofs.KeptByWorlds.{world_arises}
 use Rattle.mb_known.proofs.Moments.{arises_by}
-use Rattle.mb_due.proofs.XJoinsWithCause.{FellBehind, IsPastItsPlan, MayStampJoin, JoinsWithCause}
+use Rattle.mb_theory.specs.JoinsWithCause.{FellBehind, IsPastItsPlan, MayStampJoin, JoinsWithCause}
 
 either : (a b : Bool) → (a || b) ≡ true → (a ≡ true) ⊎ (b ≡ true)
 either true b e = inl refl

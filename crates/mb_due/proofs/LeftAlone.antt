@@ -26,7 +26,7 @@ use Rattle.mb_model.proofs.Options.{option_cases}
 use Rattle.mb_theory.specs.World.{System, self_of}
 use Rattle.mb_theory.specs.WorldSteps.{world}
 use Rattle.mb_theory.specs.NothingLeft.{IsNoLog}
-use Rattle.mb_due.proofs.XLeavesAlone.{LeavesOfStamped, LeavesOfState, LeavesOfRefused, KeepsRefused, KeepsMalformed, KeepsPatience, LeavesAlone}
+use Rattle.mb_theory.specs.LeavesAlone.{LeavesOfStamped, LeavesOfState, LeavesOfRefused, KeepsRefused, KeepsMalformed, KeepsPatience, LeavesAlone}
 
 module _ {S : Type 0} (self : Identity S) (d : History) where
   -- ---- each kind

@@ -9,7 +9,8 @@
 -- plans and evidence (`KeptOpenings`), CHECKPOINTs and what is stable by them (`KeptStable`). A host leaves its view with cause alone (`LeavesWithCause`),
 -- cuts its log where f+1 agree on a floor (`CutsLog`), takes LOGs and their entries (`LogsStand`, `JumpsToFloors`, `TakesLogs`), sends what it stamps and
 -- each fresh reply (`Sends`), and answers who asks (`ShowsLog`, `Answers`). What an event brings is written first (`Written`), and what a step adds came
--- with its event (`Added`).
+-- with its event (`Added`); what is refused adds nothing else (`LeftAlone`). A JOIN has cause (`JoinsWithCause`), and lost patience and a stable position that
+-- rose are followed by a letter (`TellsAndAsks`).
 pub mod Taken
 pub mod TakesValid
 pub mod AcceptedFits
@@ -46,9 +47,6 @@ pub mod ShowsLog
 pub mod Answers
 pub mod Written
 pub mod Added
-pub mod XJoinsWithCause
 pub mod JoinsWithCause
-pub mod XLeavesAlone
 pub mod LeftAlone
-pub mod XTells
-pub mod Tells
+pub mod TellsAndAsks

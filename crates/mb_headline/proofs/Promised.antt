@@ -29,6 +29,9 @@ use Rattle.mb_due.proofs.Sends.{hosts_send_all}
 use Rattle.mb_due.proofs.Answers.{hosts_answer}
 use Rattle.mb_due.proofs.Written.{hosts_write}
 use Rattle.mb_due.proofs.Added.{hosts_add_given}
+use Rattle.mb_due.proofs.JoinsWithCause.{hosts_join_with_cause}
+use Rattle.mb_due.proofs.LeftAlone.{hosts_leave_alone}
+use Rattle.mb_due.proofs.TellsAndAsks.{hosts_tell_and_ask}
 use Rattle.mb_headline.proofs.EventsStep.{events_step}
 use Rattle.mb_headline.proofs.ExecutesAtOnce.{executes_at_once}
 use Rattle.mb_headline.proofs.NobodyBlamed.{no_event_blames}
@@ -74,6 +77,9 @@ nothing_left S system k h =
       gates = hosts_gates_stand system k h;
       writes = hosts_write system k h;
       adds = hosts_add_given system k h;
+      joins_with_cause = hosts_join_with_cause system k h;
+      alone = hosts_leave_alone system k h;
+      tells = hosts_tell_and_ask system k h;
     }
 
 pub all_stay_one : (S : Type 0) → HostsStayOne S

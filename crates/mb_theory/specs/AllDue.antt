@@ -18,6 +18,9 @@ use Rattle.mb_theory.specs.Sends.{SendsAll}
 use Rattle.mb_theory.specs.Answers.{AnswersAll}
 use Rattle.mb_theory.specs.Writes.{Writes}
 use Rattle.mb_theory.specs.AddsGiven.{AddsGiven}
+use Rattle.mb_theory.specs.JoinsWithCause.{JoinsWithCause}
+use Rattle.mb_theory.specs.LeavesAlone.{LeavesAlone}
+use Rattle.mb_theory.specs.TellsAndAsks.{TellsAndAsks}
 
 module _ {S : Type 0} (self : Identity S) (d : History) where
   pub record LeavesNothing : Type 0 where
@@ -57,6 +60,9 @@ module _ {S : Type 0} (self : Identity S) (d : History) where
     pub gates : GatesStand d
     pub writes : Writes self d
     pub adds : AddsGiven self d
+    pub joins_with_cause : JoinsWithCause self d
+    pub alone : LeavesAlone self d
+    pub tells : TellsAndAsks self d
 
 -- After any events, whoever is faulty and whatever is forged, no host has left anything undone.
 abbrev pub HostsLeaveNothing : Type 0 → Type 0

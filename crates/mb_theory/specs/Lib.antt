@@ -25,6 +25,9 @@ pub mod ReplacesTables
 pub mod GatesStand
 pub mod Writes
 pub mod AddsGiven
+pub mod JoinsWithCause
+pub mod LeavesAlone
+pub mod TellsAndAsks
 pub mod AllDue
 pub mod CarriedOut
 pub mod Safety

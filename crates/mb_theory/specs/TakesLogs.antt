@@ -32,10 +32,9 @@ module _ {S : Type 0} (self : Identity S) where
 
   -- ---- its entries
 
-  -- a stamped message of another host, rightly certified, which its gate has passed already
+  -- a stamped message of another host or of this one, rightly certified, which its gate has passed already
   pub record IsPassed (d : History) (x : StampedMessage) : Type 0 where
     pub certified : IsCertified self x
-    pub other : (ui_of x).host ≡ self.host → ⊥
     pub free : closed_at d (ui_of x).host ≡ None
     pub passed : (ui_of x).counter ≤ (gate d (ui_of x).host).counter
 

@@ -28,3 +28,7 @@ module _ {S : Type 0} (self : Identity S) (d : History) where
   -- The parts that are missing are asked for where the stable position rose in this step.
   abbrev pub FetchesWhereRisen : Type 0
   FetchesWhereRisen = (e : Event) → low_of self d < low_of self (transition self d e).left.history → AsksWhereBehind self d (transition self d e).left
+
+  pub record TellsAndAsks : Type 0 where
+    pub patience : TellsPatience
+    pub fetches : FetchesWhereRisen

@@ -32,11 +32,11 @@ use Rattle.mb_theory.specs.World.{System, self_of}
 use Rattle.mb_theory.specs.WorldSteps.{world}
 use Rattle.mb_theory.specs.NothingLeft.{IsNoLog}
 use Rattle.mb_theory.specs.Answers.{AsksWhereBehind}
+use Rattle.mb_theory.specs.TellsAndAsks.{TellsPatience, FetchesWhereRisen, TellsAndAsks}
 use Rattle.mb_line.proofs.WalkEvents.{finished_keeps}
 use Rattle.mb_due.proofs.Answers.{Q, letter_walked, patience_sent, last_of}
-use Rattle.mb_due.proofs.XLeavesAlone.{LeavesOfStamped, LeavesOf, LeavesOfState, LeavesOfRefused}
+use Rattle.mb_theory.specs.LeavesAlone.{LeavesOfStamped, LeavesOf, LeavesOfState, LeavesOfRefused}
 use Rattle.mb_due.proofs.LeftAlone.{given_left}
-use Rattle.mb_due.proofs.XTells.{IsToldWishFor, TellsPatience, FetchesWhereRisen}
 
 module _ {S : Type 0} (self : Identity S) (d : History) where
   -- ---- lost patience
@@ -154,8 +154,6 @@ module _ {S : Type 0} (self : Identity S) (d : History) where
   fetches_where_risen event.Patience rose = risen_where _ false (on_patience self (begin d)) patience_low rose
   fetches_where_risen event.Nudge rose = asks_where_risen true (run_rules self enough (on_nudge self (begin d)).left) rose
 
-pub hosts_tell : {S : Type 0} (system : System S) (k h : ℕ) → TellsPatience (self_of system h) ((world system k).histories h)
-hosts_tell system k h = tells_patience (self_of system h) ((world system k).histories h)
-
-pub hosts_fetch_where_risen : {S : Type 0} (system : System S) (k h : ℕ) → FetchesWhereRisen (self_of system h) ((world system k).histories h)
-hosts_fetch_where_risen system k h = fetches_where_risen (self_of system h) ((world system k).histories h)
+pub hosts_tell_and_ask : {S : Type 0} (system : System S) (k h : ℕ) → TellsAndAsks (self_of system h) ((world system k).histories h)
+hosts_tell_and_ask system k h =
+    record { patience = tells_patience (self_of system h) ((world system k).histories h); fetches = fetches_where_risen (self_of system h) ((world system k).histories h) }
