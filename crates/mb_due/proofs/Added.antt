@@ -1,14 +1,12 @@
 -- What a step adds came with its event: the walk through a given message, and the rules, which only do.
-use Rattle.std.proofs.Common.{◌≡◌, ℕ, suc, ◌+◌, ◌-◌, ◌⊎◌, Bool, true, false, ◌&&◌, not, List, [], ◌∷◌, length, refl, sym, ap, subst, ◌∙◌, inl, inr, arith, Option, Some, None, Result, Ok, Err}
+use Rattle.std.proofs.Common.{◌≡◌, ℕ, suc, ◌+◌, ◌-◌, ◌⊎◌, Bool, true, false, ◌&&◌, not, List, [], ◌∷◌, length, refl, sym, ap, subst, inl, inr, arith, Option, Some, None, Result, Ok, Err}
 use Rattle.std.specs.Prelude.{◌==◌, nat_lt, is_none, slice_get, unwrap_or, Contains, if◌then◌else◌}
 use Rattle.std.specs.Bool.{then_some}
 use Rattle.std.specs.Option.{option_or}
 use Rattle.std.proofs.lemmas.Bool.{cases_Bool, and_parts, eqb-true, ltb-true}
-use Rattle.std.proofs.lemmas.Option.{slice_get_within}
 use Rattle.sha2.specs.Sha256.{sha256}
 use Rattle.sha2.proofs.Facts256.{length-sha256}
 use Rattle.mb_base.specs.Shapes.{Bytes}
-use Rattle.mb_usig.specs.Tags.{same_bytes}
 use Rattle.mb_usig.proofs.Laws.{same_bytes-true}
 use Rattle.mb_parts.specs.declared.floor.Floor.{Floor}
 use Rattle.mb_parts.specs.declared.certificates.FloorCert.{FloorCert}
@@ -43,7 +41,7 @@ use Rattle.mb_model.specs.Compared.{compared_in}
 use Rattle.mb_model.specs.Sending.{Progress, begin, write, note, signed}
 use Rattle.mb_model.specs.GateChecks.{valid}
 use Rattle.mb_model.specs.KindChecks.{stamped_refusal}
-use Rattle.mb_model.specs.PlainChecks.{string_at, wrong_part, wrong_digest, fault_of, bad_state, is_wanted, is_list_right, are_all_held, request_refusal, wish_refusal, resend_refusal, log_refusal, fetch_refusal, state_refusal}
+use Rattle.mb_model.specs.PlainChecks.{wrong_part, wrong_digest, fault_of, bad_state, is_wanted, is_list_right, are_all_held, request_refusal, wish_refusal, resend_refusal, log_refusal, fetch_refusal, state_refusal}
 use Rattle.mb_model.specs.CarriedOut.{placed_in, with_reply, serve, serve_all}
 use Rattle.mb_model.specs.Given.{Answer, closing, named_prepare, offer_prepare, casts_vote, accept, give_stamped, give_request, give_wish, give_resend, give_fetch, install_where_all, give_state, floor_shown, jump, go_on, give_entries, give_log, give}
 use Rattle.mb_model.specs.HostStep.{on_bytes, on_patience, on_nudge, transition}

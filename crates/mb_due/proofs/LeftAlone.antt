@@ -1,7 +1,6 @@
 -- What is refused is followed by no rule, so it adds what closes a gate or drops parts, and nothing else.
-use Rattle.std.proofs.Common.{◌≡◌, ℕ, Bool, true, false, ◌∷◌, refl, sym, ap, subst, inl, inr, Option, Some, None, Result, Ok, Err}
+use Rattle.std.proofs.Common.{◌≡◌, ℕ, Bool, true, false, ◌∷◌, refl, sym, ap, subst, inl, inr, Some, Result, Ok}
 use Rattle.std.proofs.lemmas.Bool.{eq-eqb}
-use Rattle.mb_base.specs.Shapes.{Bytes}
 use Rattle.mb_parts.specs.declared.request.Request.{Request}
 use Rattle.mb_msg.specs.declared.message.Message.{Message}
 use Rattle.mb_msg.specs.declared.message.Message.TheVariants as message

@@ -1,16 +1,13 @@
 -- Lost patience is told; and a FETCH is sent where the stable position rose: the rules run in each such step, and it is sent behind them.
-use Rattle.std.proofs.Common.{◌≡◌, ℕ, ◌+◌, ◌<◌, ◌≤◌, Bool, true, false, ◌&&◌, ◌||◌, List, [], ◌∷◌, ◌++◌, refl, sym, ap, subst, ◌∙◌, inl, inr, arith, Option, Some, None, Result, Ok, Err}
-use Rattle.std.specs.Prelude.{◌==◌, Contains, max, nat_lt, is_none}
-use Rattle.std.proofs.lemmas.Bool.{cases_Bool, eq-eqb, ne_eqb, lt-ltb}
-use Rattle.std.proofs.lemmas.List.Elements.{Contains-append_right}
-use Rattle.mb_base.specs.Shapes.{Bytes}
+use Rattle.std.proofs.Common.{◌≡◌, ℕ, ◌+◌, ◌<◌, ◌≤◌, Bool, true, false, ◌&&◌, ◌||◌, ◌∷◌, refl, ap, subst, inl, inr, arith, Option, Some, None, Result, Ok, Err}
+use Rattle.std.specs.Prelude.{◌==◌, Contains, max, is_none}
+use Rattle.std.proofs.lemmas.Bool.{cases_Bool, eq-eqb, lt-ltb}
 use Rattle.mb_usig.specs.Tags.{wish_tag}
 use Rattle.mb_msg.specs.declared.message.Message.{Message}
 use Rattle.mb_msg.specs.declared.message.Message.TheVariants as message
 use Rattle.mb_msg.specs.declared.change.ReqViewChange.{ReqViewChange}
 use Rattle.mb_msg.specs.declared.transfer.Log.{Log}
 use Rattle.mb_msg.specs.declared.stamped.Stamped.{Stamped as StampedMessage}
-use Rattle.mb_msg.specs.declared.event.Event.{Event}
 use Rattle.mb_msg.specs.declared.event.Event.TheVariants as event
 use Rattle.mb_msg.specs.declared.event.Outcome.{Outcome}
 use Rattle.mb_msg.specs.declared.event.Outcome.TheVariants as outcome
@@ -26,7 +23,7 @@ use Rattle.mb_model.specs.Making.{wish, wish_for, fetch}
 use Rattle.mb_model.specs.PlainChecks.{log_refusal}
 use Rattle.mb_model.specs.CarriedOut.{run_rules, enough}
 use Rattle.mb_model.specs.Given.{Answer, give_log, give}
-use Rattle.mb_model.specs.HostStep.{is_taken, rules_follow, asks_on, low_rose, with_fetch, finished_where, on_bytes, on_patience, on_nudge, transition}
+use Rattle.mb_model.specs.HostStep.{is_taken, rules_follow, low_rose, with_fetch, finished_where, on_bytes, on_patience, on_nudge, transition}
 use Rattle.mb_model.proofs.Options.{option_cases}
 use Rattle.mb_theory.specs.World.{System, self_of}
 use Rattle.mb_theory.specs.WorldSteps.{world}
