@@ -194,9 +194,12 @@ jump_taken : (h : ℕ) (f : Floor) (d : History) → taken_of (Jumped h f ∷ d)
 unfolding taken_of
 jump_taken h f d = rw (eq-eqb h h refl) refl
 
+pub jumped_gate : (h : ℕ) (floor : Floor) (d : History) → gate (Jumped h floor ∷ d) h ≡ floor
+jumped_gate h floor d = rw (jump_origin h floor d, jump_taken h floor d) (at_floor floor)
+
 keeps_jumps : (d : History) → KeepsJumps d
 keeps_jumps d later before h floor is none =
-    let here : gate (Jumped h floor ∷ before) h ≡ floor = rw (jump_origin h floor before, jump_taken h floor before) (at_floor floor) in
+    let here = jumped_gate h floor before in
     ap (λ (x : History). gate x h) is ∙ (gate_stays later (Jumped h floor ∷ before) h none ∙ here)
 
 starts_from : (d : History) (h : ℕ) → NoneIs (moves_gate h) d → (origin d h ≡ initial_floor) × (taken_of d h ≡ [])

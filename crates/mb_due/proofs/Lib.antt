@@ -11,6 +11,7 @@
 -- each fresh reply (`Sends`), and answers who asks (`ShowsLog`, `Answers`). What an event brings is written first (`Written`), and what a step adds came
 -- with its event (`Added`); what is refused adds nothing else (`LeftAlone`). A JOIN has cause (`JoinsWithCause`), and lost patience and a stable position that
 -- rose are followed by a letter (`TellsAndAsks`).
+-- What it says by that it holds (`Says`), as what it stamps in a change of the view (`OwnChanges`) and the floors of its CHECKPOINTs (`TellsFloors`).
 pub mod Taken
 pub mod TakesValid
 pub mod AcceptedFits
@@ -50,3 +51,6 @@ pub mod Added
 pub mod JoinsWithCause
 pub mod LeftAlone
 pub mod TellsAndAsks
+pub mod Says
+pub mod OwnChanges
+pub mod TellsFloors

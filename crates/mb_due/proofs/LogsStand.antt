@@ -16,7 +16,7 @@ use Rattle.mb_model.specs.PlainChecks.{is_certified_floor, is_certified_evidence
 use Rattle.mb_model.specs.CarriedOut.{placed_in, with_reply, serve, serve_all}
 use Rattle.mb_model.specs.Given.{give_log, jump, floor_shown}
 use Rattle.mb_model.specs.HostStep.{on_bytes, transition}
-use Rattle.mb_theory.specs.TakesLogs.{IsValidLog, KeepsLogs}
+use Rattle.mb_theory.specs.TakesLogs.{IsValidLog, LogsStand}
 use Rattle.mb_line.proofs.Walks.{IsWalked, entries_keep}
 use Rattle.mb_line.proofs.WalkEvents.{finished_keeps}
 
@@ -74,7 +74,7 @@ module _ {S : Type 0} (self : Identity S) where
       let x : Progress = write (Accepted (message.Log m)) (jump self m.host (floor_shown self m.host m.floor) (begin d)) in
       rw (log_passed m v) (entries_keep self (HasEntry (Accepted (message.Log m))) (entry_walked (Accepted (message.Log m))) m.entries x (0, omega arith, refl))
 
-  pub keeps_logs : (d : History) → KeepsLogs self d
+  pub keeps_logs : (d : History) → LogsStand self d
   unfolding transition
   keeps_logs d bytes m reads v =
       let e : Entry = Accepted (message.Log m) in

@@ -92,11 +92,14 @@ module _ {S : Type 0} (self : Identity S) where
       let a = arises_since later before e d arises is in
       let x : Vote = record { counter = m.ui.counter; request = body_digest batch_bytes m.body } in
       let k : KnownSlot = slot_of self d m in
-      let view : view_of self before ≡ m.view = sym (seen_prepare self before m a.0).view in
+      let s = seen_prepare self before m a.0 in
+      let view : view_of self before ≡ m.view = sym s.view in
       let inside : IsInWindow self before m.pos = subst (λ (n : ℕ). IsInWindow self before n) (own_prepare before a.0.0 a.0.1 m a.0.3) (prepare_inside before a.0.0 a.0.1 a.0.2) in
       let counts = counts_where self e before m.view m.pos (view_same self e before a refl) (prepare_low m before) view inside in
       let by : slot_by e m.view m.pos ≡ Some k = rw (eq-eqb m.view m.view refl, eq-eqb m.pos m.pos refl) refl in
       record {
+        batch = s.batch;
+        body = s.body;
         view = view;
         inside = inside;
         slot = subst (λ (h : History). slot_in self h m.view m.pos ≡ Some k) (sym is)

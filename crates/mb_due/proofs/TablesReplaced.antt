@@ -15,7 +15,7 @@ use Rattle.mb_model.proofs.Members.{in_left, in_right, contained, in_contained}
 use Rattle.mb_model.proofs.Options.{if_some, option_cases}
 use Rattle.mb_theory.specs.KeepsTables.{IsChange}
 use Rattle.mb_theory.specs.FindsTables.{IsNewView, ShowsEvidence, BringsPlan}
-use Rattle.mb_theory.specs.ReplacesTables.{IsInTime, IsBeyond, ReplacesTables}
+use Rattle.mb_theory.specs.ReplacesTables.{IsInTime, IsInTimeAndAbove, ReplacesTables}
 use Rattle.mb_theory.specs.World.{System, self_of}
 use Rattle.mb_theory.specs.WorldSteps.{world}
 use Rattle.mb_known.proofs.Cases.{some_is}
@@ -67,11 +67,11 @@ module _ {S : Type 0} (self : Identity S) where
   -- ---- evidence
 
   abbrev EvidenceNext : Entry → History → Evidence → Type 0
-  EvidenceNext e d x = (evidence_of self (e ∷ d) ≡ Some x) ⊎ ((y : Evidence) × (evidence_of self (e ∷ d) ≡ Some y) × ShowsEvidence e y × IsBeyond self e d x.view y.view)
+  EvidenceNext e d x = (evidence_of self (e ∷ d) ≡ Some x) ⊎ ((y : Evidence) × (evidence_of self (e ∷ d) ≡ Some y) × ShowsEvidence e y × IsInTimeAndAbove self e d x.view y.view)
 
   -- of what is shown, what is news is held
   news_next : (e : Entry) (d : History) (x y : Evidence) → evidence_of self d ≡ Some x → evidence_shown e ≡ Some y → evidence_of self (e ∷ d) ≡ with_news self d (evidence_of self d) (Some y)
-      → (is_news self d (Some x) y ≡ true → IsBeyond self e d x.view y.view) → EvidenceNext e d x
+      → (is_news self d (Some x) y ≡ true → IsInTimeAndAbove self e d x.view y.view) → EvidenceNext e d x
   news_next e d x y held shown is beyond = elim (cases_Bool (is_news self d (Some x) y)) [
     | inl news ↦ inr (y, is ∙ rw (held, news) refl, shown_said self e y shown, beyond news)
     | inr old ↦ inl (is ∙ rw (held, old) refl)
@@ -84,7 +84,7 @@ module _ {S : Type 0} (self : Identity S) where
 
   -- of a message that may show none
   may_show : (e : Entry) (d : History) (x : Evidence) (o : Option Evidence) → evidence_of self d ≡ Some x → evidence_shown e ≡ o → evidence_of self (e ∷ d) ≡ with_news self d (evidence_of self d) o
-      → ((y : Evidence) → is_news self d (Some x) y ≡ true → IsBeyond self e d x.view y.view) → EvidenceNext e d x
+      → ((y : Evidence) → is_news self d (Some x) y ≡ true → IsInTimeAndAbove self e d x.view y.view) → EvidenceNext e d x
   may_show e d x None held shown is beyond = inl (is ∙ held)
   may_show e d x (Some y) held shown is beyond = news_next e d x y held shown is (beyond y)
 

@@ -32,6 +32,9 @@ use Rattle.mb_due.proofs.Added.{hosts_add_given}
 use Rattle.mb_due.proofs.JoinsWithCause.{hosts_join_with_cause}
 use Rattle.mb_due.proofs.LeftAlone.{hosts_leave_alone}
 use Rattle.mb_due.proofs.TellsAndAsks.{hosts_tell_and_ask}
+use Rattle.mb_due.proofs.OwnChanges.{hosts_show_in_changes}
+use Rattle.mb_due.proofs.Says.{says_what_it_holds}
+use Rattle.mb_due.proofs.TellsFloors.{hosts_tell_floors}
 use Rattle.mb_headline.proofs.EventsStep.{events_step}
 use Rattle.mb_headline.proofs.ExecutesAtOnce.{executes_at_once}
 use Rattle.mb_headline.proofs.NobodyBlamed.{no_event_blames}
@@ -80,6 +83,9 @@ nothing_left S system k h =
       joins_with_cause = hosts_join_with_cause system k h;
       alone = hosts_leave_alone system k h;
       tells = hosts_tell_and_ask system k h;
+      shows_in_changes = hosts_show_in_changes system k h;
+      says = says_what_it_holds (self_of system h);
+      tells_floors = hosts_tell_floors system k h;
     }
 
 pub all_stay_one : (S : Type 0) → HostsStayOne S

@@ -7,7 +7,9 @@ ghost use Rattle.mb_theory.specs.AllDue.{HostsLeaveNothing};
 /// After any events no correct host has left anything undone that is due, whoever else is faulty and whatever is forged: it has ordered, committed,
 /// executed and changed views as far as it may; each valid message is taken, each vote that it takes or stamps counts, what else came is found until
 /// something takes its place, nothing else is found, each gate stands behind the last message of its host, and the f+1st matching vote executes in its step.
-/// It leaves its view with cause alone, and cuts its log where f+1 hosts agree on a floor; it sends what it stamps and each fresh reply, and answers who asks.
+/// It leaves its view with cause alone. With a CHECKPOINT that comes at or above the stable position it cuts its log at the floor of the greatest position on
+/// which f+1 hosts agree, where its counter has reached that. It sends what it stamps and each fresh reply, and answers who asks; and what it stamps in a change
+/// of the view, asks and answers says what it holds.
 /// So it is of whole hosts over any service.
 pub fn hosts_leave_nothing<V>()
     ensures { HostsLeaveNothing V }

@@ -21,6 +21,9 @@ use Rattle.mb_theory.specs.AddsGiven.{AddsGiven}
 use Rattle.mb_theory.specs.JoinsWithCause.{JoinsWithCause}
 use Rattle.mb_theory.specs.LeavesAlone.{LeavesAlone}
 use Rattle.mb_theory.specs.TellsAndAsks.{TellsAndAsks}
+use Rattle.mb_theory.specs.Says.{SaysWhatItHolds}
+use Rattle.mb_theory.specs.OwnChanges.{ShowsInChanges}
+use Rattle.mb_theory.specs.TellsFloors.{TellsFloors}
 
 module _ {S : Type 0} (self : Identity S) (d : History) where
   pub record LeavesNothing : Type 0 where
@@ -63,6 +66,9 @@ module _ {S : Type 0} (self : Identity S) (d : History) where
     pub joins_with_cause : JoinsWithCause self d
     pub alone : LeavesAlone self d
     pub tells : TellsAndAsks self d
+    pub shows_in_changes : ShowsInChanges self d
+    pub says : SaysWhatItHolds self
+    pub tells_floors : TellsFloors self d
 
 -- After any events, whoever is faulty and whatever is forged, no host has left anything undone.
 abbrev pub HostsLeaveNothing : Type 0 → Type 0

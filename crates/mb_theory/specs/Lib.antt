@@ -18,6 +18,9 @@ pub mod TakesLogs
 pub mod Sends
 pub mod ShowsLog
 pub mod Answers
+pub mod Says
+pub mod OwnChanges
+pub mod TellsFloors
 pub mod OwnStamps
 pub mod WhatCame
 pub mod FindsTables

@@ -31,8 +31,10 @@ abbrev pub carried_vote : Evidence → Batch → Vote
 carried_vote e b = record { counter = e.counter; request = batch_digest b }
 
 module _ {S : Type 0} (self : Identity S) (d : History) where
-  -- A PREPARE that was stamped is of the host's view, at a position of the window. It is the slot there, and the own vote.
+  -- A PREPARE that was stamped is whole, of the host's view, at a position of the window. It is the slot there, and the own vote.
   pub record PrepareCounts (before : History) (m : Prepare) : Type 0 where
+    pub batch : Batch
+    pub body : m.body ≡ Whole batch
     pub view : view_of self before ≡ m.view
     pub inside : IsInWindow self before m.pos
     pub slot : slot_in self d m.view m.pos ≡ Some (slot_of self d m)

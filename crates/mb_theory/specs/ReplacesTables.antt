@@ -17,10 +17,10 @@ module _ {S : Type 0} (self : Identity S) where
   IsInTime e before view = ⊥
 
   -- The host stamped it, or it was taken and is of a view that is not below the host's, and above this one.
-  abbrev pub IsBeyond : Entry → History → ℕ → ℕ → Type 0
-  IsBeyond (Accepted m) before old view = (view_of self before ≤ view) × (old < view)
-  IsBeyond (Stamped m) before old view = Unit {0}
-  IsBeyond e before old view = ⊥
+  abbrev pub IsInTimeAndAbove : Entry → History → ℕ → ℕ → Type 0
+  IsInTimeAndAbove (Accepted m) before old view = (view_of self before ≤ view) × (old < view)
+  IsInTimeAndAbove (Stamped m) before old view = Unit {0}
+  IsInTimeAndAbove e before old view = ⊥
 
 module _ {S : Type 0} (self : Identity S) (d : History) where
   -- A NEW_VIEW gives place to another alone.
@@ -36,7 +36,7 @@ module _ {S : Type 0} (self : Identity S) (d : History) where
   -- evidence to that of a greater view, or to that of the own OPEN
   abbrev pub ReplacesEvidence : Type 0
   ReplacesEvidence = (later before : History) (e : Entry) (x : Evidence) → d ≡ later ++ e ∷ before → evidence_of self before ≡ Some x
-      → (evidence_of self (e ∷ before) ≡ Some x) ⊎ ((y : Evidence) × (evidence_of self (e ∷ before) ≡ Some y) × ShowsEvidence e y × IsBeyond self e before x.view y.view)
+      → (evidence_of self (e ∷ before) ≡ Some x) ⊎ ((y : Evidence) × (evidence_of self (e ∷ before) ≡ Some y) × ShowsEvidence e y × IsInTimeAndAbove self e before x.view y.view)
 
   -- a stored VIEW_CHANGE to one of its host that is stored
   abbrev pub ReplacesChanges : Type 0

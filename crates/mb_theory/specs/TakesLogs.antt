@@ -49,8 +49,8 @@ module _ {S : Type 0} (self : Identity S) where
 
 module _ {S : Type 0} (self : Identity S) (d : History) where
   -- A valid LOG stands in the history from then on.
-  abbrev pub KeepsLogs : Type 0
-  KeepsLogs = (bytes : Bytes) (m : Log) → message_of self.shape bytes ≡ Ok (message.Log m) → IsValidLog self m
+  abbrev pub LogsStand : Type 0
+  LogsStand = (bytes : Bytes) (m : Log) → message_of self.shape bytes ≡ Ok (message.Log m) → IsValidLog self m
       → Contains (transition self d (event.Given bytes)).left.history (Accepted (message.Log m))
 
   -- The gate of its sender, where it is not closed, stands at the floor that the LOG shows, or further on.
@@ -64,6 +64,6 @@ module _ {S : Type 0} (self : Identity S) (d : History) where
       → AreTaken self (transition self d (event.Given bytes)).left.history (with_floor_of self m d) m.entries
 
   pub record TakesLogs : Type 0 where
-    pub keeps : KeepsLogs
+    pub keeps : LogsStand
     pub jumps : JumpsToFloors
     pub entries : TakesEntries

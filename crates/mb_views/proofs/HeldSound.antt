@@ -72,15 +72,19 @@ body_bases s (Whole b) f = change_bases s b f
 body_bases s (Short d) f = f
 
 module _ {S : Type 0} (self : Identity S) where
-  -- What holds of all stored VIEW_CHANGEs holds of those that are chosen.
-  pub chosen_all : (P : ViewChange → Type 0) (d : History) → AllByRecursion P (changes_of self d) → (view : ℕ) (changes : List ViewChange) → chosen self d view ≡ Some changes → AllByRecursion P changes
-  chosen_all P d a view changes e =
+  -- What holds of all stored VIEW_CHANGEs to a view holds of those that are chosen for it.
+  pub chosen_to : (P : ViewChange → Type 0) (d : History) (view : ℕ) (changes : List ViewChange) → AllByRecursion P (filter (λ c. c.view == view) (changes_of self d)) → chosen self d view ≡ Some changes → AllByRecursion P changes
+  chosen_to P d view changes a e =
       let l : List ViewChange = filter (λ c. c.view == view) (changes_of self d) in
       let t = if_some (nat_le (quorum self.shape) (length l)) (Some (by_rising_host self (take (quorum self.shape) l))) changes e in
-      let first : AllByRecursion P (take (quorum self.shape) l) = all_taken P (quorum self.shape) l (all_filter P (λ c. c.view == view) (changes_of self d) a) in
+      let first : AllByRecursion P (take (quorum self.shape) l) = all_taken P (quorum self.shape) l a in
       subst (λ (y : List ViewChange). AllByRecursion P y) (some_is _ changes t.1)
       (all_found (λ (h : ℕ). Unit {0}) P (λ h. find (λ c. c.ui.host == h) (take (quorum self.shape) l)) (λ h m u g. found P (λ c. c.ui.host == h) (take (quorum self.shape) l) first m g)
       (range_with_len 0 (host_count self.shape)) (all_any (range_with_len 0 (host_count self.shape))))
+
+  -- So does what holds of all stored ones.
+  pub chosen_all : (P : ViewChange → Type 0) (d : History) → AllByRecursion P (changes_of self d) → (view : ℕ) (changes : List ViewChange) → chosen self d view ≡ Some changes → AllByRecursion P changes
+  chosen_all P d a view changes e = chosen_to P d view changes (all_filter P (λ c. c.view == view) (changes_of self d) a) e
 
   members_usable : (view i : ℕ) (l : List ViewChange) → members_fault self view i l ≡ None → AllByRecursion (IsUsable self) l
   unfolding members_fault

@@ -19,7 +19,7 @@ use Rattle.mb_msg.specs.Stamps.{bare_of}
 use Rattle.mb_model.specs.Verified.{verifies}
 use Rattle.mb_model.specs.UsableLogs.{log_fault, is_whole}
 use Rattle.mb_model.specs.Histories.{Entry, Accepted, Stamped, History, Identity, view_of, stamped as all_stamped}
-use Rattle.mb_model.specs.Held.{change_fault, is_current, change_in, arrived, changes_of, by_rising_host, plan_from}
+use Rattle.mb_model.specs.Held.{change_fault, is_current, change_in, arrived, changes_of, by_rising_host, chosen, plan_from}
 use Rattle.mb_model.specs.Sending.{next_ui}
 use Rattle.mb_model.specs.Making.{new_view}
 use Rattle.mb_model.proofs.Members.{In}
@@ -152,6 +152,29 @@ rise_hosts n [] r = refl
 rise_hosts n (a ∷ []) r = refl
 rise_hosts n (a ∷ b ∷ l) r = let up : a.ui.host + 1 ≤ b.ui.host = r.2.0 in rw (lt-ltb a.ui.host b.ui.host (omega (arith, up))) (rise_hosts (a.ui.host + 1) (b ∷ l) r.2)
 
+module _ {S : Type 0} (self : Identity S) where
+  arrived_distinct : (x : Option ViewChange) (l : List ViewChange) → AreDistinct l → AreDistinct (arrived self x l)
+  arrived_distinct None l a = a
+  arrived_distinct (Some m) l a = pushed_distinct (filter (λ c. not (c.ui.host == m.ui.host)) l) m (filtered_distinct (λ c. not (c.ui.host == m.ui.host)) l a) (others m l)
+
+  held_distinct : (d : History) → AreDistinct (changes_of self d)
+  unfolding changes_of
+  held_distinct [] = tt
+  held_distinct (e ∷ d) = arrived_distinct (change_in self d e) (changes_of self d) (held_distinct d)
+
+  -- Those that are chosen are f+1, where each that is held is of a host of the system.
+  pub chosen_many : (d : History) (view : ℕ) (changes : List ViewChange) → AllByRecursion (λ (m : ViewChange). m.ui.host < host_count self.shape) (changes_of self d)
+      → chosen self d view ≡ Some changes → length changes ≡ quorum self.shape
+  chosen_many d view changes below e =
+      let l : List ViewChange = filter (λ c. c.view == view) (changes_of self d) in
+      let t = if_some (nat_le (quorum self.shape) (length l)) (Some (by_rising_host self (take (quorum self.shape) l))) changes e in
+      let first : List ViewChange = take (quorum self.shape) l in
+      let is : by_rising_host self first ≡ changes = cc t.1 in
+      let distinct : AreDistinct first = taken_distinct (quorum self.shape) l (filtered_distinct (λ c. c.view == view) (changes_of self d) (held_distinct d)) in
+      let low : AllByRecursion (λ (m : ViewChange). m.ui.host < host_count self.shape) first =
+      all_taken (λ (m : ViewChange). m.ui.host < host_count self.shape) (quorum self.shape) l (all_filter (λ (m : ViewChange). m.ui.host < host_count self.shape) (λ c. c.view == view) (changes_of self d) below) in
+      ap length (sym is) ∙ count_found first 0 (host_count self.shape) ∙ rising_count first (host_count self.shape) distinct low ∙ length-take-le (quorum self.shape) l (leb-true (quorum self.shape) (length l) t.0)
+
 module _ {S : Type 0} (system : System S) (w : World) (f : Facts system w) (jumps : (h : ℕ) → IsCorrect system.schedule h → Each (JumpsLed system w f) (w.histories h)) (h : ℕ) (correct : IsCorrect system.schedule h) where
   abbrev self : Identity S
   self = self_of system h
@@ -196,15 +219,6 @@ module _ {S : Type 0} (system : System S) (w : World) (f : Facts system w) (jump
   held_good [] p = tt
   held_good (e ∷ d) p = arrived_good (change_in self d e) (changes_of self d) (λ m is. entry_good e d p m is) (held_good d (past_tail e d (w.histories h) p))
 
-  arrived_distinct : (x : Option ViewChange) (l : List ViewChange) → AreDistinct l → AreDistinct (arrived self x l)
-  arrived_distinct None l a = a
-  arrived_distinct (Some m) l a = pushed_distinct (filter (λ c. not (c.ui.host == m.ui.host)) l) m (filtered_distinct (λ c. not (c.ui.host == m.ui.host)) l a) (others m l)
-
-  held_distinct : (d : History) → AreDistinct (changes_of self d)
-  unfolding changes_of
-  held_distinct [] = tt
-  held_distinct (e ∷ d) = arrived_distinct (change_in self d e) (changes_of self d) (held_distinct d)
-
   abbrev to_view : ℕ → ViewChange → Type 0
   to_view view m = IsGoodMember system w view m
 
@@ -215,9 +229,9 @@ module _ {S : Type 0} (system : System S) (w : World) (f : Facts system w) (jump
     | inr other ↦ rw other (filtered_to view l a.1)
   ]
 
-  hosts_below : (view : ℕ) (l : List ViewChange) → AllByRecursion (to_view view) l → AllByRecursion (λ (m : ViewChange). m.ui.host < host_count system.schedule.shape) l
-  hosts_below view [] a = tt
-  hosts_below view (m ∷ l) a = (a.0.good.host, hosts_below view l a.1)
+  hosts_below : (l : List ViewChange) → AllByRecursion IsGood l → AllByRecursion (λ (m : ViewChange). m.ui.host < host_count system.schedule.shape) l
+  hosts_below [] a = tt
+  hosts_below (m ∷ l) a = (a.0.good.host, hosts_below l a.1)
 
   pub announced_plan : (n : NewView) (d : History) → IsPast (Stamped (stamped.NewView n) ∷ d) (w.histories h) → (changes : List ViewChange) × IsGoodPlan system w n.view n.base n.end n.plan changes × (n.body ≡ Whole (record { changes = changes }))
   announced_plan n d past =
@@ -236,10 +250,8 @@ module _ {S : Type 0} (system : System S) (w : World) (f : Facts system w) (jump
       let good : AllByRecursion (to_view view) first = all_taken (to_view view) (quorum system.schedule.shape) l (filtered_to view (changes_of self d) (held_good d before)) in
       let found : AllByRecursion (to_view view) (by_rising_host self first) = all_found (λ (i : ℕ). Unit {0}) (to_view view) (λ i. find (λ c. c.ui.host == i) first) (λ i m u e. (find_good (to_view view) (λ c. c.ui.host == i) first good m e).0)
       (range_with_len 0 (host_count system.schedule.shape)) (all_any (range_with_len 0 (host_count system.schedule.shape))) in
-      let distinct : AreDistinct first = taken_distinct (quorum system.schedule.shape) l (filtered_distinct (λ c. c.view == view) (changes_of self d) (held_distinct d)) in
-      let count : length (by_rising_host self first) ≡ quorum system.schedule.shape =
-      count_found first 0 (host_count system.schedule.shape) ∙ rising_count first (host_count system.schedule.shape) distinct (hosts_below view first good)
-      ∙ length-take-le (quorum system.schedule.shape) l (leb-true (quorum system.schedule.shape) (length l) t.0) in
+      let below : AllByRecursion (λ (m : ViewChange). m.ui.host < host_count system.schedule.shape) (changes_of self d) = hosts_below (changes_of self d) (held_good d before) in
+      let count : length changes ≡ quorum system.schedule.shape = chosen_many self d view changes below seen.1 in
       let rises : are_rising (map (λ (m : ViewChange). m.ui.host) (by_rising_host self first)) ≡ true = rise_hosts 0 (by_rising_host self first)
       (rise_found (λ (m : ViewChange). m.ui.host) (λ m. Unit {0}) (λ i. find (λ c. c.ui.host == i) first) (λ i m e. (eqb-true m.ui.host i (find_good (to_view view) (λ c. c.ui.host == i) first good m e).1, tt)) 0 (host_count system.schedule.shape)) in
       let r : Rests self (IsGivenTo system.schedule w h) (IsHashed system.schedule w) (HasStrings system.schedule w) (Stamped (stamped.NewView made)) d =
@@ -249,7 +261,7 @@ module _ {S : Type 0} (system : System S) (w : World) (f : Facts system w) (jump
         changes,
         record {
           members = subst (AllByRecursion (to_view view)) is found;
-          many = ap length (sym is) ∙ count;
+          many = count;
           rising = subst (λ (l : List ViewChange). are_rising (map (λ (m : ViewChange). m.ui.host) l) ≡ true) is rises;
           described = rw (eq-eqb plan.base.pos plan.base.pos refl, eq-eqb (plan_end plan) (plan_end plan) refl) (true-same_bytes (plan_digest plan) (plan_digest plan) refl);
           hashed = strings.0;
