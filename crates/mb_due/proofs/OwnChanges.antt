@@ -1,10 +1,10 @@
 -- What a host stamps in a change of the view is made of what it holds: a VIEW_CHANGE of its log, a NEW_VIEW of the VIEW_CHANGEs that are chosen, an ENTER of the
 -- NEW_VIEW of its view.
-use Rattle.std.proofs.Common.{◌≡◌, ℕ, ◌+◌, ◌<◌, Bool, true, false, ◌&&◌, not, List, [], ◌∷◌, ◌++◌, length, refl, sym, ap, subst, ◌∙◌, inl, inr, arith, Option, Some, None}
-use Rattle.std.specs.Prelude.{◌==◌, filter, find, take, option_map, nat_le, is_none, if◌then◌else◌, Contains}
-use Rattle.std.specs.List.{AllByRecursion, range_with_len}
-use Rattle.std.proofs.lemmas.Bool.{cases_Bool, and_parts, eqb-true}
-use Rattle.mb_base.specs.Shapes.{host_count, quorum, primary}
+use Rattle.std.proofs.Common.{◌≡◌, ℕ, ◌<◌, ◌&&◌, not, List, [], ◌∷◌, refl, ap, subst, ◌∙◌, inl, inr, arith, Option, Some, None}
+use Rattle.std.specs.Prelude.{◌==◌, filter, option_map, is_none, Contains}
+use Rattle.std.specs.List.{AllByRecursion}
+use Rattle.std.proofs.lemmas.Bool.{eqb-true}
+use Rattle.mb_base.specs.Shapes.{host_count, primary}
 use Rattle.mb_msg.specs.declared.message.Body.TheVariants.{Whole}
 use Rattle.mb_msg.specs.declared.message.Message.TheVariants as message
 use Rattle.mb_msg.specs.declared.change.ViewChange.{ViewChange}
@@ -16,9 +16,9 @@ use Rattle.mb_msg.specs.Plans.{plan_end, plan_digest}
 use Rattle.mb_msg.specs.Stamps.{bare_of}
 use Rattle.mb_model.specs.UsableLogs.{is_whole}
 use Rattle.mb_model.specs.Histories.{Entry, Accepted, Stamped, History, Identity, view_of, is_primary, is_changing}
-use Rattle.mb_model.specs.Held.{change_fault, is_current, change_in, arrived, changes_of, by_rising_host, chosen, new_view_of, new_view_in_view, plan_from}
+use Rattle.mb_model.specs.Held.{change_fault, is_current, change_in, arrived, changes_of, chosen, new_view_of, new_view_in_view, plan_from}
 use Rattle.mb_model.specs.OwnLog.{has_other_room, proof_of}
-use Rattle.mb_model.specs.Sending.{next_ui, signed}
+use Rattle.mb_model.specs.Sending.{next_ui}
 use Rattle.mb_model.specs.Making.{view_change, new_view, enter}
 use Rattle.mb_model.specs.EnabledRules.{Enter, enter_enabled}
 use Rattle.mb_model.proofs.Options.{if_some, map_some}

@@ -1,6 +1,6 @@
 -- The messages by which a host answers, asks and wishes are made of what it holds, and a host is never asked by itself.
-use Rattle.std.proofs.Common.{◌≡◌, ℕ, zero, suc, ◌+◌, ◌-◌, ◌*◌, ◌<◌, ◌≤◌, ◌^◌, Bool, true, false, List, [], ◌∷◌, length, refl, sym, ap, subst, ◌∙◌, inl, inr, ◌⊎◌, arith, Option, Some, None}
-use Rattle.std.specs.Prelude.{◌==◌, ◌%◌, map, min, find, unwrap_or, slice_get, if◌then◌else◌, option_map}
+use Rattle.std.proofs.Common.{◌≡◌, ℕ, zero, suc, ◌+◌, ◌*◌, ◌<◌, ◌≤◌, [], ◌∷◌, refl, sym, ap, ◌∙◌, inl, inr, arith, Option, Some}
+use Rattle.std.specs.Prelude.{◌==◌, ◌%◌, map, unwrap_or, slice_get, option_map}
 use Rattle.std.specs.List.{range_with_len}
 use Rattle.std.proofs.lemmas.Bool.{cases_Bool, cases_lt, eqb-true, eqb-false, lt-ltb}
 use Rattle.std.proofs.lemmas.Nat.{mod_below, mod-mul-add}

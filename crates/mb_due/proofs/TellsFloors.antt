@@ -1,9 +1,9 @@
 -- Behind each of its marks, a CHECKPOINT or a jump, the floors of a gate begin with where it stands, and nothing else changes them; so a CHECKPOINT tells the
 -- last of the two that lies under its position.
-use Rattle.std.proofs.Common.{◌≡◌, ℕ, ◌+◌, ◌≤◌, ◌<◌, Bool, true, false, List, [], ◌∷◌, ◌++◌, refl, sym, ap, subst, ◌∙◌, inl, inr, arith, Option, Some, None}
-use Rattle.std.specs.Prelude.{◌==◌, map, find, take, nat_le, nat_lt, slice_get, option_map, if◌then◌else◌}
+use Rattle.std.proofs.Common.{◌≡◌, ℕ, ◌≤◌, ◌<◌, Bool, true, false, List, [], ◌∷◌, ◌++◌, refl, sym, ap, subst, ◌∙◌, Option, Some, None}
+use Rattle.std.specs.Prelude.{◌==◌, find, take, nat_lt, slice_get, option_map, if◌then◌else◌}
 use Rattle.std.specs.List.{range_with_len}
-use Rattle.std.proofs.lemmas.Bool.{cases_Bool, eqb-true, le-leb, lt-ltb, le-ltb}
+use Rattle.std.proofs.lemmas.Bool.{eqb-true, le-leb, lt-ltb, le-ltb}
 use Rattle.std.proofs.lemmas.List.{append_assoc}
 use Rattle.std.proofs.lemmas.Option.{slice_get-map}
 use Rattle.mb_base.specs.Shapes.{host_count}
@@ -18,14 +18,14 @@ use Rattle.mb_msg.specs.declared.stamped.Stamped.{Stamped as StampedMessage}
 use Rattle.mb_msg.specs.declared.stamped.Stamped.TheVariants as stamped
 use Rattle.mb_msg.specs.Stamps.{bare_of}
 use Rattle.mb_model.specs.States.{state_digest}
-use Rattle.mb_model.specs.Histories.{Entry, Accepted, Stamped, Jumped, Closed, Served, Executed, Installed, DroppedParts, LostPatience, Nudged, History, Identity, floors_with, gate, gate_floors, floor_below}
+use Rattle.mb_model.specs.Histories.{Entry, Accepted, Stamped, Jumped, History, Identity, floors_with, gate, gate_floors, floor_below}
 use Rattle.mb_model.specs.Sending.{next_ui}
 use Rattle.mb_model.specs.Making.{if_covered, floors_under, present_parts, checkpoint}
 use Rattle.mb_steps.proofs.StepArises.{Arises, Makes}
 use Rattle.mb_theory.specs.World.{System, self_of}
 use Rattle.mb_theory.specs.WorldSteps.{world}
 use Rattle.mb_theory.specs.KeepsTables.{NoneIs}
-use Rattle.mb_theory.specs.TellsFloors.{marks_gate, IsNoJump, Tells, TellsLast, TellsLastButOne, TellsFloors}
+use Rattle.mb_theory.specs.TellsFloors.{marks_gate, IsNoJump, TellsLast, TellsLastButOne, TellsFloors}
 use Rattle.mb_theory.proofs.KeptByWorlds.{world_arises}
 use Rattle.mb_known.proofs.Moments.{arises_by}
 use Rattle.mb_due.proofs.KeptGates.{jumped_gate}
