@@ -18,7 +18,7 @@ use Rattle.mb_model.specs.Positions.{slot_in, vote_of}
 use Rattle.mb_model.specs.EnabledRules.{unordered}
 use Rattle.mb_model.specs.HostStep.{transition}
 use Rattle.mb_model.proofs.StepOnLiterals.{host_on_literals}
-use Rattle.mb_theory.specs.NothingLeft.{OrdersRequests, IsUnordered, OrdersAllThatFit, IsFull, CommitsNext, ExecutesAtQuorum, StampsCheckpoints, IsCheckpointed, KeepsSlots, CountsPrepares, CountsCommits, ExecutesWithCommit, ExecutesWithPrepare, ExecutesWithBoth, Executes}
+use Rattle.mb_theory.specs.NothingLeft.{OrdersRequests, IsUnordered, OrdersAllThatFit, IsFull, CommitsNext, ExecutesAtQuorum, StampsCheckpoints, IsCheckpointed, KeepsSlots, CountsPrepares, CountsCommits, CommitCompletes, PrepareCompletes, BothComplete, ExecutesWithCommit, ExecutesWithPrepare, ExecutesWithBoth, Executes}
 use Rattle.mb_agreement.proofs.ViewChangeData.{asked_0, asked_1, asked, prepare_cert}
 use Rattle.mb_witness.proofs.Data.{host, prepare_1, commit_1, slot_1, slot_4, placed}
 
@@ -150,45 +150,70 @@ left_by h d m = (transition (host h) d (event.Given (spelling m))).left.history
 abbrev stamped_1 : History
 stamped_1 = Stamped (stamped.Prepare prepare_1) ∷ two_wait
 
+a_commit_completes : CommitCompletes (host 0) stamped_1 (spelling (message.Commit commit_1)) commit_1 slot_of_1 asked asked
+unfolding host_on_literals
+a_commit_completes =
+    let one : 1 ≤ 1 = omega arith in
+    record {
+      is = refl;
+      sent = record { certified = refl; other = λ e. let is : 1 ≡ 0 = e in absurd (omega (arith, is)); free = refl; next = refl; permitted = refl };
+      next = record { opened = refl; current = refl; next = refl; within = record { above = omega arith; near = omega arith; allowed = omega arith } };
+      body = refl;
+      tagged = (refl, (refl, tt));
+      slot = ((record { above = omega arith; near = omega arith; allowed = omega arith }, refl), refl);
+      counter = refl;
+      digest = refl;
+      lacks = record { first = refl; others = one };
+    }
+
 a_commit_executes : (ExecutesWithCommit (host 0) stamped_1 → Executes (host 0) stamped_1 (spelling (message.Commit commit_1)) 1 asked)
     × (left_by 0 stamped_1 (message.Commit commit_1) ≡ Executed slot_1 ∷ Served 1 (placed asked_1) ∷ Served 1 (placed asked_0) ∷ Accepted (message.Commit commit_1) ∷ stamped_1)
 unfolding host_on_literals transition
-a_commit_executes = (
-  λ executes.
-      let one : 1 ≤ 1 = omega arith in
-      executes (spelling (message.Commit commit_1)) commit_1 slot_of_1 asked asked refl
-      (record { certified = refl; other = λ e. let is : 1 ≡ 0 = e in absurd (omega (arith, is)); free = refl; next = refl; permitted = refl })
-      (record { opened = refl; current = refl; next = refl; within = record { above = omega arith; near = omega arith; allowed = omega arith } })
-      refl (refl, (refl, tt)) ((record { above = omega arith; near = omega arith; allowed = omega arith }, refl), refl) refl refl
-      (record { first = refl; others = one }),
-  refl,
-)
+a_commit_executes = (λ executes. executes (spelling (message.Commit commit_1)) commit_1 slot_of_1 asked asked a_commit_completes, refl)
 
 -- h2 was given the COMMIT of h1 without its PREPARE, and the PREPARE comes.
+a_prepare_completes : PrepareCompletes (host 2) commit_came (spelling (message.Prepare prepare_1)) prepare_1 asked
+unfolding host_on_literals
+a_prepare_completes =
+    let one : 1 ≤ 1 = omega arith in
+    record {
+      is = refl;
+      sent = record { certified = refl; other = λ e. let is : 0 ≡ 2 = e in absurd (omega (arith, is)); free = refl; next = refl; permitted = refl };
+      next = record { opened = refl; current = refl; next = refl; within = record { above = omega arith; near = omega arith; allowed = omega arith } };
+      body = refl;
+      tagged = (refl, (refl, tt));
+      no_slot = refl;
+      lacks = record { first = refl; others = one };
+    }
+
 a_prepare_executes : (ExecutesWithPrepare (host 2) commit_came → Executes (host 2) commit_came (spelling (message.Prepare prepare_1)) 1 asked)
     × Contains (left_by 2 commit_came (message.Prepare prepare_1)) (Executed slot_1)
 unfolding host_on_literals transition
 a_prepare_executes = (
-  λ executes.
-      let one : 1 ≤ 1 = omega arith in
-      executes (spelling (message.Prepare prepare_1)) prepare_1 asked refl
-      (record { certified = refl; other = λ e. let is : 0 ≡ 2 = e in absurd (omega (arith, is)); free = refl; next = refl; permitted = refl })
-      (record { opened = refl; current = refl; next = refl; within = record { above = omega arith; near = omega arith; allowed = omega arith } })
-      refl (refl, (refl, tt)) refl (record { first = refl; others = one }),
+  λ executes. executes (spelling (message.Prepare prepare_1)) prepare_1 asked a_prepare_completes,
   let some : 0 < 6 = omega arith in (0, some, refl),
 )
 
 -- h2 was given nothing, and the COMMIT of h1 brings the PREPARE.
+pub both_complete : BothComplete (host 2) [] (spelling (message.Commit commit_1)) commit_1 asked
+unfolding host_on_literals
+both_complete =
+    let one : 1 ≤ 1 = omega arith in
+    record {
+      is = refl;
+      sent = record { certified = refl; other = λ e. let is : 1 ≡ 2 = e in absurd (omega (arith, is)); free = refl; next = refl; permitted = refl };
+      ordered = record { certified = refl; other = λ e. let is : 0 ≡ 2 = e in absurd (omega (arith, is)); free = refl; next = refl; permitted = refl };
+      next = record { opened = refl; current = refl; next = refl; within = record { above = omega arith; near = omega arith; allowed = omega arith } };
+      body = refl;
+      tagged = (refl, (refl, tt));
+      no_slot = refl;
+      lack = record { first = refl; second = refl; others = one };
+    }
+
 both_execute : (ExecutesWithBoth (host 2) [] → Executes (host 2) [] (spelling (message.Commit commit_1)) 1 asked)
     × Contains (left_by 2 [] (message.Commit commit_1)) (Executed slot_1)
 unfolding host_on_literals transition
 both_execute = (
-  λ executes.
-      let one : 1 ≤ 1 = omega arith in
-      executes (spelling (message.Commit commit_1)) commit_1 asked refl
-      (record { certified = refl; other = λ e. let is : 1 ≡ 2 = e in absurd (omega (arith, is)); free = refl; next = refl; permitted = refl })
-      (record { certified = refl; other = λ e. let is : 0 ≡ 2 = e in absurd (omega (arith, is)); free = refl; next = refl; permitted = refl })
-      (record { opened = refl; current = refl; next = refl; within = record { above = omega arith; near = omega arith; allowed = omega arith } })
-      refl (refl, (refl, tt)) refl (record { first = refl; second = refl; others = one }),
+  λ executes. executes (spelling (message.Commit commit_1)) commit_1 asked both_complete,
   let some : 0 < 6 = omega arith in (0, some, refl),
 )

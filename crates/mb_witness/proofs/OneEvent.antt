@@ -12,13 +12,17 @@ use Rattle.mb_msg.specs.Stamps.{ui_of}
 use Rattle.mb_sched.specs.declared.schedule.Name.TheVariants as name
 use Rattle.mb_sched.specs.declared.schedule.WorldEvent.{WorldEvent}
 use Rattle.mb_sched.specs.declared.schedule.WorldEvent.TheVariants.{Raw}
+use Rattle.mb_agreement.proofs.ViewChangeData.{asked}
 use Rattle.mb_theory.specs.World.{World, System, OfHost, nothing_happened}
 use Rattle.mb_theory.specs.WorldSteps.{happens}
 use Rattle.mb_theory.specs.WorldEvents.{IsCorrect}
+use Rattle.mb_theory.specs.NothingLeft.{HasExecuted}
+use Rattle.mb_theory.specs.ExecutesAtOnce.{ExecutesAtOnce}
 use Rattle.mb_theory.specs.EventsStep.{EventsStep, MakesStep}
 use Rattle.mb_theory.specs.NoEventBlames.{NoEventBlames, IsOfCorrect, is_blame}
 use Rattle.mb_theory.proofs.WorldsOnLiterals.{worlds_on_literals}
 use Rattle.mb_witness.proofs.Data.{keeps_last, first_part, commit_1}
+use Rattle.mb_witness.proofs.NormalCase.{both_complete}
 use Rattle.mb_witness.proofs.States.{schedule}
 
 abbrev system : System Bytes
@@ -71,3 +75,8 @@ a_step_is_made steps = steps.steps commit_comes 2 (event.Given commit_bytes) ref
 a_commit_is_not_blamed : NoEventBlames system behind → is_blame outcome.Took ≡ false
 unfolding worlds_on_literals
 a_commit_is_not_blamed blames = blames nothing_happened commit_comes 2 commit_bytes (message.Commit commit_1) outcome.Took refl refl correct_2 refl commit_is_of_correct answer_is
+
+-- It brings h2 both votes that lack, and so the batch is executed in the world behind it.
+a_vote_executes_at_once : ExecutesAtOnce system nothing_happened → HasExecuted (behind.histories 2) 1 asked
+unfolding worlds_on_literals
+a_vote_executes_at_once executes = executes.by_both commit_comes 2 commit_bytes commit_1 asked (record { arrives = refl; correct = correct_2 }) both_complete

@@ -27,7 +27,7 @@ use Rattle.mb_model.specs.OwnLog.{log_start}
 use Rattle.mb_model.specs.Stable.{log_floor}
 use Rattle.mb_model.proofs.StepOnLiterals.{host_on_literals}
 use Rattle.mb_model.specs.HostStep.{transition}
-use Rattle.mb_theory.specs.NothingLeft.{ExecutesWithOpen, Executes}
+use Rattle.mb_theory.specs.NothingLeft.{OpenCompletes, ExecutesWithOpen, Executes}
 use Rattle.mb_theory.specs.TakesValid.{IsPlanOf}
 use Rattle.mb_theory.specs.OwnStamps as own
 use Rattle.mb_theory.specs.GatesStand.{KeepsGates, TakesInTurn, KeepsJumps, StartsGates}
@@ -103,15 +103,28 @@ its_plan : (x : OpenBody) → open_1.body ≡ Whole x → IsPlanOf (host 2) evid
 unfolding host_on_literals
 its_plan x e = subst (IsPlanOf (host 2) evidence_1) (some_is _ _ (in_whole _ _ e)) (record { stable = refl; base = refl; count = refl; tagged = ((refl, (refl, tt)), tt); plan = refl })
 
+an_open_completes : OpenCompletes (host 2) given_all (spelling (message.Open open_1)) open_1 carried 1 slot_of_plan asked asked
+unfolding host_on_literals
+an_open_completes =
+    let one : 1 ≤ 1 = omega arith in
+    record {
+      is = refl;
+      sent = record { certified = refl; other = λ e. let is : 1 ≡ 2 = e in absurd (omega (arith, is)); free = refl; next = refl; permitted = refl };
+      planned = its_plan;
+      next = record { opened = refl; current = refl; next = refl; within = record { above = omega arith; near = omega arith; allowed = omega arith } };
+      held = refl;
+      plan_is = refl;
+      at = refl;
+      slot = ((record { above = omega arith; near = omega arith; allowed = omega arith }, refl), refl);
+      counter = refl;
+      digest = refl;
+      lacks = record { first = refl; others = one };
+    }
+
 an_open_executes : (ExecutesWithOpen (host 2) given_all → Executes (host 2) given_all (spelling (message.Open open_1)) 1 asked) × Contains (left_by 2 given_all (message.Open open_1)) (Executed slot_1)
 unfolding host_on_literals transition
 an_open_executes = (
-  λ executes.
-      let one : 1 ≤ 1 = omega arith in
-      executes (spelling (message.Open open_1)) open_1 carried 1 slot_of_plan asked asked refl
-      (record { certified = refl; other = λ e. let is : 1 ≡ 2 = e in absurd (omega (arith, is)); free = refl; next = refl; permitted = refl })
-      its_plan (record { opened = refl; current = refl; next = refl; within = record { above = omega arith; near = omega arith; allowed = omega arith } })
-      refl refl refl ((record { above = omega arith; near = omega arith; allowed = omega arith }, refl), refl) refl refl (record { first = refl; others = one }),
+  λ executes. executes (spelling (message.Open open_1)) open_1 carried 1 slot_of_plan asked asked an_open_completes,
   let some : 0 < 10 = omega arith in (0, some, refl),
 )
 
