@@ -13,10 +13,10 @@ ghost use Rattle.mb_msg.specs.AsStamped.{stamped_digest};
 ghost use Rattle.mb_msg.specs.Stamps.{bare_of, bare_of_shown};
 ghost use Rattle.mb_model.specs.Verified.{verifies};
 ghost use Rattle.mb_model.specs.UsableLogs.{is_comparable_body, is_plan_body, is_sound_plan, is_sound_body};
-ghost use Rattle.mb_plan.specs.Looked.{IsEntryFound};
+ghost use Rattle.mb_plan.specs.Looked.{IsVoteFound};
 
 use crate::certificates::{is_evidence, is_stable};
-use crate::looked::Found;
+use crate::looked::FoundVote;
 use crate::tags::are_batches_tagged;
 use mb_base::{Digest, NoMemory, Pos, Shape, Ui};
 use mb_msg::{
@@ -68,7 +68,7 @@ pub fn check_open(
 
 /// Whether the primary stamped the PREPARE that a COMMIT names. `body` is the digest of its batch.
 #[tactic(auto, unfolding(mb_parts::specs::Certificates::inner_valid))]
-fn is_prepared(
+pub(crate) fn is_prepared(
     alloc: Global,
     shape: &Shape,
     usig: &Usig,
@@ -122,42 +122,50 @@ pub fn inner_valid(
     }
 }
 
-/// What the certificate of an entry of a shown log covers. `found` is what was found of its batch.
+/// What the certificate of an entry of a shown log covers. `found` is what was found of it.
 #[tactic(auto, using(mb_msg::proofs::Opened::body_has_digest))]
 pub(crate) fn shown_bare(
     alloc: Global,
     shape: &Shape,
     usig: &Usig,
     entry: &Shown,
-    found: &Found,
+    found: &FoundVote,
 ) -> Result<Vec<u8>, NoMemory>
-    requires { FitsShown shape.now entry.now × IsEntryFound shape.now usig.now.secret entry.now found.now }
+    requires { FitsShown shape.now entry.now × IsVoteFound shape.now usig.now.secret entry.now found.now }
     ensures { IfOk result (λ v. v.items ≡ bare_bytes (bare_of_shown entry.now)) }
 {
     match entry {
-        Shown::Prepare(m) => prepare_bare(alloc, m.view, m.pos, &found.digest),
-        Shown::Commit(m) => { commit_bare(alloc, m.view, m.pos, m.counter, &m.cert, &found.digest) }
+        Shown::Prepare(m) => prepare_bare(alloc, m.view, m.pos, &found.batch.digest),
+        Shown::Commit(m) => {
+            commit_bare(
+                alloc,
+                m.view,
+                m.pos,
+                m.counter,
+                &m.cert,
+                &found.batch.digest,
+            )
+        }
         _ => entry.bare(alloc, shape),
     }
 }
 
-/// Whether the certificates in an entry of a shown log verify. `found` is what was found of its batch.
+/// Whether the certificates in an entry of a shown log verify. `found` is what was found of it.
 #[tactic(auto, unfolding(mb_parts::specs::Certificates::inner_valid))]
 pub(crate) fn shown_inner_valid(
-    alloc: Global,
     shape: &Shape,
     usig: &Usig,
     entry: &Shown,
-    found: &Found,
-) -> Result<bool, NoMemory>
-    requires { FitsShown shape.now entry.now × IsEntryFound shape.now usig.now.secret entry.now found.now }
-    ensures { IfOk result (λ right. right ≡ inner_valid shape.now (verifies usig.now.secret) (bare_of_shown entry.now)) }
+    found: &FoundVote,
+) -> bool
+    requires { FitsShown shape.now entry.now × IsVoteFound shape.now usig.now.secret entry.now found.now }
+    ensures { result ≡ inner_valid shape.now (verifies usig.now.secret) (bare_of_shown entry.now) }
 {
     match entry {
-        Shown::Commit(m) => is_prepared(alloc, shape, usig, m, &found.digest),
-        Shown::Open(m) => Ok(is_evidence(shape, usig, &m.evidence)),
-        Shown::Join(m) => Ok(is_joined(shape, usig, m)),
-        _ => Ok(true),
+        Shown::Commit(_) => found.prepared,
+        Shown::Open(m) => is_evidence(shape, usig, &m.evidence),
+        Shown::Join(m) => is_joined(shape, usig, m),
+        _ => true,
     }
 }
 
@@ -178,19 +186,19 @@ fn is_sound_plan(
     }
 }
 
-/// Whether what an entry shows beside its digest is right. `found` is what was found of its batch.
+/// Whether what an entry shows beside its digest is right. `found` is what was found of it.
 pub(crate) fn is_sound_body(
     alloc: Global,
     shape: &Shape,
     usig: &Usig,
     entry: &Shown,
-    found: &Found,
+    found: &FoundVote,
 ) -> Result<bool, NoMemory>
-    requires { (usig.now.shape ≡ shape.now) × FitsShown shape.now entry.now × IsEntryFound shape.now usig.now.secret entry.now found.now }
+    requires { (usig.now.shape ≡ shape.now) × FitsShown shape.now entry.now × IsVoteFound shape.now usig.now.secret entry.now found.now }
     ensures { IfOk result (λ right. right ≡ is_sound_body shape.now usig.now.secret (verifies usig.now.secret) entry.now) }
 {
     match entry {
-        Shown::Prepare(_) | Shown::Commit(_) => Ok(found.tagged),
+        Shown::Prepare(_) | Shown::Commit(_) => Ok(found.batch.tagged),
         Shown::Open(m) => is_sound_plan(alloc, shape, usig, &m.evidence, &m.body),
         _ => Ok(true),
     }

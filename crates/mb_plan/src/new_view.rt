@@ -3,15 +3,16 @@
 ghost use Rattle.std.specs.Prelude.{◌≡◌, ◌<◌, length, IfOk};
 ghost use Rattle.std.specs.List.{AllByRecursion};
 ghost use Rattle.mb_msg.specs.Fits.{FitsViewChange, FitsMember, FitsNewViewBody, FitsNewView};
-ghost use Rattle.mb_msg.specs.Plans.{CanHash};
+ghost use Rattle.mb_msg.specs.Plans.{CanHash, plan_digest};
 ghost use Rattle.mb_model.specs.KindChecks.{is_member, member_fault, members_fault, announces};
 ghost use Rattle.mb_plan.specs.Looked.{AreFound};
 ghost use Rattle.mb_plan.specs.NewViews.{checker, AnswersMembers, Announced, OfMembers, FollowsFrom, Follows};
 
-use crate::looked::{Looked, PLACES};
+use crate::looked::{PLACES, Place};
+use crate::plan_digests::digest_of_found;
 use crate::planning::{PlanFault, plan_of};
 use crate::shown::{BadProof, usable_beside};
-use mb_base::{NoMemory, Shape, View};
+use mb_base::{Digest, NoMemory, Shape, View};
 use mb_msg::{Body, NewView, NewViewBody, Plan, ViewChange};
 use mb_usig::Usig;
 use std::alloc::Global;
@@ -57,45 +58,47 @@ fn is_member(
     Ok(member.view == view && usig.verify_ui(bare.as_slice(), &member.ui))
 }
 
-/// The reason that fails for a member: 10 where it is none. `looked` is what was found of the batches of other members.
+/// The reason that fails for a member: 10 where it is none. `places` is what was found of the votes of other members.
 fn member_fault<'a>(
     alloc: Global,
     shape: &Shape,
     usig: &Usig,
-    looked: &mut [Option<Looked<'a>>],
+    places: &mut [Place<'a>],
     view: View,
     member: &'a ViewChange,
 ) -> Result<Option<u8>, NoMemory>
     requires fits { (usig.now.shape ≡ shape.now) × FitsViewChange shape.now member.now }
-    requires looked { AreFound usig.now.secret looked.old }
-    ensures looked { AreFound usig.now.secret looked.new }
+    requires places { AreFound shape.now usig.now.secret places.old }
+    ensures places { AreFound shape.now usig.now.secret places.new }
     ensures fault { IfOk result (λ reason. reason ≡ member_fault (checker shape.now usig.now.secret) view member.now) }
 {
     if !is_member(alloc, shape, usig, view, member)? {
         return Ok(Some(NO_MEMBER));
     }
-    match usable_beside(alloc, shape, usig, looked, member) {
+    match usable_beside(alloc, shape, usig, places, member) {
         Ok(()) => Ok(None),
         Err(BadProof::At { reason, .. }) => Ok(Some(reason)),
         Err(BadProof::NoMemory) => Err(NoMemory),
     }
 }
 
-/// Looks at all members, up to the first that fails.
-fn check_members(
+/// Looks at all members, up to the first that fails. `places` is what was found of their votes.
+fn check_members<'a>(
     alloc: Global,
     shape: &Shape,
     usig: &Usig,
+    places: &mut [Place<'a>],
     view: View,
-    members: &[ViewChange],
+    members: &'a [ViewChange],
 ) -> Result<(), NewViewFault>
-    requires { (usig.now.shape ≡ shape.now) × AllByRecursion (FitsMember shape.now) members.now × (length members.now < 255) }
-    ensures { AnswersMembers (members_fault (checker shape.now usig.now.secret) view 0 members.now) result }
+    requires fits { (usig.now.shape ≡ shape.now) × AllByRecursion (FitsMember shape.now) members.now × (length members.now < 255) }
+    requires places { AreFound shape.now usig.now.secret places.old }
+    ensures places { AreFound shape.now usig.now.secret places.new }
+    ensures fault { AnswersMembers (members_fault (checker shape.now usig.now.secret) view 0 members.now) result }
 {
-    let mut looked = [None; PLACES];
     for index in 0..members.len() {
         let member = &members[index];
-        if let Some(reason) = member_fault(alloc, shape, usig, &mut looked, view, member)? {
+        if let Some(reason) = member_fault(alloc, shape, usig, places, view, member)? {
             let index = index as u8;
             return Err(NewViewFault::Unusable { index, reason });
         }
@@ -103,14 +106,14 @@ fn check_members(
     Ok(())
 }
 
-/// The plan, where it is the one that the NEW_VIEW announces.
-fn announced(new_view: &NewView, plan: Plan) -> Result<Plan, NewViewFault>
-    requires { CanHash plan }
+/// The plan, where it is the one that the NEW_VIEW announces. `digest` is the plan's.
+fn announced(new_view: &NewView, plan: Plan, digest: &Digest) -> Result<Plan, NewViewFault>
+    requires { CanHash plan × (digest.now ≡ plan_digest plan) }
     ensures { Announced new_view.now plan result }
 {
     let is_announced = new_view.base == plan.base.pos
         && new_view.end == plan.end()
-        && new_view.plan == plan.digest();
+        && new_view.plan == *digest;
     if is_announced {
         Ok(plan)
     } else {
@@ -146,9 +149,14 @@ fn check_body(
     ensures { FollowsFrom shape.now usig.now.secret new_view.now body.now result }
 {
     let members = body.changes.as_slice();
-    check_members(alloc, shape, usig, new_view.view, members)?;
+    let mut places = [Place {
+        looked: None,
+        stamped: None,
+    }; PLACES];
+    check_members(alloc, shape, usig, &mut places, new_view.view, members)?;
     let plan = plan_of_members(alloc, shape, members)?;
-    announced(new_view, plan)
+    let digest = digest_of_found(&places, &plan);
+    announced(new_view, plan, &digest)
 }
 
 /// The plan of a NEW_VIEW's members, where each is usable and it is the one that the NEW_VIEW announces; else the first member that fails and the

@@ -16,13 +16,13 @@ ghost use Rattle.mb_gate.specs.SenderLogs.{SenderLog, log_from, standing, may_st
 ghost use Rattle.mb_model.specs.Verified.{verifies};
 ghost use Rattle.mb_model.specs.UsableLogs.{floor_of, floor_position, is_ill_founded, is_too_long, is_normal_kind, entries_fault, newest_first, log_fault, fault_from, entry_claim, bares};
 ghost use Rattle.mb_plan.specs.Faults.{Answers};
-ghost use Rattle.mb_plan.specs.Looked.{IsEntryFound, AreFound};
+ghost use Rattle.mb_plan.specs.Looked.{IsVoteFound, AreFound};
 ghost use Rattle.mb_plan.specs.Behind.{log_of, taking, is_next, gate_reason, body_reason, behind_founding};
 
 use crate::bodies::{is_sound_body, shown_bare, shown_inner_valid};
 use crate::certificates::{certified_floor, is_stable};
 use crate::entries::{has_body, height, is_normal, opened_from, shows_body};
-use crate::looked::{Found, Looked, find_vote};
+use crate::looked::{FoundVote, Place, find_vote};
 use mb_base::{Host, NoMemory, Pos, Shape, Ui, View};
 use mb_gate::{Gate, Offer};
 use mb_msg::{Body, ChangeBody, Shown, ViewChange};
@@ -150,7 +150,7 @@ fn takes(gate: &mut Gate, entry: &Shown, inner: bool) -> bool
 }
 
 /// The first reason that fails for an entry by its counter, its identifier, and the gate. The gate takes an entry that may stand there. `found` is
-/// what was found of its batch.
+/// what was found of it.
 fn gate_reason(
     alloc: Global,
     shape: &Shape,
@@ -158,9 +158,9 @@ fn gate_reason(
     host: Host,
     gate: &mut Gate,
     entry: &Shown,
-    found: &Found,
+    found: &FoundVote,
 ) -> Result<Option<u8>, NoMemory>
-    requires { FitsShown shape.now entry.now × IsEntryFound shape.now usig.now.secret entry.now found.now }
+    requires { FitsShown shape.now entry.now × IsVoteFound shape.now usig.now.secret entry.now found.now }
     ensures reason { (log : SenderLog) → Represents gate.old log → log.shape ≡ shape.now → log.sender ≡ host → log.closed ≡ None
         → IfOk result (λ reason. reason ≡ gate_reason (verifies usig.now.secret) log entry.now) }
     ensures stands { (log : SenderLog) → Represents gate.old log → log.shape ≡ shape.now → log.sender ≡ host → log.closed ≡ None
@@ -174,7 +174,7 @@ fn gate_reason(
     if !is_claimed(usig, host, &ui, bare.as_slice()) {
         return Ok(Some(4));
     }
-    let inner = shown_inner_valid(alloc, shape, usig, entry, found)?;
+    let inner = shown_inner_valid(shape, usig, entry, found);
     if !takes(gate, entry, inner) {
         return Ok(Some(5));
     }
@@ -189,9 +189,9 @@ fn body_reason(
     stable: Pos,
     last: bool,
     entry: &Shown,
-    found: &Found,
+    found: &FoundVote,
 ) -> Result<Option<u8>, NoMemory>
-    requires { (usig.now.shape ≡ shape.now) × IsPlace stable × FitsShown shape.now entry.now × IsEntryFound shape.now usig.now.secret entry.now found.now }
+    requires { (usig.now.shape ≡ shape.now) × IsPlace stable × FitsShown shape.now entry.now × IsVoteFound shape.now usig.now.secret entry.now found.now }
     ensures { IfOk result (λ reason. reason ≡ body_reason shape.now usig.now.secret (verifies usig.now.secret) stable last entry.now) }
 {
     if shows_body(entry) != (has_body(entry) && last) {
@@ -206,29 +206,29 @@ fn body_reason(
     Ok(None)
 }
 
-/// Takes all entries, up to the first that fails. `looked` is what was found of the batches of other logs.
+/// Takes all entries, up to the first that fails. `places` is what was found of the votes of other logs.
 fn take_entries<'a>(
     alloc: Global,
     shape: &Shape,
     usig: &Usig,
-    looked: &mut [Option<Looked<'a>>],
+    places: &mut [Place<'a>],
     host: Host,
     stable: Pos,
     gate: &mut Gate,
     entries: &'a [Shown],
 ) -> Result<(), BadProof>
     requires fits { (usig.now.shape ≡ shape.now) × IsPlace stable × AllByRecursion (FitsShown shape.now) entries.now × (length entries.now < 65536) }
-    requires looked { AreFound usig.now.secret looked.old }
+    requires places { AreFound shape.now usig.now.secret places.old }
     ensures fault { (o : TheFloor) → Represents gate.old (log_from shape.now host o)
         → Answers (entries_fault shape.now usig.now.secret (verifies usig.now.secret) host stable o [] entries.now) result }
     ensures stands { (o : TheFloor) → Represents gate.old (log_from shape.now host o)
         → OnOk result (Represents gate.new (log_of shape.now host o (newest_first [] entries.now))) }
-    ensures looked { AreFound usig.now.secret looked.new }
+    ensures places { AreFound shape.now usig.now.secret places.new }
 {
     let opened = opened_from(entries);
     for index in 0..entries.len() {
         let entry = &entries[index];
-        let found = find_vote(alloc, usig, looked, entry)?;
+        let found = find_vote(alloc, shape, usig, places, entry)?;
         if let Some(reason) = gate_reason(alloc, shape, usig, host, gate, entry, &found)? {
             return Err(at(index, reason));
         }
@@ -260,14 +260,14 @@ fn check_entries<'a>(
     alloc: Global,
     shape: &Shape,
     usig: &Usig,
-    looked: &mut [Option<Looked<'a>>],
+    places: &mut [Place<'a>],
     change: &ViewChange,
     body: &'a ChangeBody,
     floor: Floor,
 ) -> Result<(), BadProof>
     requires fits { (usig.now.shape ≡ shape.now) × FitsViewChange shape.now change.now × FitsChangeBody shape.now body.now }
-    requires looked { AreFound usig.now.secret looked.old }
-    ensures looked { AreFound usig.now.secret looked.new }
+    requires places { AreFound shape.now usig.now.secret places.old }
+    ensures places { AreFound shape.now usig.now.secret places.new }
     ensures fault { Answers (behind_founding shape.now usig.now.secret (verifies usig.now.secret) change.now.ui.host change.now.view change.now.ui.counter body.now floor) result }
 {
     let host = change.ui.host;
@@ -277,7 +277,7 @@ fn check_entries<'a>(
         alloc,
         shape,
         usig,
-        looked,
+        places,
         host,
         body.stable.pos,
         &mut gate,
@@ -292,13 +292,13 @@ fn check_log<'a>(
     alloc: Global,
     shape: &Shape,
     usig: &Usig,
-    looked: &mut [Option<Looked<'a>>],
+    places: &mut [Place<'a>],
     change: &ViewChange,
     body: &'a ChangeBody,
 ) -> Result<(), BadProof>
     requires fits { (usig.now.shape ≡ shape.now) × FitsViewChange shape.now change.now × FitsChangeBody shape.now body.now }
-    requires looked { AreFound usig.now.secret looked.old }
-    ensures looked { AreFound usig.now.secret looked.new }
+    requires places { AreFound shape.now usig.now.secret places.old }
+    ensures places { AreFound shape.now usig.now.secret places.new }
     ensures fault { Answers (log_fault shape.now usig.now.secret (verifies usig.now.secret) change.now.ui.host change.now.view change.now.ui.counter body.now) result }
 {
     let Some(floor) = floor_of(shape, usig, change.ui.host, body) else {
@@ -310,24 +310,24 @@ fn check_log<'a>(
     if is_too_long(shape, usig, body.entries.as_slice()) {
         return Err(at(0, 9));
     }
-    check_entries(alloc, shape, usig, looked, change, body, floor)
+    check_entries(alloc, shape, usig, places, change, body, floor)
 }
 
-/// Whether a VIEW_CHANGE is usable, as [`usable`] says. `looked` is what was found of the batches of other logs.
+/// Whether a VIEW_CHANGE is usable, as [`usable`] says. `places` is what was found of the votes of other logs.
 pub(crate) fn usable_beside<'a>(
     alloc: Global,
     shape: &Shape,
     usig: &Usig,
-    looked: &mut [Option<Looked<'a>>],
+    places: &mut [Place<'a>],
     change: &'a ViewChange,
 ) -> Result<(), BadProof>
     requires fits { (usig.now.shape ≡ shape.now) × FitsViewChange shape.now change.now }
-    requires looked { AreFound usig.now.secret looked.old }
-    ensures looked { AreFound usig.now.secret looked.new }
+    requires places { AreFound shape.now usig.now.secret places.old }
+    ensures places { AreFound shape.now usig.now.secret places.new }
     ensures fault { Answers (option_and_then (log_fault shape.now usig.now.secret (verifies usig.now.secret) change.now.ui.host change.now.view change.now.ui.counter) (whole_body change.now.body)) result }
 {
     match &change.body {
-        Body::Whole(body) => check_log(alloc, shape, usig, looked, change, body),
+        Body::Whole(body) => check_log(alloc, shape, usig, places, change, body),
         Body::Bare(_) => Ok(()),
     }
 }

@@ -1,14 +1,10 @@
-use Rattle.std.proofs.Common.{◌≡◌, ◌∙◌, Some, slice_get, refl, sym, ap, arith}
+use Rattle.std.proofs.Common.{◌≡◌, ◌∙◌, Some, slice_get, sym, ap, arith}
 use Rattle.std.proofs.lemmas.Option.{slice_get-get_or}
-use Rattle.mb_plan.proofs.LookedPlaces.{none_found}
 use Rattle.mb_plan.proofs.MemberFaults.{member_fails, member_passes, none_fails}
 use Rattle.mb_plan.proofs.new_view.check_members.Goals as goal
 
-pub loop-index-init : goal.loop-index-init
-loop-index-init c = record { members = refl; looked = none_found c.args.usig.now.secret 256 }
-
-pub returns-in-Some : goal.returns-in-Some
-returns-in-Some c =
+pub returns-in-Some-clause-fault : goal.returns-in-Some-clause-fault
+returns-in-Some-clause-fault c =
     let ms = c.args.members.now in
     let there : slice_get ms c.loop-index.index ≡ Some c.index-members-index.result = slice_get-get_or _ _ c.index-members-index.result c.loop-index-test.true ∙ ap (λ x. Some x) (sym c.index-members-index.is) in
     (member_fails c.args.shape.now c.args.usig.now.secret c.args.view ms c.loop-index.index c.index-members-index.result there c.loop-index.invariant.members c.in-Some.reason (sym c.in_ok-reason.ensures.fault ∙ c.in-Some.is), omega arith)
@@ -19,8 +15,8 @@ loop-index-preserved c =
     let there : slice_get ms c.loop-index.index ≡ Some c.index-members-index.result = slice_get-get_or _ _ c.index-members-index.result c.loop-index-test.true ∙ ap (λ x. Some x) (sym c.index-members-index.is) in
     record {
       members = member_passes c.args.shape.now c.args.usig.now.secret c.args.view ms c.loop-index.index c.index-members-index.result there c.loop-index.invariant.members (sym c.in_ok-reason.ensures.fault ∙ c.in_default.is);
-      looked = c.in_ok-reason.ensures.looked;
+      places = c.in_ok-reason.ensures.places;
     }
 
-pub returns : goal.returns
-returns c = none_fails c.args.shape.now c.args.usig.now.secret c.args.view c.args.members.now c.loop-index.index c.loop-index-test.false c.loop-index.invariant.members
+pub returns-clause-fault : goal.returns-clause-fault
+returns-clause-fault c = none_fails c.args.shape.now c.args.usig.now.secret c.args.view c.args.members.now c.loop-index.index c.loop-index-test.false c.loop-index.invariant.members

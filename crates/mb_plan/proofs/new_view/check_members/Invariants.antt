@@ -5,5 +5,5 @@ use Rattle.mb_plan.proofs.new_view.check_members.Given as goal
 abbrev pub invariant-loop-index : goal.invariant-loop-index
 invariant-loop-index l = record {
   members : FaultFrom l.shape l.usig.secret l.view l.members l.index;
-  looked : AreFound l.usig.secret l.looked;
+  places : AreFound l.shape l.usig.secret l.places;
 }

@@ -17,9 +17,9 @@ returns-then-not-takes-clause-reason c = λ log r shape sender closed.
     let next : is_next log (ui_of_shown e).counter ≡ true = rw (← c.ui-ui.ensures) (sym (c.is_next.ensures log r) ∙ c.if-not-is_next.false) in
     let claimed : ((ui_of_shown e).host == log.sender && valid (entry_claim log.sender e)) ≡ true =
     rw (sender, ← c.ui-ui.ensures, ← c.in_ok-bare.ensures, ← c.as_slice.ensures.value) (sym c.is_claimed.ensures ∙ c.if-not-is_claimed.false) in
-    let inner : c.in_ok-inner.inner ≡ inner_valid log.shape valid (bare_of_shown e) = rw shape c.in_ok-inner.ensures in
-    let says : false ≡ may_stand log c.in_ok-inner.inner (bare_of_shown e) = sym c.if-not-takes.true ∙ c.takes.ensures.answer log r closed next in
-    at_gate valid log e c.in_ok-inner.inner false next claimed inner says
+    let inner : c.shown_inner_valid-inner.result ≡ inner_valid log.shape valid (bare_of_shown e) = rw shape c.shown_inner_valid-inner.ensures in
+    let says : false ≡ may_stand log c.shown_inner_valid-inner.result (bare_of_shown e) = sym c.if-not-takes.true ∙ c.takes.ensures.answer log r closed next in
+    at_gate valid log e c.shown_inner_valid-inner.result false next claimed inner says
 
 pub returns-clause-reason : goal.returns-clause-reason
 returns-clause-reason c = λ log r shape sender closed.
@@ -28,6 +28,6 @@ returns-clause-reason c = λ log r shape sender closed.
     let next : is_next log (ui_of_shown e).counter ≡ true = rw (← c.ui-ui.ensures) (sym (c.is_next.ensures log r) ∙ c.if-not-is_next.false) in
     let claimed : ((ui_of_shown e).host == log.sender && valid (entry_claim log.sender e)) ≡ true =
     rw (sender, ← c.ui-ui.ensures, ← c.in_ok-bare.ensures, ← c.as_slice.ensures.value) (sym c.is_claimed.ensures ∙ c.if-not-is_claimed.false) in
-    let inner : c.in_ok-inner.inner ≡ inner_valid log.shape valid (bare_of_shown e) = rw shape c.in_ok-inner.ensures in
-    let says : true ≡ may_stand log c.in_ok-inner.inner (bare_of_shown e) = sym c.if-not-takes.false ∙ c.takes.ensures.answer log r closed next in
-    at_gate valid log e c.in_ok-inner.inner true next claimed inner says
+    let inner : c.shown_inner_valid-inner.result ≡ inner_valid log.shape valid (bare_of_shown e) = rw shape c.shown_inner_valid-inner.ensures in
+    let says : true ≡ may_stand log c.shown_inner_valid-inner.result (bare_of_shown e) = sym c.if-not-takes.false ∙ c.takes.ensures.answer log r closed next in
+    at_gate valid log e c.shown_inner_valid-inner.result true next claimed inner says

@@ -54,7 +54,7 @@ loop-index-preserved c =
           not_before _ c.loop-index.index c.opened_from-opened.result (subst (λ n. list_any is_opening_entry (drop n es) ≡ nat_lt c.loop-index.index c.opened_from-opened.result) (add-one c.loop-index.index) (c.opened_from-opened.ensures c.loop-index.index)) in
           stands_next s secret valid c.args.host c.args.stable o es c.loop-index.index e there c.loop-index.gate c.gate_reason.new.gate st passes
           (rw last (sym c.in_ok-reason-2.ensures ∙ c.in_default-2.is)) (c.in_ok-reason.ensures.stands _ st.stands refl refl refl c.in_default.is);
-      looked = c.in_ok-found.ensures.looked;
+      places = c.in_ok-found.ensures.places;
     }
 
 pub returns-clause-fault : goal.returns-clause-fault

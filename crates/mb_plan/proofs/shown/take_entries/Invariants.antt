@@ -10,5 +10,5 @@ abbrev pub invariant-loop-index : goal.invariant-loop-index
 invariant-loop-index l = record {
   entries : (o : Floor) → Represents l.fn.gate (log_from l.shape l.host o)
       → StandsAt l.shape l.usig.secret (verifies l.usig.secret) l.host l.stable o l.entries l.gate l.index;
-  looked : AreFound l.usig.secret l.looked;
+  places : AreFound l.shape l.usig.secret l.places;
 }
