@@ -1,3 +1,3 @@
 pub mod EntryLaws
-pub mod DigestLaws
 pub mod PartLaws
+pub mod KeptParts

@@ -8,30 +8,32 @@ ghost use Rattle.mb_kv.specs.States.{PairFits};
 use crate::bucket::bucket_of;
 use crate::kept::{Entry, Kept};
 use crate::limits::MAX_KEYS;
+use crate::part::Part;
 use crate::results::{ABSENT, DONE, FOUND, FULL, OTHER, plain, with_value};
-use mb_base::{Digest, Items, NoMemory};
+use mb_base::{Items, NoMemory};
 use mb_service::PARTS;
 use std::alloc::Global;
-use std::collections::BTreeMap;
+use std::array;
 use std::marker::Model;
 
 /// Keys with their values. Contracts see the pairs, in rising order of their keys.
 #[derive(Debug, Drop)]
 pub struct Kv {
-    pub(crate) pairs: BTreeMap<Vec<u8>, Kept>,
-    /// For each part its digest, where it was hashed and its bucket did not change since.
-    pub(crate) digests: [Option<Digest>; PARTS as usize],
+    /// The pairs, each in the part of its key's bucket.
+    pub(crate) parts: [Part; PARTS as usize],
+    /// How many pairs there are.
+    pub(crate) count: usize,
 }
 
 impl Model for Kv {
     ghost use Rattle.mb_kv.specs.Pairs.{Pairs};
-    ghost use Rattle.mb_kv.specs.Seen.{pairs_seen, AreKept};
+    ghost use Rattle.mb_kv.specs.InParts.{state_of, AreKept};
 
     ghost Value = { Pairs };
 
-    ghost view = { λ kv. pairs_seen kv.pairs.entries };
+    ghost view = { λ kv. state_of kv.parts };
 
-    ghost invariant = { λ kv. AreKept kv.pairs.entries kv.digests };
+    ghost invariant = { λ kv. AreKept kv.parts kv.count };
 }
 
 /// A key of a bucket with its value, as they are kept.
@@ -57,6 +59,7 @@ impl Kv {
     ghost use Rattle.mb_kv.specs.Pairs.{value_of, with_value, without};
     ghost use Rattle.mb_kv.specs.Operations.{Put, Get, Delete, Swap, after_operation, result_of, is_full_for};
     ghost use Rattle.mb_kv.specs.Seen.{pair_seen, EntryFits};
+    ghost use Rattle.mb_kv.specs.Snapshots.{bucket_of};
     ghost use Rattle.mb_kv.specs.States.{PairFits};
 
     /// No keys.
@@ -64,38 +67,33 @@ impl Kv {
         ensures { result ≡ [] }
     {
         Kv {
-            pairs: BTreeMap::new(alloc),
-            digests: [None; PARTS as usize],
+            parts: array::from_fn(|_| Part::new(alloc)),
+            count: 0,
         }
     }
 
-    fn value_of(&self, key: &[u8]) -> Option<&[u8]>
+    /// The value under a key of a bucket.
+    fn value_of(&self, bucket: u8, key: &[u8]) -> Option<&[u8]>
+        requires { bucket ≡ bucket_of key.now }
         ensures value { option_copied result ≡ value_of self.now key.now }
         ensures short { IfSome result (λ value. length value.now ≤ MAX_VALUE) }
     {
-        match self.pairs.get(key) {
-            Some(kept) => Some(kept.value.as_slice()),
-            None => None,
-        }
+        self.parts[usize::from(bucket)].value_of(key)
     }
 
-    fn has(&self, key: &[u8]) -> bool
+    fn has(&self, bucket: u8, key: &[u8]) -> bool
+        requires { bucket ≡ bucket_of key.now }
         ensures { result ≡ is_some (value_of self.now key.now) }
     {
-        self.value_of(key).is_some()
+        self.value_of(bucket, key).is_some()
     }
 
     /// Whether the key is new and there is no room for one more.
-    fn is_full_for(&self, key: &[u8]) -> bool
+    fn is_full_for(&self, bucket: u8, key: &[u8]) -> bool
+        requires { bucket ≡ bucket_of key.now }
         ensures { result ≡ is_full_for self.now key.now }
     {
-        self.len() >= MAX_KEYS && !self.has(key)
-    }
-
-    fn len(&self) -> usize
-        ensures { result ≡ length self.now }
-    {
-        self.pairs.len()
+        self.count >= MAX_KEYS && !self.has(bucket, key)
     }
 
     /// Keeps a value under its key, in the place of the old one if there is one.
@@ -105,17 +103,20 @@ impl Kv {
         ensures state { OnOk result (self.new ≡ with_value self.old (pair_seen entry).0 (pair_seen entry).1) }
         ensures kept { OnErr result (self.new ≡ self.old) }
     {
-        let (key, kept) = entry;
-        self.digests[usize::from(kept.bucket)] = None;
-        self.pairs.insert(key, kept)?;
+        let place = usize::from(entry.1.bucket);
+        if self.parts[place].keep(entry)? {
+            self.count += 1;
+        }
         Ok(())
     }
 
-    fn remove(&mut self, key: &[u8])
+    /// Takes a key of a bucket out.
+    fn remove(&mut self, bucket: u8, key: &[u8])
+        requires { bucket ≡ bucket_of key.now }
         ensures { self.new ≡ without self.old key.now }
     {
-        if let Some(removed) = self.pairs.remove(key) {
-            self.digests[usize::from(removed.bucket)] = None;
+        if self.parts[usize::from(bucket)].remove(key) {
+            self.count -= 1;
         }
     }
 
@@ -131,11 +132,12 @@ impl Kv {
         ensures short { IfOk result IsShort }
         ensures kept { OnErr result (self.new ≡ self.old) }
     {
-        if self.is_full_for(key) {
+        let bucket = bucket_of(key);
+        if self.is_full_for(bucket, key) {
             return plain(alloc, FULL);
         }
         let done = plain(alloc, DONE)?;
-        self.keep(entry_of(alloc, bucket_of(key), key, value)?)?;
+        self.keep(entry_of(alloc, bucket, key, value)?)?;
         Ok(done)
     }
 
@@ -143,7 +145,7 @@ impl Kv {
         ensures answer { IfOk result (λ r. r ≡ result_of (Get key.now) self.now) }
         ensures short { IfOk result IsShort }
     {
-        match self.value_of(key) {
+        match self.value_of(bucket_of(key), key) {
             Some(value) => with_value(alloc, FOUND, value),
             None => plain(alloc, ABSENT),
         }
@@ -155,11 +157,12 @@ impl Kv {
         ensures short { IfOk result IsShort }
         ensures kept { OnErr result (self.new ≡ self.old) }
     {
-        if !self.has(key) {
+        let bucket = bucket_of(key);
+        if !self.has(bucket, key) {
             return plain(alloc, ABSENT);
         }
         let done = plain(alloc, DONE)?;
-        self.remove(key);
+        self.remove(bucket, key);
         Ok(done)
     }
 
@@ -177,12 +180,13 @@ impl Kv {
         ensures short { IfOk result IsShort }
         ensures kept { OnErr result (self.new ≡ self.old) }
     {
-        match self.value_of(key) {
+        let bucket = bucket_of(key);
+        match self.value_of(bucket, key) {
             None => plain(alloc, ABSENT),
             Some(value) if value != old => with_value(alloc, OTHER, value),
             Some(_) => {
                 let done = plain(alloc, DONE)?;
-                self.keep(entry_of(alloc, bucket_of(key), key, new)?)?;
+                self.keep(entry_of(alloc, bucket, key, new)?)?;
                 Ok(done)
             }
         }

@@ -7,6 +7,7 @@ mod kv;
 mod laws;
 mod limits;
 mod operation;
+mod part;
 mod results;
 mod service;
 mod snapshot;

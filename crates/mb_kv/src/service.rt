@@ -3,10 +3,9 @@
 use crate::kv::Kv;
 use crate::operation::{Operation, read_operation};
 use crate::results::{BAD, plain};
-use crate::snapshot::{read_parts, restored_of, write_part};
+use crate::snapshot::{read_parts, restored_of};
 use mb_base::{Digest, Items, NoMemory};
 use mb_service::{Restore, Service};
-use sha2::{Digest as _, Sha256};
 use std::alloc::Global;
 
 impl Service for Kv {
@@ -35,8 +34,8 @@ impl Service for Kv {
     ghost one_list_of_parts = { one_list_of_parts };
 
     fn known(&self) {
-        // Its contract says that the keys rise.
-        let _count = self.pairs.len();
+        // A state has what is kept.
+        let _count = self.count;
     }
 
     fn apply(&mut self, alloc: Global, op: &[u8]) -> Result<Items<u8>, NoMemory> {
@@ -50,19 +49,11 @@ impl Service for Kv {
     }
 
     fn snapshot(&self, alloc: Global, part: u8) -> Result<Items<u8>, NoMemory> {
-        // A state has few pairs, and they are short.
-        self.known();
-        write_part(alloc, self, part)
+        self.parts[usize::from(part)].text(alloc)
     }
 
     fn part_digest(&mut self, alloc: Global, part: u8) -> Result<Digest, NoMemory> {
-        if let Some(digest) = self.digests[usize::from(part)] {
-            return Ok(digest);
-        }
-        let text = write_part(alloc, self, part)?;
-        let digest = Sha256::digest(text.as_slice());
-        self.digests[usize::from(part)] = Some(digest);
-        Ok(digest)
+        self.parts[usize::from(part)].digest(alloc)
     }
 
     fn restore(&mut self, alloc: Global, parts: &[Items<u8>]) -> Result<(), Restore> {

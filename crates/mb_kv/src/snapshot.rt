@@ -18,46 +18,6 @@ use mb_base::{Fields, Items, NoMemory, put_bytes, put_u8, put_u16};
 use mb_service::{PARTS, Restore};
 use std::alloc::Global;
 
-/// A part: how many pairs its bucket has, and the pairs. All pairs are gone through once.
-#[tactic(auto, unfolding(crate::specs::Snapshots::part_of))]
-pub(crate) fn write_part(alloc: Global, kv: &Kv, bucket: u8) -> Result<Items<u8>, NoMemory>
-    ensures { IfOk result (λ text. text ≡ part_of kv.now bucket) }
-{
-    let mut pairs = Vec::new(alloc);
-    let count = put_bucket(&mut pairs, kv, bucket)?;
-    let mut text = Vec::new(alloc);
-    put_u16(&mut text, count as u16)?;
-    put_bytes(&mut text, pairs.as_slice())?;
-    Ok(Items::from_vec(text))
-}
-
-/// Appends the pairs of a bucket, and tells how many there are.
-fn put_bucket(text: &mut Vec<u8>, kv: &Kv, bucket: u8) -> Result<usize, NoMemory>
-    ensures pairs { OnOk result (text.new.items ≡ text.old.items ++ flat_map pair_text (in_bucket bucket kv.now)) }
-    ensures count { IfOk result (λ count. count ≡ length (in_bucket bucket kv.now)) }
-    ensures few { IfOk result (λ count. count ≤ MAX_KEYS) }
-{
-    let mut count = 0;
-    for (key, kept) in &kv.pairs {
-        if kept.bucket == bucket {
-            put_pair(text, key.as_slice(), kept.value.as_slice())?;
-            count += 1;
-        }
-    }
-    Ok(count)
-}
-
-/// Appends a key and its value.
-fn put_pair(text: &mut Vec<u8>, key: &[u8], value: &[u8]) -> Result<(), NoMemory>
-    requires { (length key.now ≤ MAX_KEY) × (length value.now ≤ MAX_VALUE) }
-    ensures { OnOk result (text.new.items ≡ text.old.items ++ pair_text (key.now, value.now)) }
-{
-    put_u8(text, key.len() as u8)?;
-    put_bytes(text, key)?;
-    put_u16(text, value.len() as u16)?;
-    put_bytes(text, value)
-}
-
 /// Whether a key may stand behind these pairs of its part, which is to have at most so many.
 fn may_follow(bucket: u8, room: usize, before: &[Entry], key: &[u8]) -> bool
     ensures { result ≡ may_follow bucket room (pairs_seen before.now) key.now }

@@ -142,7 +142,7 @@ module _ (key : Bytes) where
       by true more = all.1
       by false more = (all.0, more)
 
-  left_rises : (ps : Pairs) → Rises ps → Rises (without ps key)
+  pub left_rises : (ps : Pairs) → Rises ps → Rises (without ps key)
   unfolding IsStrictlySortedBy
   left_rises [] rise = tt
   left_rises (p ∷ ps) rise = by (is_eq (compare key p.0)) (left_rises ps rise.1)
@@ -151,7 +151,7 @@ module _ (key : Bytes) where
       by true more = rise.1
       by false more = (above_left p.0 ps rise.0, more)
 
-  left_fits : (ps : Pairs) → AllByRecursion PairFits ps → AllByRecursion PairFits (without ps key)
+  pub left_fits : (ps : Pairs) → AllByRecursion PairFits ps → AllByRecursion PairFits (without ps key)
   left_fits [] all = tt
   left_fits (p ∷ ps) all = by (is_eq (compare key p.0)) (left_fits ps all.1)
     where
@@ -197,7 +197,7 @@ states_stay s op h = operation_stays (operation_of op) s (operation_fits op) h
 
 -- ---- results
 
-value_is_short : (key : Bytes) (ps : Pairs) (v : Bytes) → AllByRecursion PairFits ps → value_of ps key ≡ Some v → length v ≤ MAX_VALUE
+pub value_is_short : (key : Bytes) (ps : Pairs) (v : Bytes) → AllByRecursion PairFits ps → value_of ps key ≡ Some v → length v ≤ MAX_VALUE
 value_is_short key [] v all e = absurd cc
 value_is_short key (p ∷ ps) v all e = by (is_eq (compare key p.0)) e (λ is. value_is_short key ps v all.1 is)
   where

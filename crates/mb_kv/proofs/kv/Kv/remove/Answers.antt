@@ -1,36 +1,69 @@
-use Rattle.std.proofs.Common.{◌≡◌, ◌≤◌, length, ap, sym, subst, set, None, ◌∙◌, arith}
-use Rattle.mb_kv.specs.declared.limits.TheConstants.{MAX_KEYS}
+use Rattle.std.proofs.Common.{◌≡◌, ◌<◌, ◌∙◌, true, false, Some, length, slice_get, sym, ap, arith}
+use Rattle.std.specs.Prelude.{slice_index_or}
+use Rattle.std.proofs.lemmas.Option.{slice_get-get_or}
 use Rattle.mb_kv.specs.Pairs.{Pairs, without}
 use Rattle.mb_kv.specs.Snapshots.{bucket_of}
-use Rattle.mb_kv.specs.Seen.{pairs_seen, AreDigests}
-use Rattle.mb_kv.proofs.EntryLaws.{remove_seen, remove_fits, found_own}
-use Rattle.mb_kv.proofs.DigestLaws.{own_below, hashed_delete}
+use Rattle.mb_kv.specs.Laws.SnapshotLaws.{bucket_below}
+use Rattle.mb_kv.proofs.KeptParts.{some_left, delete_kept, delete_gives}
 use Rattle.mb_kv.proofs.kv.Kv.remove.Goals as goal
 
+pub listed : goal.listed
+listed c = omega (arith, c.from.ensures, c.requires, bucket_below c.args.key.now, c.self.invariant.long)
+
 pub bounds-self-inside-from : goal.bounds-self-inside-from
-bounds-self-inside-from c =
-    let own = found_own c.args.key.now c.self.inside.pairs.entries c.in-Some.removed c.self.invariant.fits (sym c.remove.ensures.value ∙ c.in-Some.is) in
-    own_below c.args.key.now c.from.result (c.from.ensures ∙ own)
+bounds-self-inside-from c = omega (arith, c.from.ensures, c.requires, bucket_below c.args.key.now)
+
+pub overflow_sub-self : goal.overflow_sub-self
+overflow_sub-self c =
+    let pss = c.self.inside.parts in
+    let key = c.args.key.now in
+    let place = c.from.result in
+    let own : place ≡ bucket_of key = c.from.ensures ∙ c.requires in
+    let lt : place < length pss = omega (arith, own, bucket_below key, c.self.invariant.long) in
+    let old : Pairs = slice_index_or pss place c.index-self-from.result in
+    let there : slice_get pss place ≡ Some old = slice_get-get_or pss place c.index-self-from.result lt in
+    some_left pss c.self.inside.count c.self.invariant place old c.remove.new.self key own there c.remove.ensures.state (sym c.if-remove.true ∙ c.remove.ensures.was)
 
 pub invariant_of-self : goal.invariant_of-self
 invariant_of-self c =
-    let es = c.self.inside.pairs.entries in
+    let pss = c.self.inside.parts in
     let key = c.args.key.now in
-    let own : c.from.result ≡ bucket_of key = c.from.ensures ∙ found_own key es c.in-Some.removed c.self.invariant.fits (sym c.remove.ensures.value ∙ c.in-Some.is) in
-    let few : length c.remove.new.self.entries ≤ MAX_KEYS = omega (arith, c.remove.ensures.len, c.self.invariant.few) in
-    let hashed = hashed_delete (pairs_seen es) c.self.inside.digests c.from.result c.self.invariant.hashed key own in
-    record {
-      fits = rw c.remove.ensures.entries (remove_fits key es c.self.invariant.fits);
-      few = few;
-      hashed = rw c.remove.ensures.entries (subst (λ (ps : Pairs). AreDigests ps (set c.self.inside.digests c.from.result None)) (sym (remove_seen key es)) hashed);
-    }
+    let place = c.from.result in
+    let own : place ≡ bucket_of key = c.from.ensures ∙ c.requires in
+    let lt : place < length pss = omega (arith, own, bucket_below key, c.self.invariant.long) in
+    let old : Pairs = slice_index_or pss place c.index-self-from.result in
+    let there : slice_get pss place ≡ Some old = slice_get-get_or pss place c.index-self-from.result lt in
+    delete_kept pss c.self.inside.count c.self.invariant place old c.remove.new.self key own there c.remove.ensures.state true (sym c.if-remove.true ∙ c.remove.ensures.was)
 
-pub returns-in-Some : goal.returns-in-Some
-returns-in-Some c =
-    rw c.remove.ensures.entries (remove_seen c.args.key.now c.self.inside.pairs.entries)
-    ∙ ap (λ (ps : Pairs). without ps c.args.key.now) c.self.view_is
+pub invariant_of-self-else-remove : goal.invariant_of-self-else-remove
+invariant_of-self-else-remove c =
+    let pss = c.self.inside.parts in
+    let key = c.args.key.now in
+    let place = c.from.result in
+    let own : place ≡ bucket_of key = c.from.ensures ∙ c.requires in
+    let lt : place < length pss = omega (arith, own, bucket_below key, c.self.invariant.long) in
+    let old : Pairs = slice_index_or pss place c.index-self-from.result in
+    let there : slice_get pss place ≡ Some old = slice_get-get_or pss place c.index-self-from.result lt in
+    delete_kept pss c.self.inside.count c.self.invariant place old c.remove.new.self key own there c.remove.ensures.state false (sym c.if-remove.false ∙ c.remove.ensures.was)
 
-pub returns-in_default : goal.returns-in_default
-returns-in_default c =
-    rw c.remove.ensures.entries (remove_seen c.args.key.now c.self.inside.pairs.entries)
-    ∙ ap (λ (ps : Pairs). without ps c.args.key.now) c.self.view_is
+pub returns-then-remove : goal.returns-then-remove
+returns-then-remove c =
+    let pss = c.self.inside.parts in
+    let key = c.args.key.now in
+    let place = c.from.result in
+    let own : place ≡ bucket_of key = c.from.ensures ∙ c.requires in
+    let lt : place < length pss = omega (arith, own, bucket_below key, c.self.invariant.long) in
+    let old : Pairs = slice_index_or pss place c.index-self-from.result in
+    let there : slice_get pss place ≡ Some old = slice_get-get_or pss place c.index-self-from.result lt in
+    delete_gives pss c.self.inside.count c.self.invariant place old c.remove.new.self key own there c.remove.ensures.state ∙ ap (λ (ps : Pairs). without ps key) c.self.view_is
+
+pub returns-else-remove : goal.returns-else-remove
+returns-else-remove c =
+    let pss = c.self.inside.parts in
+    let key = c.args.key.now in
+    let place = c.from.result in
+    let own : place ≡ bucket_of key = c.from.ensures ∙ c.requires in
+    let lt : place < length pss = omega (arith, own, bucket_below key, c.self.invariant.long) in
+    let old : Pairs = slice_index_or pss place c.index-self-from.result in
+    let there : slice_get pss place ≡ Some old = slice_get-get_or pss place c.index-self-from.result lt in
+    delete_gives pss c.self.inside.count c.self.invariant place old c.remove.new.self key own there c.remove.ensures.state ∙ ap (λ (ps : Pairs). without ps key) c.self.view_is
