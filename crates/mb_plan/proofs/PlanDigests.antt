@@ -1,9 +1,10 @@
 -- The digest of a plan, one batch after the other.
-use Rattle.std.proofs.Common.{◌≡◌, ℕ, ◌+◌, ◌<◌, List, [], ◌∷◌, ◌++◌, length, get_or, take, map, refl, sym, ap, ◌∙◌, append_assoc}
+use Rattle.std.proofs.Common.{◌≡◌, ℕ, ◌+◌, ◌<◌, List, [], ◌∷◌, ◌++◌, length, get_or, take, map, sym, ap, ◌∙◌, append_assoc}
 use Rattle.std.specs.Int.{w8, w64}
 use Rattle.std.specs.List.{flat_map}
 use Rattle.std.proofs.lemmas.List.{append-nil, take_more}
 use Rattle.std.proofs.lemmas.List.Concat.{flat_map-cons}
+use Rattle.std.proofs.lemmas.List.Folds.{flat_map-map}
 use Rattle.std.proofs.lemmas.Grind.{flat_map-append}
 use Rattle.mb_base.specs.Shapes.{Bytes}
 use Rattle.mb_base.specs.Spelling.{number}
@@ -19,12 +20,8 @@ one_more_digest m bs i b d lt there is =
     append_assoc m (flat_map batch_digest (take i bs)) d
     ∙ ap (λ (x : Bytes). m ++ x) (ap (λ (x : Bytes). flat_map batch_digest (take i bs) ++ x) (sym one) ∙ sym (flat_map-append batch_digest (take i bs) (b ∷ [])) ∙ ap (flat_map batch_digest) (sym more))
 
-one_by_one : (bs : List Batch) → flat_map batch_digest bs ≡ flat_map (λ (d : Bytes). d) (map batch_digest bs)
-one_by_one [] = refl
-one_by_one (b ∷ bs) = flat_map-cons batch_digest b bs ∙ ap (λ (u : Bytes). batch_digest b ++ u) (one_by_one bs)
-
 -- the four pieces of a plan, in the order in which they are hashed
 pub hashed_in_order : (place : ℕ) (letter base state : Bytes) (batches : List Batch) → letter ≡ number w8 80 → base ≡ number w64 place
     → ((letter ++ base) ++ state) ++ flat_map batch_digest batches ≡ plan_string place state (map batch_digest batches)
 unfolding plan_string
-hashed_in_order place letter base state batches a b = rw (a, b, one_by_one batches) (simp append_assoc)
+hashed_in_order place letter base state batches a b = rw (a, b, sym (flat_map-map (λ (d : Bytes). d) batch_digest batches)) (simp append_assoc)
