@@ -41,7 +41,8 @@ use Rattle.mb_standing.proofs.Values.{own_counter_stamped}
 use Rattle.mb_core.specs.declared.replica.Replica.{Replica}
 use Rattle.mb_core.specs.declared.sending.Done.{Done}
 use Rattle.mb_core.specs.declared.stamping.TheConstants.{NO_UI}
-use Rattle.mb_core.specs.Represents.{IsHost, Represents, StandsAt, as_sent, tables_of}
+use Rattle.mb_core.specs.Represents.{IsHost, Represents, StandsAt, tables_of}
+use Rattle.mb_core.specs.Told.{as_outgoing}
 use Rattle.mb_core.specs.Between.{WritesCounter, WritesStamp, WritesLog, WritesKept, KeepingStands, AwaitsKeeping, AwaitsCut, AwaitsCheckpoint}
 use Rattle.mb_core.specs.declared.stamping.Signed.{Signed}
 use Rattle.mb_core.specs.Signed.{IsSigned}
@@ -215,11 +216,11 @@ module _ {V : Type 0} (me : Identity V) where
 
     -- It was sent to all, and nothing else.
     pub checkpoint_sent : (new : Replica V) (after : Done) (m : Checkpoint) → made ≡ stamped.Checkpoint m → Represents me new (Stamped (stamped.Checkpoint m) ∷ d)
-        → after.sent ≡ done.sent ++ as_sent (to_all (as_message (stamped.Checkpoint m))) ∷ [] → (after.executed ≡ done.executed) × (after.installed ≡ done.installed) → StandsAt me new after (stamp me (checkpoint me d pos) x)
+        → after.sent ≡ done.sent ++ as_outgoing (to_all (as_message (stamped.Checkpoint m))) ∷ [] → (after.executed ≡ done.executed) × (after.installed ≡ done.installed) → StandsAt me new after (stamp me (checkpoint me d pos) x)
     checkpoint_sent new after m same r sent kept = subst (λ (y : StampedMessage). StandsAt me new after (send (to_all (as_message y)) (write (Stamped y) x))) (sym same) (record {
       represents = r;
       serving = served_ends (Stamped (stamped.Checkpoint m)) d refl;
-      sent = sent ∙ ap (λ l. l ++ as_sent (to_all (as_message (stamped.Checkpoint m))) ∷ []) w.stands.sent ∙ sym (map-append as_sent x.sent (to_all (as_message (stamped.Checkpoint m)) ∷ []));
+      sent = sent ∙ ap (λ l. l ++ as_outgoing (to_all (as_message (stamped.Checkpoint m))) ∷ []) w.stands.sent ∙ sym (map-append as_outgoing x.sent (to_all (as_message (stamped.Checkpoint m)) ∷ []));
       executed = kept.0 ∙ w.stands.executed;
       installed = kept.1 ∙ w.stands.installed;
     })
@@ -227,7 +228,7 @@ module _ {V : Type 0} (me : Identity V) where
     pub checkpoint_ends : {E : Type 0} (result : Result (Unit {0}) E) (mid kept sent new : Replica V) (after : Done) (m : Checkpoint) (same : made ≡ stamped.Checkpoint m) (c : WritesCounter old mid) (k : WritesKept mid kept)
         → KeepingStands me kept (Stamped (stamped.Checkpoint m) ∷ d) → WritesStamp kept sent → sent.agreement.log ≡ appended (stamped.Checkpoint m) kept.agreement.log → GatesStand me sent.agreement.gates.items (Stamped (stamped.Checkpoint m) ∷ d)
         → OnOk result (WritesLog sent new) → OnOk result (LogStands me new.agreement.log (Stamped (stamped.Checkpoint m) ∷ d))
-        → after.sent ≡ done.sent ++ as_sent (to_all (as_message (stamped.Checkpoint m))) ∷ [] → (after.executed ≡ done.executed) × (after.installed ≡ done.installed) → OnOk result (StandsAt me new after (stamp me (checkpoint me d pos) x))
+        → after.sent ≡ done.sent ++ as_outgoing (to_all (as_message (stamped.Checkpoint m))) ∷ [] → (after.executed ≡ done.executed) × (after.installed ≡ done.installed) → OnOk result (StandsAt me new after (stamp me (checkpoint me d pos) x))
     checkpoint_ends (Ok u) mid kept sent new after m same c k stands s log gates l cut out left =
         checkpoint_sent new after m same (checkpoint_stands m same mid kept c k sent stands s log new gates l cut) out left
     checkpoint_ends (Err e) mid kept sent new after m same c k stands s log gates l cut out left = tt

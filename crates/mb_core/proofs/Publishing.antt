@@ -50,7 +50,8 @@ use Rattle.mb_core.specs.declared.replica.Replica.{Replica}
 use Rattle.mb_core.specs.declared.sending.Done.{Done}
 use Rattle.mb_core.specs.declared.stamping.TheConstants.{NO_UI}
 use Rattle.mb_core.specs.Between.{IsSame, RestStands, AwaitsPublish, WritesStamp, WritesCounter, WritesNormal, WritesChange}
-use Rattle.mb_core.specs.Represents.{IsHost, Represents, StandsAt, as_sent, tables_of}
+use Rattle.mb_core.specs.Represents.{IsHost, Represents, StandsAt, tables_of}
+use Rattle.mb_core.specs.Told.{as_outgoing}
 use Rattle.mb_core.proofs.Accepted.{same_again, still_host}
 use Rattle.mb_core.proofs.Accepting.{there}
 
@@ -314,20 +315,20 @@ module _ {V : Type 0} (me : Identity V) where
   }
 
   published : (old r new : Replica V) (before after : Done) (x : Progress) (m : StampedMessage) → StandsAt me old before x → MayStamp m x.history → AwaitsPublish me r m x.history
-      → after.sent ≡ before.sent ++ as_sent (to_all (as_message m)) ∷ [] → (after.executed ≡ before.executed) × (after.installed ≡ before.installed) → new.agreement.log ≡ appended m r.agreement.log
+      → after.sent ≡ before.sent ++ as_outgoing (to_all (as_message m)) ∷ [] → (after.executed ≡ before.executed) × (after.installed ≡ before.installed) → new.agreement.log ≡ appended m r.agreement.log
       → GatesStand me new.agreement.gates.items (Stamped m ∷ x.history) → WritesStamp r new → StandsAt me new after (send (to_all (as_message m)) (write (Stamped m) x))
   unfolding just_served
   published old r new before after x m st may waits sent kept log gates w = record {
     represents = stands_published old r new m x.history st.represents may waits log gates w;
     serving = refl;
-    sent = sent ∙ ap (λ l. l ++ as_sent (to_all (as_message m)) ∷ []) st.sent ∙ sym (map-append as_sent x.sent (to_all (as_message m) ∷ []));
+    sent = sent ∙ ap (λ l. l ++ as_outgoing (to_all (as_message m)) ∷ []) st.sent ∙ sym (map-append as_outgoing x.sent (to_all (as_message m) ∷ []));
     executed = kept.0 ∙ st.executed;
     installed = kept.1 ∙ st.installed;
   }
 
   -- What publishing leaves, where it succeeds.
   pub when_published : {E : Type 0} (result : Result (Unit {0}) E) (old r new : Replica V) (before after : Done) (x : Progress) (m : StampedMessage) → StandsAt me old before x → MayStamp m x.history → AwaitsPublish me r m x.history
-      → OnOk result (after.sent ≡ before.sent ++ as_sent (to_all (as_message m)) ∷ []) → (after.executed ≡ before.executed) × (after.installed ≡ before.installed)
+      → OnOk result (after.sent ≡ before.sent ++ as_outgoing (to_all (as_message m)) ∷ []) → (after.executed ≡ before.executed) × (after.installed ≡ before.installed)
       → OnOk result (new.agreement.log ≡ appended m r.agreement.log) → ((me : Identity V) (d : History) → IsHost me r → IsSound me d → Adds me d (Stamped m) → GatesStand me r.agreement.gates.items d → OnOk result (GatesStand me new.agreement.gates.items (Stamped m ∷ d)))
       → OnOk result (WritesStamp r new) → OnOk result (StandsAt me new after (send (to_all (as_message m)) (write (Stamped m) x)))
   when_published (Ok a) old r new before after x m st may waits sent kept log gates w =
@@ -372,7 +373,7 @@ module _ {V : Type 0} (me : Identity V) (r : Replica V) (d : History) (rep : Rep
 module _ {V : Type 0} (me : Identity V) where
   -- A rule ends with what it publishes.
   pub rule_ends : {E : Type 0} (result : Result (Unit {0}) E) (old r new : Replica V) (before after : Done) (x : Progress) (a : Rule) (s m : StampedMessage) → StandsAt me old before x → next_rule me x.history ≡ Some a
-      → signs me a x.history m → s ≡ m → AwaitsPublish me r m x.history → OnOk result (after.sent ≡ before.sent ++ as_sent (to_all (as_message s)) ∷ [])
+      → signs me a x.history m → s ≡ m → AwaitsPublish me r m x.history → OnOk result (after.sent ≡ before.sent ++ as_outgoing (to_all (as_message s)) ∷ [])
       → (after.executed ≡ before.executed) × (after.installed ≡ before.installed) → OnOk result (new.agreement.log ≡ appended s r.agreement.log)
       → ((me : Identity V) (d : History) → IsHost me r → IsSound me d → Adds me d (Stamped s) → GatesStand me r.agreement.gates.items d → OnOk result (GatesStand me new.agreement.gates.items (Stamped s ∷ d)))
       → OnOk result (WritesStamp r new) → OnOk result (StandsAt me new after (send (to_all (as_message m)) (write (Stamped m) x)))

@@ -1,11 +1,12 @@
 -- How a step goes on: between two batches of it the replica stands where the step stands.
-use Rattle.std.proofs.Common.{◌≡◌, ℕ, List, [], Option, Some, None, Result, refl, sym, ap, subst, ◌∙◌}
+use Rattle.std.proofs.Common.{◌≡◌, ℕ, List, [], ◌∷◌, map, Option, Some, None, Result, refl, sym, ap, subst, ◌∙◌}
 use Rattle.mb_base.specs.Shapes.{Bytes}
 use Rattle.mb_msg.specs.declared.event.Event.{Event}
 use Rattle.mb_msg.specs.declared.event.Outcome.{Outcome}
+use Rattle.mb_msg.specs.declared.event.Sent.{Sent}
 use Rattle.mb_msg.specs.declared.event.Step.{Step}
 use Rattle.mb_model.specs.Histories.{History, Identity}
-use Rattle.mb_model.specs.Sending.{Progress, begin}
+use Rattle.mb_model.specs.Sending.{Letter, Progress, begin}
 use Rattle.mb_model.specs.EnabledRules.{Rule, next_rule}
 use Rattle.mb_model.specs.CarriedOut.{carry_out}
 use Rattle.mb_model.specs.Given.{Answer}
@@ -20,7 +21,10 @@ use Rattle.mb_core.specs.declared.replica.Replica.{Replica}
 use Rattle.mb_core.specs.declared.sending.Done.{Done}
 use Rattle.mb_core.specs.declared.rules.Due.{Due}
 use Rattle.mb_core.specs.Due.{Names, IsNamed, IsDue}
-use Rattle.mb_core.specs.Represents.{Represents, Serves, StandsAt, HasHistory, IsInStep, IsAtRest, IsStep}
+use Rattle.mb_core.specs.declared.told.Outgoing.{Outgoing}
+use Rattle.mb_core.specs.declared.told.Told.{Told}
+use Rattle.mb_core.specs.Told.{as_outgoing, plain}
+use Rattle.mb_core.specs.Represents.{Represents, Serves, StandsAt, HasHistory, IsInStep, IsAtRest, IsStep, IsTold, as_sent}
 
 module _ {V : Type 0} where
   -- all that it keeps, of the two parts that it has
@@ -59,12 +63,25 @@ module _ {V : Type 0} where
   stands_begin me r done d rep whole sent executed installed = record { represents = rep; serving = none_served d whole; sent = sent; executed = executed; installed = installed }
 
 -- a step that is told
-pub is_step : {V : Type 0} (me : Identity V) (r : Replica V) (done : Done) (step : Step) (o : Outcome) (a : Answer) → step ≡ record { outcome = o; sent = done.sent; executed = done.executed; adopted = done.installed } → o ≡ a.outcome → StandsAt me r done a.left → IsStep step a
-is_step me r done step o a is same stands = record {
-  outcome = ap (λ (s : Step). s.outcome) is ∙ same;
-  sent = ap (λ (s : Step). s.sent) is ∙ stands.sent;
-  executed = ap (λ (s : Step). s.executed) is ∙ stands.executed;
-  adopted = ap (λ (s : Step). s.adopted) is ∙ stands.installed;
+pub is_told : {V : Type 0} (me : Identity V) (r : Replica V) (done : Done) (told : Told) (o : Outcome) (a : Answer) → told ≡ record { outcome = o; sent = done.sent; executed = done.executed; adopted = done.installed } → o ≡ a.outcome → StandsAt me r done a.left → IsTold told a
+is_told me r done told o a is same stands = record {
+  outcome = ap (λ (t : Told). t.outcome) is ∙ same;
+  sent = ap (λ (t : Told). t.sent) is ∙ stands.sent;
+  executed = ap (λ (t : Told). t.executed) is ∙ stands.executed;
+  adopted = ap (λ (t : Told). t.adopted) is ∙ stands.installed;
+}
+
+plain_sent : (letters : List Letter) → map plain (map as_outgoing letters) ≡ map as_sent letters
+plain_sent [] = refl
+plain_sent (l ∷ ls) = ap (λ (r : List Sent). as_sent l ∷ r) (plain_sent ls)
+
+-- and the step alone
+pub is_step : (told : Told) (step : Step) (a : Answer) → step ≡ record { outcome = told.outcome; sent = map plain told.sent; executed = told.executed; adopted = told.adopted } → IsTold told a → IsStep step a
+is_step told step a is t = record {
+  outcome = ap (λ (s : Step). s.outcome) is ∙ t.outcome;
+  sent = ap (λ (s : Step). s.sent) is ∙ (ap (λ (l : List Outgoing). map plain l) t.sent ∙ plain_sent a.left.sent);
+  executed = ap (λ (s : Step). s.executed) is ∙ t.executed;
+  adopted = ap (λ (s : Step). s.adopted) is ∙ t.adopted;
 }
 
 module _ {V : Type 0} (is_state : V → Type 0) (after : V → Bytes → V) (result : V → Bytes → Bytes) (part : V → ℕ → Bytes) (restored : List Bytes → Result V (ℕ × ℕ)) where

@@ -11,5 +11,6 @@ pub mod Serving
 pub mod Installing
 pub mod Halting
 pub mod Lengths
+pub mod Told
 pub mod Beginning
 pub mod Carrying

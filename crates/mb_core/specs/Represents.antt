@@ -20,6 +20,8 @@ use Rattle.mb_standing.specs.Stands.{Stand}
 use Rattle.mb_fitting.specs.Fitting.{AreFit}
 use Rattle.mb_core.specs.declared.replica.Replica.{Replica}
 use Rattle.mb_core.specs.declared.sending.Done.{Done}
+use Rattle.mb_core.specs.declared.told.Told.{Told}
+use Rattle.mb_core.specs.Told.{as_outgoing}
 
 -- a message that is sent, as its bytes
 abbrev pub as_sent : Letter → Sent
@@ -31,6 +33,13 @@ pub record IsStep (step : Step) (a : Answer) : Type 0 where
   pub sent : step.sent ≡ map as_sent a.left.sent
   pub executed : step.executed ≡ a.left.executed
   pub adopted : step.adopted ≡ a.left.installed
+
+-- and so is one that tells what was stamped
+pub record IsTold (told : Told) (a : Answer) : Type 0 where
+  pub outcome : told.outcome ≡ a.outcome
+  pub sent : told.sent ≡ map as_outgoing a.left.sent
+  pub executed : told.executed ≡ a.left.executed
+  pub adopted : told.adopted ≡ a.left.installed
 
 module _ {V : Type 0} where
   -- all that it keeps
@@ -75,7 +84,7 @@ module _ {V : Type 0} where
   pub record StandsServing (me : Identity V) (r : Replica V) (done : Done) (served : List Placed) (x : Progress) : Type 0 where
     pub represents : Represents me r x.history
     pub serving : just_served x.history ≡ served
-    pub sent : done.sent ≡ map as_sent x.sent
+    pub sent : done.sent ≡ map as_outgoing x.sent
     pub executed : done.executed ≡ x.executed
     pub installed : done.installed ≡ x.installed
 

@@ -1,5 +1,10 @@
 //! A given stamped message, with what is hashed and read of it once.
 
+ghost use Rattle.std.specs.Prelude.{◌≡◌, IfOk};
+ghost use Rattle.mb_msg.specs.Fits.{FitsStamped};
+ghost use Rattle.mb_msg.specs.AsStamped.{stamped_digest};
+ghost use Rattle.mb_core.specs.Told.{KnowsBody};
+
 use mb_base::{Digest, NoMemory, Shape, Ui};
 use mb_msg::{Mark, Stamped};
 use std::alloc::Global;
@@ -20,15 +25,23 @@ impl Arrival {
     ghost use Rattle.mb_msg.specs.Fits.{FitsStamped};
     ghost use Rattle.mb_msg.specs.Stamps.{bare_of};
     ghost use Rattle.mb_core.specs.Arrivals.{IsArrival};
+    ghost use Rattle.mb_core.specs.Told.{KnowsBody};
 
-    pub(crate) fn of(alloc: Global, shape: &Shape, message: Stamped) -> Result<Arrival, NoMemory>
-        requires { FitsStamped shape.now message }
+    /// Where the digest of its body is known, it is not hashed.
+    pub(crate) fn of(
+        alloc: Global,
+        shape: &Shape,
+        message: Stamped,
+        known: &Option<Digest>,
+    ) -> Result<Arrival, NoMemory>
+        requires fits { FitsStamped shape.now message }
+        requires known { KnowsBody known.now message }
         ensures { IfOk result (λ a. IsArrival shape.now a × (a.message ≡ message)) }
     {
         Ok(Arrival {
             ui: message.ui(),
             mark: message.mark(),
-            body: message.body_digest(alloc, shape)?,
+            body: body_of(alloc, shape, &message, known)?,
             message,
         })
     }
@@ -39,5 +52,22 @@ impl Arrival {
         ensures { IfOk result (λ v. v.items ≡ bare_bytes (bare_of self.now.message)) }
     {
         self.message.bare_with(alloc, shape, &self.body)
+    }
+}
+
+/// The digest of a message's body, hashed where it is not known.
+fn body_of(
+    alloc: Global,
+    shape: &Shape,
+    message: &Stamped,
+    known: &Option<Digest>,
+) -> Result<Digest, NoMemory>
+    requires fits { FitsStamped shape.now message.now }
+    requires known { KnowsBody known.now message.now }
+    ensures { IfOk result (λ d. d ≡ stamped_digest message.now) }
+{
+    match known {
+        Some(body) => Ok(*body),
+        None => message.body_digest(alloc, shape),
     }
 }

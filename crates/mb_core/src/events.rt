@@ -3,7 +3,7 @@
 use crate::given::Answer;
 use crate::replica::Replica;
 use crate::sending::Done;
-use mb_base::{NoMemory, Pos};
+use mb_base::{Digest, NoMemory, Pos};
 use mb_msg::{Event, Message, Outcome, Undecoded, decode};
 use mb_service::Service;
 use std::alloc::Global;
@@ -20,18 +20,21 @@ impl<V: Service + Drop> Replica<V> {
     ghost use Rattle.mb_model.specs.HostStep.{transition, on_bytes, on_message, on_patience, after_patience, on_nudge, finished, finished_where, with_fetch, low_rose};
     ghost use Rattle.mb_msg.specs.declared.event.Outcome.{Outcome as OutcomeValue};
     ghost use Rattle.mb_core.specs.Represents.{Represents, Serves, StandsAt, IsInStep};
+    ghost use Rattle.mb_core.specs.Told.{KnowsBytes, KnowsEvent, KnowsMessage};
 
     pub(crate) fn on_event(
         &mut self,
         alloc: Global,
         event: &Event,
+        known: &Option<Digest>,
         done: &mut Done,
     ) -> Result<Outcome, NoMemory>
-        requires { IsInStep V.is_state V.after V.answer V.part_of V.restored self.old done.old }
+        requires stepping { IsInStep V.is_state V.after V.answer V.part_of V.restored self.old done.old }
+        requires known { KnowsEvent self.old.agreement.shape known.now event.now }
         ensures { (me : Identity V) (d : History) → Serves V.is_state V.after V.answer V.part_of V.restored me → StandsAt me self.old done.old (begin d) → IfOk result (λ o. (o ≡ (transition me d event.now).outcome) × StandsAt me self.new done.new (transition me d event.now).left) }
     {
         match event {
-            Event::Given(bytes) => self.on_bytes(alloc, bytes.as_slice(), done),
+            Event::Given(bytes) => self.on_bytes(alloc, bytes.as_slice(), known, done),
             Event::Patience => self.after_patience(alloc, done),
             Event::Nudge => self.after_nudge(alloc, done),
         }
@@ -43,13 +46,15 @@ impl<V: Service + Drop> Replica<V> {
         &mut self,
         alloc: Global,
         bytes: &[u8],
+        known: &Option<Digest>,
         done: &mut Done,
     ) -> Result<Outcome, NoMemory>
-        requires { IsInStep V.is_state V.after V.answer V.part_of V.restored self.old done.old }
+        requires stepping { IsInStep V.is_state V.after V.answer V.part_of V.restored self.old done.old }
+        requires known { KnowsBytes self.old.agreement.shape known.now bytes.now }
         ensures { (me : Identity V) (d : History) → Serves V.is_state V.after V.answer V.part_of V.restored me → StandsAt me self.old done.old (begin d) → IfOk result (λ o. (o ≡ (on_bytes me (message_of self.old.agreement.shape bytes.now) d).outcome) × StandsAt me self.new done.new (on_bytes me (message_of self.old.agreement.shape bytes.now) d).left) }
     {
         match decode(alloc, &self.agreement.shape, bytes) {
-            Ok(message) => self.on_message(alloc, message, done),
+            Ok(message) => self.on_message(alloc, message, known, done),
             Err(Undecoded::Malformed { at }) => Ok(Outcome::Malformed { at }),
             Err(Undecoded::NoMemory) => Err(NoMemory),
         }
@@ -59,14 +64,16 @@ impl<V: Service + Drop> Replica<V> {
         &mut self,
         alloc: Global,
         message: Message,
+        known: &Option<Digest>,
         done: &mut Done,
     ) -> Result<Outcome, NoMemory>
         requires fits { Fits self.old.agreement.shape message }
+        requires known { KnowsMessage known.now message }
         requires stepping { IsInStep V.is_state V.after V.answer V.part_of V.restored self.old done.old }
         ensures { (me : Identity V) (d : History) → Serves V.is_state V.after V.answer V.part_of V.restored me → StandsAt me self.old done.old (begin d) → IfOk result (λ o. (o ≡ (on_message me d message).outcome) × StandsAt me self.new done.new (on_message me d message).left) }
     {
         let before = self.low();
-        let answer = self.give(alloc, message, done)?;
+        let answer = self.give(alloc, message, known, done)?;
         self.finished_where(alloc, answer, before, done)?;
         Ok(answer.outcome)
     }

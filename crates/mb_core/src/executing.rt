@@ -14,6 +14,7 @@ impl<V: Service + Drop> Replica<V> {
     ghost use Rattle.mb_parts.specs.declared.batch.Batch.{Batch as BatchValue};
     ghost use Rattle.mb_parts.specs.Fits.{FitsText, IsCounter, IsPlace};
     ghost use Rattle.mb_msg.specs.Fits.{Fits};
+    ghost use Rattle.mb_msg.specs.Stamps.{as_stamped};
     ghost use Rattle.mb_msg.specs.declared.event.Placed.{Placed as PlacedValue};
     ghost use Rattle.mb_model.specs.Histories.{Identity, History};
     ghost use Rattle.mb_model.specs.Positions.{slot_at};
@@ -208,6 +209,7 @@ impl<V: Service + Drop> Replica<V> {
         requires short { FitsText answer.now }
         ensures reply { (me : Identity V) (d : History) → Represents me self.now d → IfOk result (λ m. m ≡ reply me client (record { seq = seq; pos = pos; result = answer.now })) }
         ensures fits { IfOk result (Fits self.now.agreement.shape) }
+        ensures plain { IfOk result (λ m. as_stamped m ≡ None) }
     {
         let signed = signed_reply(alloc, client, seq, pos, answer)?;
         Ok(Message::Reply(Reply {

@@ -2,7 +2,7 @@
 
 use crate::replica::Replica;
 use crate::sending::Done;
-use mb_base::NoMemory;
+use mb_base::{Digest, NoMemory};
 use mb_msg::{Message, Outcome};
 use mb_service::Service;
 use std::alloc::Global;
@@ -35,6 +35,7 @@ impl Answer {
 
 impl<V: Service + Drop> Replica<V> {
     ghost use Rattle.mb_core.specs.declared.sending.Done.{Done};
+    ghost use Rattle.mb_core.specs.Told.{KnowsMessage};
     ghost use Rattle.mb_core.specs.Represents.{IsOther, Serves, StandsAt, Answers, HasHistory, IsInStep};
     ghost use Rattle.std.specs.Prelude.{◌≡◌, IfOk};
     ghost use Rattle.mb_msg.specs.Fits.{FitsFields};
@@ -42,15 +43,17 @@ impl<V: Service + Drop> Replica<V> {
     ghost use Rattle.mb_model.specs.Sending.{Progress};
     ghost use Rattle.mb_model.specs.Given.{give};
     ghost use Rattle.mb_model.specs.HostStep.{rules_follow, asks_on};
-    /// Gives a message to this host. A REPLY is for clients.
+    /// Gives a message to this host, of which the digest of the body may be known. A REPLY is for clients.
     pub(crate) fn give(
         &mut self,
         alloc: Global,
         message: Message,
+        known: &Option<Digest>,
         done: &mut Done,
     ) -> Result<Answer, NoMemory>
         requires fits { FitsFields self.old.agreement.shape message }
         requires stepping { IsInStep V.is_state V.after V.answer V.part_of V.restored self.old done.old }
+        requires known { KnowsMessage known.now message }
         ensures { (me : Identity V) (x : Progress) → Serves V.is_state V.after V.answer V.part_of V.restored me → StandsAt me self.old done.old x → IfOk result (λ a. Answers me message a (give me message x) × StandsAt me self.new done.new (give me message x).left) }
     {
         match message {
@@ -61,18 +64,24 @@ impl<V: Service + Drop> Replica<V> {
             Message::Fetch(m) => Ok(Answer::of(self.give_fetch(alloc, &m, done)?)),
             Message::State(m) => self.give_state(alloc, &m, done),
             Message::Stop(m) => Ok(Answer::of(self.stop_answer(&m))),
-            other => self.give_other(alloc, other),
+            other => self.give_other(alloc, other, known),
         }
     }
 
     /// Gives a stamped message or a REPLY.
-    fn give_other(&mut self, alloc: Global, message: Message) -> Result<Answer, NoMemory>
+    fn give_other(
+        &mut self,
+        alloc: Global,
+        message: Message,
+        known: &Option<Digest>,
+    ) -> Result<Answer, NoMemory>
         requires fits { FitsFields self.old.agreement.shape message }
         requires history { HasHistory self.old }
+        requires known { KnowsMessage known.now message }
         ensures { (me : Identity V) (x : Progress) → (done : Done) → Serves V.is_state V.after V.answer V.part_of V.restored me → IsOther message → StandsAt me self.old done x → IfOk result (λ a. Answers me message a (give me message x) × StandsAt me self.new done (give me message x).left) }
     {
         match message.into_stamped() {
-            Ok(stamped) => Ok(Answer::of(self.give_stamped(alloc, stamped)?)),
+            Ok(stamped) => Ok(Answer::of(self.give_stamped(alloc, stamped, known)?)),
             Err(_reply) => Ok(Answer::of(Outcome::Idle)),
         }
     }

@@ -16,7 +16,7 @@
 //! | `wishes`, `view_changes`, `new_views`, `enters`, `opens`, `joins` | REQ_VIEW_CHANGE, VIEW_CHANGE, NEW_VIEW, ENTER, OPEN, JOIN |
 //! | `requests`, `resends`, `logs`, `fetches`, `states`, `stops` | REQUEST, RESEND, LOG, FETCH, STATE, STOP |
 //! | `holding`, `learning`, `open_votes` | what is held of a view change, what is stable, the votes of OPENs |
-//! | `rules`, `stamping`, `sending` | which rule is next, how a message is stamped, and what a step has sent |
+//! | `rules`, `stamping`, `sending`, `told` | which rule is next, how a message is stamped, what a step has sent, and what it tells |
 //!
 //! The protocol is MinBFT (Veronese, Correia, Bessani, Lung, Verissimo: *Efficient Byzantine Fault-Tolerance*, IEEE Transactions on Computers,
 //! 2013). ENTER, OPEN and JOIN are this product's.
@@ -53,8 +53,10 @@ mod stamping;
 mod standing;
 mod states;
 mod stops;
+mod told;
 mod view_changes;
 mod voting;
 mod wishes;
 
 pub use replica::{Replica, Stop};
+pub use told::{Outgoing, Said, Told};

@@ -54,7 +54,7 @@ impl<V: Service + Drop> Replica<V> {
         ensures { (me : Identity V) (x : Progress) → (done : Done) → StandsAt me self.old done x → IfOk result (λ o. (o ≡ (give_entries me entries x).outcome) × StandsAt me self.new done (give_entries me entries x).left) }
     {
         for entry in entries.into_vec() {
-            let outcome = self.give_stamped(alloc, entry)?;
+            let outcome = self.give_stamped(alloc, entry, &None)?;
             if !goes_on(outcome) {
                 return Ok(outcome);
             }

@@ -9,12 +9,14 @@ ghost use Rattle.mb_model.specs.Positions.{exec_of};
 ghost use Rattle.mb_model.specs.HostStep.{transition};
 ghost use Rattle.mb_steps.proofs.StepArises.{IsWhole};
 ghost use Rattle.mb_core.specs.Halting.{Halts};
-ghost use Rattle.mb_core.specs.Lengths.{AreMessageLong};
-ghost use Rattle.mb_core.specs.Represents.{Represents, Serves, IsHost, IsAtRest, IsStep};
+ghost use Rattle.mb_core.specs.Lengths.{AreMessageLong, AreOutgoingLong};
+ghost use Rattle.mb_core.specs.Represents.{Represents, Serves, IsHost, IsAtRest, IsStep, IsTold};
+ghost use Rattle.mb_core.specs.Told.{KnowsEvent};
 
 use crate::agreement::Agreement;
 use crate::sending::Done;
-use mb_base::{Host, Key, NoMemory, Pos, Shape};
+use crate::told::Told;
+use mb_base::{Digest, Host, Key, NoMemory, Pos, Shape};
 use mb_keeper::Keeper;
 use mb_msg::{Event, Floor, Step};
 use mb_service::Service;
@@ -71,14 +73,39 @@ impl<V: Service + Drop> Replica<V> {
         ensures rests { self.new.halted ≡ false → IsAtRest V.is_state V.after V.answer V.part_of V.restored self.new }
         ensures halts { Halts self.old result self.new }
     {
+        let told = self.step_told(alloc, event, &None)?;
+        match told.into_step(alloc) {
+            Ok(step) => Ok(step),
+            Err(NoMemory) => {
+                self.halted = true;
+                Err(Stop::NoMemory)
+            }
+        }
+    }
+
+    /// The same event, of whose message the digest of the body may be known. It tells also what this host stamped in each message that it sent.
+    pub fn step_told(
+        &mut self,
+        alloc: Global,
+        event: &Event,
+        known: &Option<Digest>,
+    ) -> Result<Told, Stop>
+        requires rests { self.old.halted ≡ false → IsAtRest V.is_state V.after V.answer V.part_of V.restored self.old }
+        requires known { KnowsEvent self.old.agreement.shape known.now event.now }
+        ensures stands { (me : Identity V) (d : History) → Serves V.is_state V.after V.answer V.part_of V.restored me → Represents me self.old d → IsWhole d
+            → IfOk result (λ t. IsTold t (transition me d event.now) × (Represents me self.new (transition me d event.now).left.history × IsWhole (transition me d event.now).left.history)) }
+        ensures lengths { IfOk result (λ t. AreOutgoingLong t.sent) }
+        ensures rests { self.new.halted ≡ false → IsAtRest V.is_state V.after V.answer V.part_of V.restored self.new }
+        ensures halts { Halts self.old result self.new }
+    {
         if self.halted {
             return Err(Stop::Halted);
         }
         let mut done = Done::new(alloc);
-        match self.on_event(alloc, event, &mut done) {
+        match self.on_event(alloc, event, known, &mut done) {
             Ok(outcome) => {
                 self.halted = false;
-                Ok(done.into_step(outcome))
+                Ok(done.into_told(outcome))
             }
             Err(NoMemory) => {
                 self.halted = true;

@@ -1,21 +1,22 @@
 //! What a step has sent, executed and installed so far.
 
-ghost use Rattle.mb_core.specs.Lengths.{AreMessageLong};
+ghost use Rattle.mb_core.specs.Lengths.{AreOutgoingLong};
 
 use crate::replica::Replica;
-use mb_base::{Items, NoMemory, Pos};
-use mb_msg::{Message, Outcome, Sent, Slot, Stamped, Step, To, encode, encode_stamped};
+use crate::told::{Outgoing, Said, Told, said_of};
+use mb_base::{Digest, Items, NoMemory, Pos};
+use mb_msg::{Message, Outcome, Slot, Stamped, To, encode, encode_stamped};
 use mb_service::Service;
 use std::alloc::Global;
 
 /// What a step has done so far, oldest first.
 #[derive(Drop)]
 pub(crate) struct Done {
-    pub(crate) sent: Items<Sent>,
+    pub(crate) sent: Items<Outgoing>,
     pub(crate) executed: Items<Slot>,
     /// The position of the state that it installed.
     pub(crate) installed: Option<Pos>,
-    ghost lengths: { AreMessageLong sent },
+    ghost lengths: { AreOutgoingLong sent },
 }
 
 impl Done {
@@ -36,16 +37,16 @@ impl Done {
     }
 
     /// The whole step, with its outcome.
-    pub(crate) fn into_step(self, outcome: Outcome) -> Step
-        ensures lengths { AreMessageLong result.sent }
-        ensures step { result ≡ record { outcome = outcome; sent = self.sent; executed = self.executed; adopted = self.installed } }
+    pub(crate) fn into_told(self, outcome: Outcome) -> Told
+        ensures lengths { AreOutgoingLong result.sent }
+        ensures told { result ≡ record { outcome = outcome; sent = self.sent; executed = self.executed; adopted = self.installed } }
     {
         let Done {
             sent,
             executed,
             installed,
         } = self;
-        Step {
+        Told {
             outcome,
             sent,
             executed,
@@ -53,30 +54,33 @@ impl Done {
         }
     }
 
-    fn push(&mut self, to: To, bytes: Vec<u8>) -> Result<(), NoMemory>
+    fn push(&mut self, to: To, bytes: Vec<u8>, said: Option<Said>) -> Result<(), NoMemory>
         requires length { (1 ≤ length bytes.items) × (length bytes.items ≤ MESSAGE_LIMIT) }
         ensures kept { (self.new.executed ≡ self.old.executed) × (self.new.installed ≡ self.old.installed) }
-        ensures sent { OnOk result (self.new.sent ≡ self.old.sent ++ (record { to = to; bytes = bytes.items }) ∷ []) }
+        ensures sent { OnOk result (self.new.sent ≡ self.old.sent ++ (record { to = to; bytes = bytes.items; said = said }) ∷ []) }
     {
-        self.sent.push(Sent {
+        self.sent.push(Outgoing {
             to,
             bytes: Items::from_vec(bytes),
+            said,
         })?;
         Ok(())
     }
 }
 
 impl<V: Service + Drop> Replica<V> {
-    ghost use Rattle.std.specs.Prelude.{[], ◌∷◌, ◌++◌, ◌≡◌, OnOk};
-    ghost use Rattle.mb_core.specs.Represents.{as_sent, StandsServing};
+    ghost use Rattle.std.specs.Prelude.{[], ◌∷◌, ◌++◌, ◌≡◌, OnOk, None};
+    ghost use Rattle.mb_core.specs.Represents.{StandsServing};
+    ghost use Rattle.mb_core.specs.Told.{as_outgoing};
+    ghost use Rattle.mb_msg.specs.AsStamped.{stamped_digest};
     ghost use Rattle.std.specs.Prelude.{List};
     ghost use Rattle.mb_msg.specs.declared.event.Placed.{Placed};
     ghost use Rattle.mb_msg.specs.Fits.{Fits};
-    ghost use Rattle.mb_msg.specs.Stamps.{as_message};
+    ghost use Rattle.mb_msg.specs.Stamps.{as_message, as_stamped};
     ghost use Rattle.mb_model.specs.Histories.{Identity};
     ghost use Rattle.mb_model.specs.Sending.{Progress, send, to_all};
 
-    /// Sends a message.
+    /// Sends a message that is not stamped.
     pub(crate) fn send(
         &self,
         alloc: Global,
@@ -84,26 +88,31 @@ impl<V: Service + Drop> Replica<V> {
         message: &Message,
         done: &mut Done,
     ) -> Result<(), NoMemory>
-        requires { Fits self.now.agreement.shape message.now }
+        requires fits { Fits self.now.agreement.shape message.now }
+        requires plain { as_stamped message.now ≡ None }
         ensures { (me : Identity V) (x : Progress) (served : List Placed) → StandsServing me self.now done.old served x → OnOk result (StandsServing me self.now done.new served (send (record { to = to; says = message.now }) x)) }
     {
-        done.push(to, encode(alloc, &self.agreement.shape, message)?)
+        done.push(to, encode(alloc, &self.agreement.shape, message)?, None)
     }
 
-    /// Sends a stamped message to all.
+    /// Sends a stamped message to all, with the digest of its body.
     pub(crate) fn send_stamped(
         &self,
         alloc: Global,
         message: &Stamped,
+        body: Digest,
         done: &mut Done,
     ) -> Result<(), NoMemory>
-        requires { Fits self.now.agreement.shape (as_message message.now) }
+        requires fits { Fits self.now.agreement.shape (as_message message.now) }
+        requires body { body ≡ stamped_digest message.now }
         ensures kept { (done.new.executed ≡ done.old.executed) × (done.new.installed ≡ done.old.installed) }
-        ensures sent { OnOk result (done.new.sent ≡ done.old.sent ++ as_sent (to_all (as_message message.now)) ∷ []) }
+        ensures sent { OnOk result (done.new.sent ≡ done.old.sent ++ as_outgoing (to_all (as_message message.now)) ∷ []) }
     {
+        let said = said_of(alloc, &self.agreement.shape, message, body)?;
         done.push(
             To::All,
             encode_stamped(alloc, &self.agreement.shape, message)?,
+            Some(said),
         )
     }
 }

@@ -20,21 +20,24 @@ impl<V: Service + Drop> Replica<V> {
     ghost use Rattle.mb_model.specs.Histories.{Identity, History};
     ghost use Rattle.mb_model.specs.KindChecks.{kind_refusal, stamped_refusal};
     ghost use Rattle.mb_core.specs.Arrivals.{IsArrival};
+    ghost use Rattle.mb_core.specs.Told.{KnowsBody};
     ghost use Rattle.mb_gate.specs.Marks.{is_stamped_kind};
     ghost use Rattle.mb_core.specs.Between.{AwaitsGate, IsNoCommit, LetsPass, GateFollows, GateCloses};
     ghost use Rattle.mb_msg.specs.AsStamped.{stamped_digest};
 
-    /// Gives a stamped message.
+    /// Gives a stamped message, of which the digest of the body may be known.
     pub(crate) fn give_stamped(
         &mut self,
         alloc: Global,
         message: Stamped,
+        known: &Option<Digest>,
     ) -> Result<Outcome, NoMemory>
         requires fits { FitsStamped self.old.agreement.shape message }
         requires stands { HasHistory self.old }
+        requires known { KnowsBody known.now message }
         ensures { (me : Identity V) (x : Progress) → (done : Done) → StandsAt me self.old done x → IfOk result (λ o. (o ≡ (give_stamped me message x).outcome) × StandsAt me self.new done (give_stamped me message x).left) }
     {
-        let arrival = Arrival::of(alloc, &self.agreement.shape, message)?;
+        let arrival = Arrival::of(alloc, &self.agreement.shape, message, known)?;
         match self.stamped_refusal(alloc, &arrival)? {
             None => {
                 self.accept(alloc, arrival)?;

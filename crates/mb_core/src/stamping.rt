@@ -42,7 +42,8 @@ impl<V: Service + Drop> Replica<V> {
     ghost use Rattle.mb_steps.proofs.StepArises.{Adds};
     ghost use Rattle.mb_searches.specs.Sound.{IsSound};
     ghost use Rattle.mb_standing.specs.Stands.{GatesStand};
-    ghost use Rattle.mb_core.specs.Represents.{IsHost, as_sent, Represents};
+    ghost use Rattle.mb_core.specs.Represents.{IsHost, Represents};
+    ghost use Rattle.mb_core.specs.Told.{as_outgoing};
     ghost use Rattle.mb_core.specs.Between.{WritesCounter, WritesStamp};
     ghost use Rattle.mb_core.specs.Signed.{IsSigned};
 
@@ -111,13 +112,13 @@ impl<V: Service + Drop> Replica<V> {
         requires room { has_room_for self.old.agreement.log (stamped_kind message) ≡ true }
         requires fits { Fits self.old.agreement.shape (as_message message) }
         requires body { body ≡ stamped_digest message }
-        ensures sent { OnOk result (done.new.sent ≡ done.old.sent ++ as_sent (to_all (as_message message)) ∷ []) }
+        ensures sent { OnOk result (done.new.sent ≡ done.old.sent ++ as_outgoing (to_all (as_message message)) ∷ []) }
         ensures kept { (done.new.executed ≡ done.old.executed) × (done.new.installed ≡ done.old.installed) }
         ensures log { OnOk result (self.new.agreement.log ≡ appended message self.old.agreement.log) }
         ensures gates { (me : Identity V) (d : History) → IsHost me self.old → IsSound me d → Adds me d (StampedEntry message) → GatesStand me self.old.agreement.gates.items d → OnOk result (GatesStand me self.new.agreement.gates.items (StampedEntry message ∷ d)) }
         ensures writes { OnOk result (WritesStamp self.old self.new) }
     {
-        self.send_stamped(alloc, &message, done)?;
+        self.send_stamped(alloc, &message, body, done)?;
         self.gate_follows(self.agreement.host, &message.mark());
         self.agreement.log.append_with(message, body);
         Ok(())

@@ -1,8 +1,10 @@
--- One more request that was asked, among those with its tag; and a request was asked where one with its bytes was.
-use Rattle.std.proofs.Common.{◌≡◌, Bool, true, false, cond, ◌&&◌, ◌||◌, ◌==◌, List, [], ◌∷◌, ◌++◌, Option, Some, unwrap_or, refl, sym, ap, ◌∙◌, inl, inr}
+-- One more request that was asked, among those of which the tag begins as its own; and a request was asked where one with its bytes was.
+use Rattle.std.proofs.Common.{◌≡◌, ℕ, Ordering, Less, Equal, Greater, Bool, true, false, cond, ◌&&◌, ◌||◌, ◌==◌, List, [], ◌∷◌, ◌++◌, Option, Some, unwrap_or, refl, sym, ap, ◌∙◌, inl, inr}
 use Rattle.std.specs.List.{list_any, AllByRecursion}
 use Rattle.std.specs.Ordering.{is_eq, nat_cmp}
-use Rattle.std.specs.Cmp.Lexicographic.{slice_cmp, texts_ties, bytes_decides}
+use Rattle.std.specs.Cmp.Lexicographic.{bytes_decides}
+use Rattle.std.specs.Cmp.{nat_cmp_is}
+use Rattle.std.specs.FinMap.{nat_cmp-IsAntisymmetric}
 use Rattle.std.proofs.lemmas.Bool.{cases_Bool, and_parts, eqb-true, eq-eqb}
 use Rattle.std.proofs.lemmas.List.Folds.{list_any-append}
 use Rattle.mb_base.specs.declared.shape.Shape.{Shape}
@@ -12,7 +14,7 @@ use Rattle.mb_parts.specs.declared.request.Request.{Request}
 use Rattle.mb_parts.specs.Fits.{FitsRequest}
 use Rattle.mb_parts.specs.Spelling.{request_bytes}
 use Rattle.mb_msg.proofs.Injective.{request_injective}
-use Rattle.mb_forged.specs.Asked.{is_same}
+use Rattle.mb_forged.specs.Asked.{first_number, is_same}
 
 never_so : (a b c : Bool) → (a && (b && (c && false))) ≡ false
 never_so true true true = refl
@@ -26,27 +28,49 @@ last_first true false = refl
 last_first false true = refl
 last_first false false = refl
 
--- Requests with different tags differ.
-differ : (q r : Request) → is_eq (slice_cmp nat_cmp q.tag r.tag) ≡ false → is_same q r ≡ false
-differ q r other = ap (λ b. q.client == r.client && (q.seq == r.seq && (same_bytes q.op r.op && b))) (texts_ties q.tag r.tag ∙ other) ∙ never_so (q.client == r.client) (q.seq == r.seq) (same_bytes q.op r.op)
+tied : (o : Ordering) → is_eq o ≡ true → o ≡ Equal
+tied Less e = absurd cc
+tied Equal e = refl
+tied Greater e = absurd cc
+
+same_number : (a b : ℕ) → is_eq (nat_cmp a b) ≡ true → a ≡ b
+same_number a b e = nat_cmp-IsAntisymmetric a b (tied (nat_cmp a b) e)
+
+-- Tags that begin otherwise differ.
+other_tags : (a b : Bytes) → is_eq (nat_cmp (first_number a) (first_number b)) ≡ false → same_bytes a b ≡ false
+other_tags a b other = elim (cases_Bool (same_bytes a b)) [
+  | inl same ↦
+      let numbers : first_number a ≡ first_number b = ap first_number ((bytes_decides a b).0 same) in
+      absurd (true_false (ap is_eq (nat_cmp_is (first_number a) (first_number b) Equal numbers) ∙ other))
+  | inr differs ↦ differs
+] where
+  true_false : true ≡ false → ⊥
+  true_false e = cc
+
+-- So do their requests.
+differ : (q r : Request) → is_eq (nat_cmp (first_number q.tag) (first_number r.tag)) ≡ false → is_same q r ≡ false
+differ q r other = ap (λ b. q.client == r.client && (q.seq == r.seq && (same_bytes q.op r.op && b))) (other_tags q.tag r.tag other) ∙ never_so (q.client == r.client) (q.seq == r.seq) (same_bytes q.op r.op)
 
 -- those of a look-up
 abbrev pub those : Option (List Request) → List Request
 those o = unwrap_or o []
 
--- the look-ups in the table before and behind
-module _ (old new : Bytes → Option (List Request)) (q : Request)
-    (set : (tag : Bytes) → new tag ≡ cond (is_eq (slice_cmp nat_cmp q.tag tag)) (Some (those (old q.tag) ++ q ∷ [])) (old tag)) where
-  pub has_one_more : (asked : List Request) (r : Request) → list_any (λ x. is_same x r) (those (old r.tag)) ≡ list_any (λ x. is_same x r) asked
-      → list_any (λ x. is_same x r) (those (new r.tag)) ≡ (is_same q r || list_any (λ x. is_same x r) asked)
-  has_one_more asked r was = elim (cases_Bool (is_eq (slice_cmp nat_cmp q.tag r.tag))) [
+-- the look-ups in the table before and behind, where this is the number with which the tag begins
+module _ (old new : ℕ → Option (List Request)) (q : Request) (own : ℕ) (is : own ≡ first_number q.tag)
+    (set : (n : ℕ) → new n ≡ cond (is_eq (nat_cmp own n)) (Some (those (old own) ++ q ∷ [])) (old n)) where
+  pub has_one_more : (asked : List Request) (r : Request) → list_any (λ x. is_same x r) (those (old (first_number r.tag))) ≡ list_any (λ x. is_same x r) asked
+      → list_any (λ x. is_same x r) (those (new (first_number r.tag))) ≡ (is_same q r || list_any (λ x. is_same x r) asked)
+  has_one_more asked r was = elim (cases_Bool (is_eq (nat_cmp own (first_number r.tag)))) [
     | inl same ↦
-        let tag : q.tag ≡ r.tag = (bytes_decides q.tag r.tag).0 (texts_ties q.tag r.tag ∙ same) in
-        let now : those (new r.tag) ≡ those (old r.tag) ++ q ∷ [] = ap those (set r.tag ∙ ap (λ b. cond b (Some (those (old q.tag) ++ q ∷ [])) (old r.tag)) same) ∙ ap (λ t. those (old t) ++ q ∷ []) tag in
-        ap (list_any (λ x. is_same x r)) now ∙ list_any-append (λ x. is_same x r) (those (old r.tag)) (q ∷ []) ∙ last_first (is_same q r) (list_any (λ x. is_same x r) (those (old r.tag))) ∙ ap (λ b. is_same q r || b) was
+        let sought : ℕ = first_number r.tag in
+        let number : own ≡ sought = same_number own sought same in
+        let now : those (new sought) ≡ those (old sought) ++ q ∷ [] = ap those (set sought ∙ ap (λ b. cond b (Some (those (old own) ++ q ∷ [])) (old sought)) same) ∙ ap (λ n. those (old n) ++ q ∷ []) number in
+        ap (list_any (λ x. is_same x r)) now ∙ list_any-append (λ x. is_same x r) (those (old sought)) (q ∷ []) ∙ last_first (is_same q r) (list_any (λ x. is_same x r) (those (old sought))) ∙ ap (λ b. is_same q r || b) was
     | inr other ↦
-        let now : those (new r.tag) ≡ those (old r.tag) = ap those (set r.tag ∙ ap (λ b. cond b (Some (those (old q.tag) ++ q ∷ [])) (old r.tag)) other) in
-        ap (list_any (λ x. is_same x r)) now ∙ was ∙ ap (λ b. b || list_any (λ x. is_same x r) asked) (sym (differ q r other))
+        let sought : ℕ = first_number r.tag in
+        let now : those (new sought) ≡ those (old sought) = ap those (set sought ∙ ap (λ b. cond b (Some (those (old own) ++ q ∷ [])) (old sought)) other) in
+        let differs : is_same q r ≡ false = differ q r (ap (λ n. is_eq (nat_cmp n sought)) (sym is) ∙ other) in
+        ap (list_any (λ x. is_same x r)) now ∙ was ∙ ap (λ b. b || list_any (λ x. is_same x r) asked) (sym differs)
   ]
 
 -- ---- the same requests have the same bytes

@@ -1,8 +1,8 @@
 -- The requests that clients asked, by their tags.
-use Rattle.std.specs.Prelude.{◌≡◌, Bool, ◌&&◌, ◌==◌, List, [], unwrap_or}
-use Rattle.std.specs.List.{list_any}
+use Rattle.std.specs.Prelude.{◌≡◌, ℕ, Bool, ◌&&◌, ◌==◌, List, [], ◌∷◌, unwrap_or}
+use Rattle.std.specs.Int.{w64, from_be_bytes}
+use Rattle.std.specs.List.{list_any, slice_index}
 use Rattle.std.specs.Ordering.{nat_cmp}
-use Rattle.std.specs.Cmp.Lexicographic.{slice_cmp}
 use Rattle.std.specs.BTreeMap.{BTreeMap, get}
 use Rattle.mb_base.specs.Shapes.{Bytes}
 use Rattle.mb_usig.specs.Tags.{same_bytes}
@@ -13,10 +13,14 @@ use Rattle.mb_forged.specs.declared.asked.Asked.{Asked}
 abbrev pub is_same : Request → Request → Bool
 is_same q r = q.client == r.client && (q.seq == r.seq && (same_bytes q.op r.op && same_bytes q.tag r.tag))
 
--- those with this tag
-abbrev pub with_tag : BTreeMap Bytes (List Request) → Bytes → List Request
-with_tag asked tag = unwrap_or (get (slice_cmp nat_cmp) asked tag) []
+-- the first eight bytes of a tag, as a number
+abbrev pub first_number : Bytes → ℕ
+first_number tag = from_be_bytes w64 (slice_index tag 0 ∷ slice_index tag 1 ∷ slice_index tag 2 ∷ slice_index tag 3 ∷ slice_index tag 4 ∷ slice_index tag 5 ∷ slice_index tag 6 ∷ slice_index tag 7 ∷ [])
 
--- Each of these requests, and no other, stands beside those with its tag.
+-- those of which the tag begins as this one
+abbrev pub with_tag : BTreeMap ℕ (List Request) → Bytes → List Request
+with_tag asked tag = unwrap_or (get nat_cmp asked (first_number tag)) []
+
+-- Each of these requests, and no other, stands beside those of which the tag begins as its own.
 abbrev pub HoldsAsked : Asked → List Request → Type 0
 HoldsAsked a requests = (r : Request) → list_any (λ q. is_same q r) (with_tag a.by_tag r.tag) ≡ list_any (λ q. is_same q r) requests

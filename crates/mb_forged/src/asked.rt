@@ -1,15 +1,18 @@
 //! The requests that clients asked, found by their tags.
 
-use mb_base::{Digest, Duplicate, Items, NoMemory};
+ghost use Rattle.std.specs.Prelude.{◌≡◌};
+ghost use Rattle.mb_forged.specs.Asked.{first_number};
+
+use mb_base::{Digest, Items, NoMemory};
 use mb_msg::Request;
 use std::alloc::Global;
 use std::collections::BTreeMap;
 
-/// The requests that clients asked, by their tags. Different requests hardly share one, and hardly its first bytes, so that a look-up compares
-/// little.
+/// The requests that clients asked, by the first bytes of their tags. Different requests hardly share these, so that a look-up compares one request.
 #[derive(Drop)]
 pub struct Asked {
-    by_tag: BTreeMap<Digest, Items<Request>>,
+    /// By the first eight bytes of their tags, as a number.
+    by_tag: BTreeMap<u64, Items<Request>>,
 }
 
 impl Asked {
@@ -31,7 +34,10 @@ impl Asked {
     pub(crate) fn note(&mut self, alloc: Global, request: Request) -> Result<(), NoMemory>
         ensures { (asked : List RequestRecord) → HoldsAsked self.old asked → OnOk result (HoldsAsked self.new (request ∷ asked)) }
     {
-        let same_tag = self.by_tag.entry(request.tag)?.or_insert(Items::new(alloc));
+        let same_tag = self
+            .by_tag
+            .entry(first_number(&request.tag))?
+            .or_insert(Items::new(alloc));
         same_tag.push(request)?;
         Ok(())
     }
@@ -40,9 +46,18 @@ impl Asked {
     pub(crate) fn has(&self, request: &Request) -> bool
         ensures { (asked : List RequestRecord) → HoldsAsked self.now asked → result ≡ list_any (λ q. is_same q request.now) asked }
     {
-        match self.by_tag.get(&request.tag) {
+        match self.by_tag.get(&first_number(&request.tag)) {
             Some(same_tag) => same_tag.as_slice().contains(request),
             None => false,
         }
     }
+}
+
+/// The first eight bytes of a tag, as a number.
+fn first_number(tag: &Digest) -> u64
+    ensures { result ≡ first_number tag.now }
+{
+    u64::from_be_bytes([
+        tag[0], tag[1], tag[2], tag[3], tag[4], tag[5], tag[6], tag[7],
+    ])
 }

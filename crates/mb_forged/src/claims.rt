@@ -6,7 +6,8 @@ ghost use Rattle.mb_parts.specs.Claims.{stable_claims, floor_claims, evidence_cl
 ghost use Rattle.mb_parts.specs.Fits.{FitsStable, FitsFloorCert, FitsFloors, FitsEvidence};
 ghost use Rattle.mb_parts.specs.Spelling.{batch_bytes};
 ghost use Rattle.mb_msg.specs.Bodies.{FitsBody, body_digest, inside_whole};
-ghost use Rattle.mb_msg.specs.Stamps.{as_stamped, ui_of as uis, ui_of_shown, bare_of as says, bare_of_shown};
+ghost use Rattle.mb_msg.specs.AsStamped.{stamped_digest};
+ghost use Rattle.mb_msg.specs.Stamps.{as_message, as_stamped, ui_of as uis, ui_of_shown, bare_of as says, bare_of_shown};
 ghost use Rattle.mb_msg.specs.Fits.{FitsFields, FitsStamped, FitsShown, FitsCommit, FitsOpen, FitsJoin, FitsChangeBody, FitsViewChange, FitsNewViewBody, FitsLog};
 ghost use Rattle.mb_model.specs.Compared.{inside_some};
 ghost use Rattle.mb_sched.specs.declared.schedule.Schedule.{Schedule};
@@ -184,7 +185,16 @@ impl<'a> Checker<'a> {
         requires { FitsStamped self.now.shape.now m.now }
         ensures { (s : Schedule) (w : World) → AsksIn s w self.now → IfOk result (λ o. o ≡ first_forged s w (sender_claim (uis m.now) (says m.now) ∷ [])) }
     {
-        let bare = m.bare(alloc, self.shape)?;
+        let body = m.body_digest(alloc, self.shape)?;
+        self.sender_of_body(alloc, m, &body)
+    }
+
+    /// The same, of which the body has this digest.
+    fn sender_of_body(&self, alloc: Global, m: &Stamped, body: &Digest) -> Found
+        requires { FitsStamped self.now.shape.now m.now × (body.now ≡ stamped_digest m.now) }
+        ensures { (s : Schedule) (w : World) → AsksIn s w self.now → IfOk result (λ o. o ≡ first_forged s w (sender_claim (uis m.now) (says m.now) ∷ [])) }
+    {
+        let bare = m.bare_with(alloc, self.shape, body)?;
         Ok(self.forged(&m.ui(), bare.as_slice()))
     }
 
@@ -210,10 +220,18 @@ impl<'a> Checker<'a> {
         ensures { (s : Schedule) (w : World) → AsksIn s w self.now → IfOk result (λ o. o ≡ first_forged s w (commit_claims s.shape m.now)) }
     {
         let batch = m.body.batch_digest();
-        if let Some(found) = self.named_by(alloc, m, &batch)? {
+        self.in_commit_of(alloc, m, &batch)
+    }
+
+    /// The same, of which the batch has this digest.
+    fn in_commit_of(&self, alloc: Global, m: &Commit, batch: &Digest) -> Found
+        requires { FitsCommit self.now.shape.now m.now × (batch.now ≡ body_digest batch_bytes m.now.body) }
+        ensures { (s : Schedule) (w : World) → AsksIn s w self.now → IfOk result (λ o. o ≡ first_forged s w (commit_claims s.shape m.now)) }
+    {
+        if let Some(found) = self.named_by(alloc, m, batch)? {
             return Ok(Some(found));
         }
-        let bare = commit_bare(alloc, m.view, m.pos, m.counter, &m.cert, &batch)?;
+        let bare = commit_bare(alloc, m.view, m.pos, m.counter, &m.cert, batch)?;
         Ok(self.forged(&m.ui, bare.as_slice()))
     }
 
@@ -358,13 +376,22 @@ impl<'a> Checker<'a> {
         requires { FitsStamped self.now.shape.now m.now }
         ensures { (s : Schedule) (w : World) → AsksIn s w self.now → IfOk result (λ o. o ≡ first_forged s w (stamped_claims s.shape m.now)) }
     {
+        let body = m.body_digest(alloc, self.shape)?;
+        self.in_stamped_of(alloc, m, &body)
+    }
+
+    /// The same, of which the body has this digest.
+    fn in_stamped_of(&self, alloc: Global, m: &Stamped, body: &Digest) -> Found
+        requires { FitsStamped self.now.shape.now m.now × (body.now ≡ stamped_digest m.now) }
+        ensures { (s : Schedule) (w : World) → AsksIn s w self.now → IfOk result (λ o. o ≡ first_forged s w (stamped_claims s.shape m.now)) }
+    {
         if let Stamped::Commit(m) = m {
-            return self.in_commit(alloc, m);
+            return self.in_commit_of(alloc, m, body);
         }
         if let Some(found) = self.inside_stamped(alloc, m)? {
             return Ok(Some(found));
         }
-        self.sender_of_stamped(alloc, m)
+        self.sender_of_body(alloc, m, body)
     }
 
     // ---- in any message
@@ -406,6 +433,18 @@ impl<'a> Checker<'a> {
             Message::Log(m) => self.in_log(alloc, m),
             Message::Commit(m) => self.in_commit(alloc, m),
             _ => self.in_other(alloc, message),
+        }
+    }
+
+    /// The first forged certificate of a stamped message, in the order of its bytes. The digest of its body may be known.
+    pub fn forged_in(&self, alloc: Global, m: &Stamped, known: &Option<Digest>) -> Found
+        requires fits { FitsStamped self.now.shape.now m.now }
+        requires known { IfSome known.now (λ k. k ≡ stamped_digest m.now) }
+        ensures { (s : Schedule) (w : World) → AsksIn s w self.now → IfOk result (λ o. o ≡ option_map told (forged_claim s w (as_message m.now))) }
+    {
+        match known {
+            Some(body) => self.in_stamped_of(alloc, m, body),
+            None => self.in_stamped(alloc, m),
         }
     }
 

@@ -1,13 +1,23 @@
 -- What was made stays made, so where nothing was forged nothing is.
-use Rattle.std.proofs.Common.{◌≡◌, ℕ, zero, suc, Bool, true, false, List, [], ◌∷◌, ◌++◌, Option, Some, None, refl, sym, ap, subst, ◌∙◌, inl, inr, append_assoc}
-use Rattle.std.specs.Prelude.{fold, is_some, option_map, option_and_then, slice_get, unwrap_or, ◌⊎◌}
+use Rattle.std.proofs.Common.{◌≡◌, ℕ, zero, suc, ◌+◌, ◌-◌, ◌≤◌, Bool, true, false, List, [], ◌∷◌, ◌++◌, length, map, replicate, set, take, Option, Some, None, Ok, IfSome, arith, refl, sym, ap, subst, ◌∙◌, inl, inr, append_assoc}
+use Rattle.std.specs.Prelude.{fold, is_some, option_map, option_and_then, slice_get, ◌⊎◌}
 use Rattle.std.specs.Bool.{then_some}
 use Rattle.std.specs.Option.{option_or}
 use Rattle.std.proofs.lemmas.List.{append-nil}
 use Rattle.std.proofs.lemmas.Bool.{cases_eq}
+use Rattle.std.proofs.lemmas.Option.{same_Some}
 use Rattle.mb_base.specs.Shapes.{Bytes}
+use Rattle.mb_parts.specs.Bares.{bare_bytes}
 use Rattle.mb_msg.specs.declared.message.Message.{Message}
+use Rattle.mb_msg.specs.declared.stamped.Stamped.{Stamped}
+use Rattle.mb_msg.specs.AsStamped.{stamped_digest}
+use Rattle.mb_msg.specs.Fits.{Fits}
+use Rattle.mb_msg.specs.Signed.{covered}
+use Rattle.mb_msg.specs.Spelling.{spelling}
+use Rattle.mb_msg.specs.Stamps.{as_stamped, bare_of}
+use Rattle.mb_msg.proofs.Messages.{message_again}
 use Rattle.mb_model.specs.Sending.{Letter}
+use Rattle.mb_model.proofs.ShapesFit.{shape_fits}
 use Rattle.mb_sched.specs.declared.schedule.Schedule.{Schedule}
 use Rattle.mb_sched.specs.declared.schedule.WorldEvent.{WorldEvent}
 use Rattle.mb_sched.specs.declared.schedule.WorldEvent.TheVariants.{Give, Take}
@@ -19,7 +29,10 @@ use Rattle.mb_theory.proofs.Lists.{get_more}
 use Rattle.mb_forged.specs.Checks.{IsClean, MadeMore}
 use Rattle.mb_forged.proofs.CleanLaws.{clean_stays}
 use Rattle.mb_world.specs.Contents.{found_in}
-use Rattle.mb_world.specs.Marks.{IsCleanAt, AreClean}
+use Rattle.mb_core.specs.Told.{KnowsBytes, as_outgoing, said_of}
+use Rattle.mb_world.specs.declared.marks.Mark.{Mark}
+use Rattle.mb_world.specs.Marks.{IsBodyAt, IsCleanAt, IsMarkAt, AreMarks, MarkedMore, lengthened, made_mark, mark_at, unmarked}
+use Rattle.mb_world.specs.Stamps.{FitsWhereStamped, IsReadable}
 use Rattle.mb_world.proofs.ListLaws.{some_is, update_here, update_there}
 use Rattle.mb_world.proofs.StopLaws.{or_none, given_there, taken_there}
 
@@ -65,32 +78,158 @@ numbered_more : (pool more : List Bytes) (n : ℕ) (bytes : Bytes) → numbered 
 numbered_more pool more zero bytes e = absurd cc
 numbered_more pool more (suc n) bytes e = get_more pool more n bytes e
 
--- Each mark stays right.
-pub still_clean : (s : Schedule) (x z : WorldState) (marks : List Bool) → GoesOn s x z → AreClean s x marks → AreClean s z marks
-still_clean s x z marks on clean = λ n is.
-    let one = clean n is in
+if_some_more : (o : Option Bytes) (P Q : Bytes → Type 0) → ((b : Bytes) → P b → Q b) → IfSome o P → IfSome o Q
+if_some_more None P Q more h = tt
+if_some_more (Some b) P Q more h = more b h
+
+-- What each mark says stays so.
+pub still_marked : (s : Schedule) (x z : WorldState) (marks : List Mark) → GoesOn s x z → AreMarks s x marks → AreMarks s z marks
+still_marked s x z marks on are = λ n.
+    let before = are n in
     record {
-      bytes = one.bytes;
-      made = ap (λ (p : List Bytes). numbered p n) on.pool.1 ∙ numbered_more x.pool on.pool.0 n one.bytes one.made;
-      clean = λ m reads. clean_stays s x z m on.made (one.clean m reads);
+      clean = λ is.
+          let one = before.clean is in
+          record {
+            bytes = one.bytes;
+            made = ap (λ (p : List Bytes). numbered p n) on.pool.1 ∙ numbered_more x.pool on.pool.0 n one.bytes one.made;
+            clean = λ m reads. clean_stays s x z m on.made (one.clean m reads);
+          };
+      body = if_some_more (mark_at marks n).body (IsBodyAt s x n) (IsBodyAt s z n) (λ b one. record {
+        bytes = one.bytes;
+        made = ap (λ (p : List Bytes). numbered p n) on.pool.1 ∙ numbered_more x.pool on.pool.0 n one.bytes one.made;
+        knows = one.knows;
+      }) before.body;
     }
 
-pub none_marked : (s : Schedule) (x : WorldState) (marks : List Bool) → marks ≡ [] → AreClean s x marks
-none_marked s x marks none = λ n is. absurd (unmarked n (rw none at is)) where
-  unmarked : (n : ℕ) → slice_get [] n ≡ Some true → ⊥
-  unmarked n e = cc
+none_at : (n : ℕ) → mark_at [] n ≡ unmarked
+none_at zero = refl
+none_at (suc n) = refl
 
--- One number more has a mark.
-pub marked_more : (s : Schedule) (x : WorldState) (old new : List Bool) (number : ℕ) → ((n : ℕ) → slice_get new n ≡ Some true → (n ≡ number) ⊎ (slice_get old n ≡ Some true)) → IsCleanAt s x number → AreClean s x old → AreClean s x new
-marked_more s x old new number one is clean = λ n marked. elim (one n marked) [
-  | inl same ↦ rw same is
-  | inr before ↦ clean n before
+nothing_said : (s : Schedule) (x : WorldState) (n : ℕ) → IsMarkAt s x n unmarked
+nothing_said s x n = record { clean = λ e. absurd cc; body = tt }
+
+pub none_marked : (s : Schedule) (x : WorldState) (marks : List Mark) → marks ≡ [] → AreMarks s x marks
+none_marked s x marks none = λ n. rw (none, none_at n) (nothing_said s x n)
+
+-- One message more was looked through.
+pub marked_more : (s : Schedule) (x : WorldState) (old new : List Mark) (number : ℕ) → ((n : ℕ) → MarkedMore old new number n) → IsCleanAt s x number → AreMarks s x old → AreMarks s x new
+marked_more s x old new number more is are = λ n. record {
+  clean = λ marked. elim ((more n).clean marked) [
+    | inl same ↦ rw same is
+    | inr before ↦ (are n).clean before
+  ];
+  body = rw (more n).body (are n).body;
+}
+
+-- ---- longer lists of marks
+
+blank_at : (j n : ℕ) → mark_at (replicate j unmarked) n ≡ unmarked
+blank_at zero n = none_at n
+blank_at (suc j) zero = refl
+blank_at (suc j) (suc n) = blank_at j n
+
+blanks_behind : (marks : List Mark) (j n : ℕ) → mark_at (marks ++ replicate j unmarked) n ≡ mark_at marks n
+blanks_behind [] j n = blank_at j n ∙ sym (none_at n)
+blanks_behind (m ∷ marks) j zero = refl
+blanks_behind (m ∷ marks) j (suc n) = blanks_behind marks j n
+
+-- Marks that say nothing change none.
+pub lengthened_at : (marks : List Mark) (count n : ℕ) → mark_at (lengthened marks count) n ≡ mark_at marks n
+lengthened_at marks count n = blanks_behind marks (count - length marks) n
+
+pub marked_set : (marks : List Mark) (i : ℕ) (m : Mark) → slice_get marks i ≡ Some m → (n : ℕ) → MarkedMore marks (set marks i (record m { clean = true })) i n
+marked_set [] i m e n = absurd cc
+marked_set (x ∷ marks) zero m e zero = record { body = ap (λ (k : Mark). k.body) (sym (same_Some x m e)); clean = λ is. inl refl }
+marked_set (x ∷ marks) zero m e (suc n) = record { body = refl; clean = λ is. inr is }
+marked_set (x ∷ marks) (suc i) m e zero = record { body = refl; clean = λ is. inr is }
+marked_set (x ∷ marks) (suc i) m e (suc n) =
+    let more = marked_set marks i m e n in
+    record { body = more.body; clean = λ is. elim (more.clean is) [ inl same ↦ inl (ap suc same) | inr before ↦ inr before ] }
+
+-- the same of a longer list
+pub marked_longer : (old new : List Mark) (count number : ℕ) → ((n : ℕ) → MarkedMore (lengthened old count) new number n) → (n : ℕ) → MarkedMore old new number n
+marked_longer old new count number more n =
+    let one = more n in
+    let same = lengthened_at old count n in
+    record {
+      body = one.body ∙ ap (λ (k : Mark). k.body) same;
+      clean = λ is. elim (one.clean is) [ inl here ↦ inl here | inr before ↦ inr (sym (ap (λ (k : Mark). k.clean) same) ∙ before) ];
+    }
+
+pub unmarked_more : (marks : List Mark) (number n : ℕ) → MarkedMore marks marks number n
+unmarked_more marks number n = record { body = refl; clean = λ is. inr is }
+
+-- ---- what a correct host sent
+
+-- Of what it sent, as bytes with what was stamped.
+abbrev made_marks : List Letter → List Mark
+made_marks letters = map made_mark (map as_outgoing letters)
+
+-- A mark in front of so many is as it was, and one behind them that of what was sent.
+data Either (marks behind : List Mark) (count n : ℕ) (mark : Mark) : Type 0 where
+  before : mark ≡ mark_at marks n → Either marks behind count n mark
+  after : (k : ℕ) → n ≡ count + k → mark ≡ mark_at behind k → Either marks behind count n mark
+
+-- so many marks, however many there are
+one_of : (marks behind : List Mark) (count j n : ℕ) → count ≤ length marks + j → Either marks behind count n (mark_at (take count (marks ++ replicate j unmarked) ++ behind) n)
+one_of marks behind zero j n le = after n refl refl
+one_of [] behind (suc c) zero n le = absurd (omega (arith, le))
+one_of [] behind (suc c) (suc j) zero le = before refl
+one_of [] behind (suc c) (suc j) (suc n) le = elim (one_of [] behind c j n (omega (arith, le))) [
+  | before is ↦ before (is ∙ none_at n)
+  | after k at is ↦ after k (ap suc at) is
+]
+one_of (m ∷ marks) behind (suc c) j zero le = before refl
+one_of (m ∷ marks) behind (suc c) j (suc n) le = elim (one_of marks behind c j n (omega (arith, le))) [
+  | before is ↦ before is
+  | after k at is ↦ after k (ap suc at) is
 ]
 
-pub mark_there : (o : Option Bool) → unwrap_or o false ≡ true → o ≡ Some true
-mark_there None e = absurd cc
-mark_there (Some true) e = refl
-mark_there (Some false) e = absurd cc
+sent_at : (s : Schedule) (pool : List Bytes) (letters : List Letter) (k : ℕ) → slice_get (pool ++ map (λ (l : Letter). spelling l.says) letters) (length pool + k) ≡ slice_get (map (λ (l : Letter). spelling l.says) letters) k
+sent_at s [] letters k = refl
+sent_at s (b ∷ pool) letters k = sent_at s pool letters k
+
+module _ (s : Schedule) where
+  -- The digest of what was stamped is that of the message that its bytes are.
+  knows_sent : (m : Message) → IfSome (covered m) (λ bare. Fits s.shape m) → (st : Stamped) → as_stamped m ≡ Some st → KnowsBytes s.shape (Some (stamped_digest st)) (spelling m)
+  knows_sent m readable st is = λ read reads other stamped.
+      let fits : Fits s.shape m = subst (λ (o : Option Stamped). IfSome (option_map (λ (k : Stamped). bare_bytes (bare_of k)) o) (λ bare. Fits s.shape m)) is readable in
+      let same : m ≡ read = ok_is m read (sym (message_again s.shape (shape_fits s.shape) m fits) ∙ reads) in
+      ap stamped_digest (same_Some st other (sym is ∙ (ap as_stamped same ∙ stamped)))
+  where
+    ok_is : (a b : Message) → Ok a ≡ Ok b → a ≡ b
+    ok_is a b e = cc
+
+  -- what is said of one letter
+  one_said : (x : WorldState) (n : ℕ) (l : Letter) → IsReadable s.shape l → numbered x.pool n ≡ Some (spelling l.says) → IsMarkAt s x n (made_mark (as_outgoing l))
+  one_said x n l readable made = record { clean = λ e. absurd cc; body = body_said (as_stamped l.says) refl } where
+    body_said : (o : Option Stamped) → as_stamped l.says ≡ o → IfSome (option_map (λ said. said.body) (option_map said_of o)) (IsBodyAt s x n)
+    body_said None e = tt
+    body_said (Some st) e = record { bytes = spelling l.says; made = made; knows = knows_sent l.says readable st e }
+
+  letters_said : (x : WorldState) (count : ℕ) (letters : List Letter) → FitsWhereStamped s.shape letters
+      → ((k : ℕ) (b : Bytes) → slice_get (map (λ (l : Letter). spelling l.says) letters) k ≡ Some b → numbered x.pool (count + k) ≡ Some b) → (k : ℕ) → IsMarkAt s x (count + k) (mark_at (made_marks letters) k)
+  letters_said x count [] fit there k = rw (none_at k) (nothing_said s x (count + k))
+  letters_said x count (l ∷ letters) fit there zero = one_said x (count + 0) l fit.0 (there 0 (spelling l.says) refl)
+  letters_said x count (l ∷ letters) fit there (suc k) =
+      let step : (count + 1) + k ≡ count + suc k = omega arith in
+      subst (λ (n : ℕ). IsMarkAt s x n (mark_at (made_marks letters) k)) step
+      (letters_said x (count + 1) letters fit.1 (λ i b at. subst (λ (n : ℕ). numbered x.pool n ≡ Some b) (omega arith) (there (suc i) b at)) k)
+
+  -- The marks behind a step.
+  pub marks_sent : (x z : WorldState) (marks new : List Mark) (letters : List Letter) (count : ℕ) → AreMarks s x marks → GoesOn s x z → FitsWhereStamped s.shape letters → z.pool ≡ x.pool ++ map (λ (l : Letter). spelling l.says) letters
+      → count ≡ length x.pool + 1 → new ≡ take count (lengthened marks count) ++ made_marks letters → AreMarks s z new
+  marks_sent x z marks new letters count are on fit pool many is = λ n.
+      let still = still_marked s x z marks on are in
+      rw is (elim (one_of marks (made_marks letters) count (count - length marks) n (omega arith)) [
+        | before same ↦ rw same (still n)
+        | after k at same ↦ rw (same, at) (letters_said z count letters fit (λ i b there. in_pool i b there) k)
+      ])
+  where
+    in_pool : (i : ℕ) (b : Bytes) → slice_get (map (λ (l : Letter). spelling l.says) letters) i ≡ Some b → numbered z.pool (count + i) ≡ Some b
+    in_pool i b there =
+        let at : count + i ≡ suc (length x.pool + i) = omega (arith, many) in
+        rw (at, pool) (sent_at s x.pool letters i ∙ there)
 
 -- ---- what is told where a message was looked through
 

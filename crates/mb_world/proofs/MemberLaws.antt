@@ -4,14 +4,14 @@ use Rattle.std.specs.List.{slice_get}
 use Rattle.mb_base.specs.Shapes.{Bytes, IsShape, host_count}
 use Rattle.mb_base.specs.declared.shape.Shape.{Shape}
 use Rattle.mb_msg.specs.declared.event.Event.{Event}
-use Rattle.mb_msg.specs.declared.event.Step.{Step}
+use Rattle.mb_core.specs.declared.told.Told.{Told}
 use Rattle.mb_model.specs.Histories.{History, Identity}
 use Rattle.mb_model.specs.HostStep.{transition}
 use Rattle.mb_steps.proofs.StepArises.{IsWhole}
 use Rattle.mb_searches.specs.Sound.{IsSound}
 use Rattle.mb_sched.specs.Limits.{is_faulty}
 use Rattle.mb_core.specs.declared.replica.Replica.{Replica}
-use Rattle.mb_core.specs.Represents.{Represents, IsHost, IsStep, Serves}
+use Rattle.mb_core.specs.Represents.{Represents, IsHost, IsTold, Serves}
 use Rattle.mb_theory.specs.World.{System, FaultyStamp, self_of, update}
 use Rattle.mb_world.specs.declared.members.FaultyHost.{FaultyHost}
 use Rattle.mb_world.specs.declared.members.Member.{Member}
@@ -83,9 +83,9 @@ pub serves_as : {V : Type 0} (is_state : V → Type 0) (after : V → Bytes → 
 serves_as is_state after result part restored y h is = record { machine = is.machine; snapshots = is.snapshots; first = is.first }
 
 -- A step that is that of the history leads to a correct host between two events again.
-pub goes_on : {V : Type 0} (is_state : V → Type 0) (after : V → Bytes → V) (result : V → Bytes → Bytes) (part : V → ℕ → Bytes) (restored : List Bytes → Result V (ℕ × ℕ)) (y : System V) (h : ℕ) (old new : Replica V) (d : History) (e : Event) (step : Step)
+pub goes_on : {V : Type 0} (is_state : V → Type 0) (after : V → Bytes → V) (result : V → Bytes → Bytes) (part : V → ℕ → Bytes) (restored : List Bytes → Result V (ℕ × ℕ)) (y : System V) (h : ℕ) (old new : Replica V) (d : History) (e : Event) (step : Told)
     → IsSystem is_state after result part restored y → h < host_count y.schedule.shape → IsCorrectHost y h old d
-    → ((me : Identity V) (b : History) → Serves is_state after result part restored me → Represents me old b → IsWhole b → IsStep step (transition me b e) × (Represents me new (transition me b e).left.history × IsWhole (transition me b e).left.history))
+    → ((me : Identity V) (b : History) → Serves is_state after result part restored me → Represents me old b → IsWhole b → IsTold step (transition me b e) × (Represents me new (transition me b e).left.history × IsWhole (transition me b e).left.history))
     → Goes y h d e step new
 goes_on is_state after result part restored y h old new d e step is there host stands =
     let self : Identity _ = self_of y h in
@@ -99,7 +99,7 @@ goes_on is_state after result part restored y h old new d e step is there host s
 
 module _ {V : Type 0} (y : System V) where
   -- A correct host takes an event.
-  pub correct_steps : (members : List (Member V)) (d : ℕ → History) (l : ℕ → List FaultyStamp) (i : ℕ) (old new : Replica V) (e : Event) (step : Step)
+  pub correct_steps : (members : List (Member V)) (d : ℕ → History) (l : ℕ → List FaultyStamp) (i : ℕ) (old new : Replica V) (e : Event) (step : Told)
       → RepresentsMembers y members d l → slice_get members i ≡ Some (member.Correct old) → (IsCorrectHost y i old (d i) → Goes y i (d i) e step new)
       → StepsAt y i e d l (Some step) (set members i (member.Correct new))
   correct_steps members d l i old new e step all at stands =

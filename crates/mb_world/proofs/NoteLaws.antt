@@ -1,18 +1,22 @@
 -- What is kept of what a correct host sent, one message after the other.
 use Rattle.std.proofs.Common.{◌≡◌, ℕ, zero, suc, ◌+◌, List, [], ◌∷◌, ◌++◌, map, take, Option, Some, None, refl, sym, ap, ◌∙◌, inl, inr, append_assoc, add-one, eq-eqb}
 use Rattle.std.specs.Prelude.{reverse, filter_map, fold, slice_get}
-use Rattle.std.specs.Option.{option_to_list}
+use Rattle.std.specs.Option.{option_map, option_to_list}
 use Rattle.std.proofs.lemmas.Bool.{cases_eq, ne_eqb}
 use Rattle.std.proofs.lemmas.List.{reverse-append}
 use Rattle.std.proofs.lemmas.List.Elements.{filter_map-append}
 use Rattle.mb_base.specs.Shapes.{Bytes}
 use Rattle.mb_base.specs.declared.shape.Shape.{Shape}
 use Rattle.mb_parts.specs.declared.request.Request.{Request}
-use Rattle.mb_msg.specs.declared.event.Sent.{Sent}
 use Rattle.mb_msg.specs.declared.message.Message.{Message}
+use Rattle.mb_parts.specs.Bares.{bare_bytes}
+use Rattle.mb_msg.specs.declared.stamped.Stamped.{Stamped}
+use Rattle.mb_msg.specs.Stamps.{as_stamped, bare_of}
 use Rattle.mb_model.specs.Sending.{Letter}
 use Rattle.mb_model.proofs.Options.{option_cases}
-use Rattle.mb_core.specs.Represents.{as_sent}
+use Rattle.mb_core.specs.declared.told.Outgoing.{Outgoing}
+use Rattle.mb_core.specs.declared.told.Said.{Said}
+use Rattle.mb_core.specs.Told.{as_outgoing, said_in, said_of}
 use Rattle.mb_theory.specs.World.{update, with_tagged}
 use Rattle.mb_forged.specs.declared.ledger.Ledger.{Ledger}
 use Rattle.mb_forged.specs.Ledgers.{Keeps}
@@ -20,17 +24,26 @@ use Rattle.mb_world.specs.Stamps.{bare_in}
 use Rattle.mb_world.proofs.ListLaws.{some_is}
 use Rattle.mb_world.proofs.WorldLaws.{keeps_same}
 
+-- ---- what is told of a message
+
+-- what is stamped in it, as bytes
+pub bare_said : (letter : Letter) → option_map (λ (s : Said). s.bare) (said_in letter.says) ≡ bare_in letter
+bare_said letter = of_stamped (as_stamped letter.says) where
+  of_stamped : (o : Option Stamped) → option_map (λ (s : Said). s.bare) (option_map said_of o) ≡ option_map (λ (m : Stamped). bare_bytes (bare_of m)) o
+  of_stamped None = refl
+  of_stamped (Some m) = refl
+
 -- ---- the messages so far
 
 -- the next one, and those up to it
-pub record IsNext (letters : List Letter) (i : ℕ) (sent : Sent) (letter : Letter) : Type 0 where
+pub record IsNext (letters : List Letter) (i : ℕ) (sent : Outgoing) (letter : Letter) : Type 0 where
   pub there : slice_get letters i ≡ Some letter
-  pub sent_is : sent ≡ as_sent letter
+  pub sent_is : sent ≡ as_outgoing letter
   pub taken : take (i + 1) letters ≡ take i letters ++ letter ∷ []
 
-pub next_letter : (letters : List Letter) (i : ℕ) (sent : Sent) → slice_get (map as_sent letters) i ≡ Some sent → (letter : Letter) × IsNext letters i sent letter
+pub next_letter : (letters : List Letter) (i : ℕ) (sent : Outgoing) → slice_get (map as_outgoing letters) i ≡ Some sent → (letter : Letter) × IsNext letters i sent letter
 next_letter [] i sent e = absurd cc
-next_letter (l ∷ ls) zero sent e = (l, record { there = refl; sent_is = sym (some_is (as_sent l) sent e); taken = refl })
+next_letter (l ∷ ls) zero sent e = (l, record { there = refl; sent_is = sym (some_is (as_outgoing l) sent e); taken = refl })
 next_letter (l ∷ ls) (suc i) sent e =
     let more = next_letter ls i sent e in
     let is = more.1 in

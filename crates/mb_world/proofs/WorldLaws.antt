@@ -1,11 +1,12 @@
 -- What each event does to the tables of a world.
-use Rattle.std.proofs.Common.{◌≡◌, ℕ, suc, ◌+◌, true, false, List, [], ◌∷◌, ◌++◌, length, map, Option, Some, Result, Ok, Err, IfOk, OnOk, refl, sym, ap, subst, inl, inr, ◌∙◌, arith}
-use Rattle.std.specs.Prelude.{reverse, filter_map, fold}
+use Rattle.std.proofs.Common.{◌≡◌, ℕ, suc, ◌+◌, true, false, List, [], ◌∷◌, ◌++◌, length, map, Option, Some, Result, Ok, Err, IfOk, OnOk, IfSome, take, refl, sym, ap, subst, inl, inr, ◌∙◌, arith}
+use Rattle.std.specs.Prelude.{reverse, filter_map, fold, slice_get}
 use Rattle.std.specs.Option.{option_to_list}
 use Rattle.std.specs.List.{AllByRecursion}
 use Rattle.mb_base.specs.Spelling.{IsBytes}
 use Rattle.std.proofs.lemmas.List.{append-nil}
 use Rattle.std.proofs.lemmas.Bool.{cases_eq, cases_Bool}
+use Rattle.std.proofs.lemmas.Option.{same_Some}
 use Rattle.mb_base.specs.Shapes.{Bytes}
 use Rattle.mb_base.specs.declared.shape.Shape.{Shape}
 use Rattle.mb_parts.specs.declared.request.Request.{Request}
@@ -14,8 +15,6 @@ use Rattle.mb_msg.specs.declared.message.Message.TheVariants as message
 use Rattle.mb_msg.specs.declared.event.Event.TheVariants as event
 use Rattle.mb_msg.specs.declared.event.Outcome.{Outcome}
 use Rattle.mb_msg.specs.declared.event.Outcome.TheVariants as outcome
-use Rattle.mb_msg.specs.declared.event.Sent.{Sent}
-use Rattle.mb_msg.specs.declared.event.Step.{Step}
 use Rattle.mb_msg.specs.declared.normal.Reply.{Reply}
 use Rattle.mb_msg.specs.Spelling.{spelling}
 use Rattle.mb_model.specs.Clients.{Asker}
@@ -24,9 +23,13 @@ use Rattle.mb_model.specs.Sending.{Letter, Progress}
 use Rattle.mb_model.specs.Given.{Answer}
 use Rattle.mb_sched.specs.declared.schedule.Schedule.{Schedule}
 use Rattle.mb_sched.specs.Limits.{is_faulty, is_faulty_client}
-use Rattle.mb_core.specs.Represents.{IsStep, as_sent}
+use Rattle.mb_core.specs.declared.replica.Replica.{Replica}
+use Rattle.mb_core.specs.declared.told.Outgoing.{Outgoing}
+use Rattle.mb_core.specs.declared.told.Told.{Told}
+use Rattle.mb_core.specs.Told.{KnowsBytes, as_outgoing}
+use Rattle.mb_core.specs.Represents.{IsTold}
 use Rattle.mb_theory.specs.Refusals.{refusals, refusal_in}
-use Rattle.mb_theory.specs.World.{World as WorldState, System, self_of, nothing_happened, Made, Lost, FaultyStamp, update, extended, with_tagged, answered, lost_or, heard, arrives, made, stamps, steps, partway, client_reads, takes_reply, Unread, give_host, give_client}
+use Rattle.mb_theory.specs.World.{World as WorldState, System, self_of, nothing_happened, Made, Lost, FaultyStamp, update, extended, with_tagged, answered, lost_or, heard, numbered, arrives, made, stamps, steps, partway, client_reads, takes_reply, Unread, give_host, give_client}
 use Rattle.mb_theory.specs.World.{Seen as AnswerState}
 use Rattle.mb_theory.specs.WorldSteps.{with_message}
 use Rattle.mb_msg.specs.Reading.{message_of}
@@ -42,10 +45,11 @@ use Rattle.mb_world.specs.Members.{AllRest, IsCorrectHost, RepresentsMembers}
 use Rattle.mb_world.specs.Askers.{RepresentsAskers}
 use Rattle.mb_world.specs.Answers.{as_answer}
 use Rattle.mb_world.specs.Replies.{reply_or}
-use Rattle.mb_world.specs.Stamps.{bare_in, bares_of}
+use Rattle.mb_world.specs.Marks.{IsBodyAt, lengthened, made_mark, mark_at}
+use Rattle.mb_world.specs.Stamps.{FitsWhereStamped, bare_in, bares_of}
 use Rattle.mb_world.specs.Tables.{RepresentsRest, RepresentsWorld, Leaves}
 use Rattle.mb_world.proofs.ListLaws.{update_here, update_there}
-use Rattle.mb_world.proofs.MarkLaws.{GoesOn, goes_same, goes_still, longer_stamps, tagged_more, still_clean}
+use Rattle.mb_world.proofs.MarkLaws.{GoesOn, goes_same, goes_still, longer_stamps, tagged_more, still_marked, marks_sent}
 
 -- ---- what stays
 
@@ -56,7 +60,15 @@ pub record IsFixed {V : Type 0} {g : Ghosts V} (v w : World V g) : Type 0 where
   pub pens : w.pens ≡ v.pens
   pub hosts : w.faulty_hosts ≡ v.faulty_hosts
   pub clients : w.faulty_clients ≡ v.faulty_clients
-  pub clean : w.clean ≡ v.clean
+  pub marks : w.marks ≡ v.marks
+
+-- the same without the marks
+pub record IsHeld {V : Type 0} {g : Ghosts V} (v w : World V g) : Type 0 where
+  pub shape : w.shape ≡ v.shape
+  pub usig : w.usig ≡ v.usig
+  pub pens : w.pens ≡ v.pens
+  pub hosts : w.faulty_hosts ≡ v.faulty_hosts
+  pub clients : w.faulty_clients ≡ v.faulty_clients
 
 -- the tables of another world that goes on from the first, for which what never changes is as it was
 pub rest_of : {V : Type 0} {g : Ghosts V} (s : Schedule) (v w : World V g) (x z : WorldState) → RepresentsRest s v x → IsFixed v w → GoesOn s x z → RepresentsAskers s w.askers.items z.askers → KeepsWorld s w.ledger z
@@ -70,14 +82,14 @@ rest_of s v w x z old fixed on askers ledger pool line refused events = record {
   askers = askers;
   ledger = ledger;
   pool = pool;
-  clean = rw fixed.clean (still_clean s x z v.clean.items on old.clean);
+  marks = rw fixed.marks (still_marked s x z v.marks.items on old.marks);
   line = line;
   refused = refused;
   events = events;
 }
 
 same_fixed : {V : Type 0} {g : Ghosts V} (v : World V g) → IsFixed v v
-same_fixed v = record { shape = refl; usig = refl; pens = refl; hosts = refl; clients = refl; clean = refl }
+same_fixed v = record { shape = refl; usig = refl; pens = refl; hosts = refl; clients = refl; marks = refl }
 
 -- The same tables stand for another world that has the same parts.
 pub rest_same : {V : Type 0} {g : Ghosts V} (s : Schedule) (v : World V g) (x z : WorldState) → RepresentsRest s v x → GoesOn s x z → x.askers ≡ z.askers → KeepsWorld s v.ledger z → x.pool ≡ z.pool → x.line ≡ z.line → x.seen ≡ z.seen → RepresentsRest s v z
@@ -197,7 +209,7 @@ nothing_kept s l k = keeps_same s.shape l (λ h. []) (stamps s nothing_happened)
 
 -- ---- a host's step
 
-sent_bytes : (letters : List Letter) → map (λ (m : Sent). m.bytes) (map as_sent letters) ≡ map (λ (letter : Letter). spelling letter.says) letters
+sent_bytes : (letters : List Letter) → map (λ (m : Outgoing). m.bytes) (map as_outgoing letters) ≡ map (λ (letter : Letter). spelling letter.says) letters
 sent_bytes [] = refl
 sent_bytes (l ∷ ls) = ap (λ (bs : List Bytes). spelling l.says ∷ bs) (sent_bytes ls)
 
@@ -215,20 +227,32 @@ went_partway s x h left correct longer =
     }
 
 -- the tables once a step's messages and batches are kept
-pub partway_stands : {V : Type 0} {g : Ghosts V} (y : System V) (v w : World V g) (x : WorldState) (h : ℕ) (step : Step) (a : Answer) → RepresentsMembers y v.members.items (update x.histories h a.left.history) x.faulty_stamps → RepresentsRest y.schedule v x
-    → IsStep step a → IsFixed v w → w.members ≡ v.members → w.askers ≡ v.askers
+pub partway_stands : {V : Type 0} {g : Ghosts V} (y : System V) (v w : World V g) (x : WorldState) (h : ℕ) (told : Told) (a : Answer) → RepresentsMembers y v.members.items (update x.histories h a.left.history) x.faulty_stamps → RepresentsRest y.schedule v x
+    → IsTold told a → IsHeld v w → FitsWhereStamped y.schedule.shape a.left.sent → w.marks.items ≡ take (length v.pool.items + 1) (lengthened v.marks.items (length v.pool.items + 1)) ++ map made_mark told.sent → w.members ≡ v.members → w.askers ≡ v.askers
     → Keeps y.schedule.shape w.ledger (update (stamps y.schedule x) h (reverse (filter_map bare_in a.left.sent) ++ stamps y.schedule x h)) x.asked (fold with_tagged x.tagged a.left.sent)
-    → w.pool.items ≡ v.pool.items ++ map (λ (m : Sent). m.bytes) step.sent → w.line.items ≡ fold extended v.line.items step.executed → w.refused ≡ v.refused → w.events ≡ v.events
+    → w.pool.items ≡ v.pool.items ++ map (λ (m : Outgoing). m.bytes) told.sent → w.line.items ≡ fold extended v.line.items told.executed → w.refused ≡ v.refused → w.events ≡ v.events
     → is_faulty y.schedule h ≡ false → bares_of a.left.history ≡ reverse (filter_map bare_in a.left.sent) ++ bares_of (x.histories h)
     → RepresentsWorld y w (partway y.schedule h a.left x)
-partway_stands y v w x h step a members old is fixed same_members same_askers ledger pool line refused events correct longer =
+partway_stands y v w x h told a members old is fixed fit marks same_members same_askers ledger pool line refused events correct longer =
     let s : Schedule = y.schedule in
     record {
       members = rw same_members members;
-      rest = rest_of s v w x (partway s h a.left x) old fixed (went_partway s x h a.left correct longer) (rw same_askers old.askers)
-          (keeps_same s.shape w.ledger (update (stamps s x) h (reverse (filter_map bare_in a.left.sent) ++ stamps s x h)) (stamps s (record x { histories = update x.histories h a.left.history })) x.asked (fold with_tagged x.tagged a.left.sent)
-          (correct_stamps s x h a.left.history (reverse (filter_map bare_in a.left.sent)) correct longer) ledger)
-          (pool ∙ rw (old.pool, is.sent) (ap (λ (l : List Bytes). x.pool ++ l) (sent_bytes a.left.sent))) (line ∙ rw (old.line, is.executed) refl) (rw refused old.refused) (events ∙ old.events);
+      rest = record {
+        shape = fixed.shape ∙ old.shape;
+        verifier = fixed.usig ∙ old.verifier;
+        pens = rw fixed.pens old.pens;
+        hosts = rw fixed.hosts old.hosts;
+        clients = rw fixed.clients old.clients;
+        askers = rw same_askers old.askers;
+        ledger = keeps_same s.shape w.ledger (update (stamps s x) h (reverse (filter_map bare_in a.left.sent) ++ stamps s x h)) (stamps s (record x { histories = update x.histories h a.left.history })) x.asked (fold with_tagged x.tagged a.left.sent)
+            (correct_stamps s x h a.left.history (reverse (filter_map bare_in a.left.sent)) correct longer) ledger;
+        pool = pool ∙ rw (old.pool, is.sent) (ap (λ (l : List Bytes). x.pool ++ l) (sent_bytes a.left.sent));
+        marks = marks_sent s x (partway s h a.left x) v.marks.items w.marks.items a.left.sent (length v.pool.items + 1) old.marks (went_partway s x h a.left correct longer) fit refl
+            (ap (λ (p : List Bytes). length p + 1) old.pool) (marks ∙ ap (λ (l : List Outgoing). take (length v.pool.items + 1) (lengthened v.marks.items (length v.pool.items + 1)) ++ map made_mark l) is.sent);
+        line = line ∙ rw (old.line, is.executed) refl;
+        refused = rw refused old.refused;
+        events = events ∙ old.events;
+      };
     }
 
 -- ---- a client reads
@@ -314,6 +338,23 @@ module _ {V : Type 0} {g : Ghosts V} (y : System V) where
   pub message_there : {E : Type 0} (w : World V g) (x : WorldState) (f : Bytes → WorldState → WorldState) (o : Option Bytes) (bytes : Bytes) (r : Result Seen E) → o ≡ Some bytes
       → IfOk r (λ a. Leaves y w (as_answer a) x (f bytes x)) → IfOk r (λ a. Leaves y w (as_answer a) x (with_message f o x))
   message_there w x f o bytes r there left = rw there left
+
+  -- Each correct host is of this size.
+  pub all_of : (w : World V g) (x : WorldState) → RepresentsWorld y w x → (h : ℕ) (r : Replica V) → slice_get w.members.items h ≡ Some (member.Correct r) → r.agreement.shape ≡ w.shape
+  all_of w x rep h r at =
+      let host : IsCorrectHost y h r (x.histories h) = rep.members h (member.Correct r) at in
+      sym host.represents.who.shape ∙ sym rep.rest.shape
+
+  -- What the mark of a message says of its body is known of its bytes.
+  pub known_at : (w : World V g) (x : WorldState) → RepresentsWorld y w x → (n : ℕ) (bytes : Bytes) → numbered w.pool.items n ≡ Some bytes → KnowsBytes w.shape (mark_at w.marks.items n).body bytes
+  known_at w x rep n bytes there = subst (λ (s : Shape). KnowsBytes s (mark_at w.marks.items n).body bytes) (sym rep.rest.shape) (of_body (mark_at w.marks.items n).body (rep.rest.marks n).body) where
+    same : (o : Option Bytes) (a b : Bytes) → o ≡ Some a → o ≡ Some b → a ≡ b
+    same o a b ea eb = same_Some a b (sym ea ∙ eb)
+
+    of_body : (o : Option Bytes) → IfSome o (IsBodyAt y.schedule x n) → KnowsBytes y.schedule.shape o bytes
+    of_body None is = λ m reads st stamped. tt
+    of_body (Some k) is =
+        subst (λ (b : Bytes). KnowsBytes y.schedule.shape (Some k) b) (same (numbered x.pool n) is.bytes bytes is.made (ap (λ (p : List Bytes). numbered p n) (sym rep.rest.pool) ∙ there)) is.knows
 
   -- Each correct host is between two events.
   pub all_rest : (is_state : V → Type 0) (after : V → Bytes → V) (result : V → Bytes → Bytes) (part : V → ℕ → Bytes) (restored : List Bytes → Result V (ℕ × ℕ)) (w : World V g) (x : WorldState)

@@ -3,7 +3,6 @@ use Rattle.std.specs.Prelude.{◌≡◌, ℕ, ◌≤◌, Bool, true, false, List
 use Rattle.mb_base.specs.Shapes.{Bytes}
 use Rattle.mb_base.specs.declared.shape.Shape.{Shape}
 use Rattle.mb_msg.specs.declared.event.Event.{Event}
-use Rattle.mb_msg.specs.declared.event.Step.{Step}
 use Rattle.mb_model.specs.Histories.{History}
 use Rattle.mb_model.specs.Given.{Answer}
 use Rattle.mb_steps.proofs.StepArises.{IsWhole}
@@ -11,7 +10,8 @@ use Rattle.mb_model.specs.HostStep.{transition}
 use Rattle.mb_sched.specs.declared.schedule.Schedule.{Schedule}
 use Rattle.mb_sched.specs.Limits.{is_faulty}
 use Rattle.mb_core.specs.declared.replica.Replica.{Replica}
-use Rattle.mb_core.specs.Represents.{Represents, IsStep, IsAtRest}
+use Rattle.mb_core.specs.declared.told.Told.{Told}
+use Rattle.mb_core.specs.Represents.{Represents, IsTold, IsAtRest}
 use Rattle.mb_theory.specs.World.{System, FaultyStamp, self_of, update}
 use Rattle.mb_world.specs.declared.members.FaultyHost.{FaultyHost}
 use Rattle.mb_world.specs.declared.members.Member.{Member}
@@ -80,20 +80,20 @@ module _ {V : Type 0} (y : System V) where
   answer_at h e d = transition (self_of y h) (d h) e
 
   -- A correct host with this history made the step of an event, and has the longer history. What it stamped can be read again.
-  pub record Goes (h : ℕ) (d : History) (e : Event) (made : Step) (r : Replica V) : Type 0 where
-    pub step : IsStep made (transition (self_of y h) d e)
+  pub record Goes (h : ℕ) (d : History) (e : Event) (made : Told) (r : Replica V) : Type 0 where
+    pub step : IsTold made (transition (self_of y h) d e)
     pub fit : FitsWhereStamped y.schedule.shape (transition (self_of y h) d e).left.sent
     pub stands : IsCorrectHost h r (transition (self_of y h) d e).left.history
 
   -- the same of one of all hosts
-  pub record MadeStep (h : ℕ) (a : Answer) (d : ℕ → History) (stamps : ℕ → List FaultyStamp) (made : Step) (after : List (Member V)) : Type 0 where
+  pub record MadeStep (h : ℕ) (a : Answer) (d : ℕ → History) (stamps : ℕ → List FaultyStamp) (made : Told) (after : List (Member V)) : Type 0 where
     pub correct : is_faulty y.schedule h ≡ false
-    pub step : IsStep made a
+    pub step : IsTold made a
     pub fit : FitsWhereStamped y.schedule.shape a.left.sent
     pub members : RepresentsMembers after (update d h a.left.history) stamps
 
   -- A faulty host makes none.
-  abbrev pub StepsAt : ℕ → Event → (ℕ → History) → (ℕ → List FaultyStamp) → Option Step → List (Member V) → Type 0
+  abbrev pub StepsAt : ℕ → Event → (ℕ → History) → (ℕ → List FaultyStamp) → Option Told → List (Member V) → Type 0
   StepsAt h e d stamps None members = (is_faulty y.schedule h ≡ true) × RepresentsMembers members d stamps
   StepsAt h e d stamps (Some step) members = MadeStep h (answer_at h e d) d stamps step members
 

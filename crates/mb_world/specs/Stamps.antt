@@ -3,13 +3,13 @@ use Rattle.std.specs.Prelude.{◌≡◌, List, map, Option, IfSome}
 use Rattle.std.specs.List.{AllByRecursion}
 use Rattle.mb_base.specs.Shapes.{Bytes}
 use Rattle.mb_base.specs.declared.shape.Shape.{Shape}
-use Rattle.mb_msg.specs.declared.event.Sent.{Sent}
 use Rattle.mb_msg.specs.Fits.{Fits}
 use Rattle.mb_msg.specs.Signed.{covered}
 use Rattle.mb_parts.specs.Bares.{bare_bytes}
 use Rattle.mb_model.specs.Histories.{History, said}
 use Rattle.mb_model.specs.Sending.{Letter}
-use Rattle.mb_core.specs.Represents.{as_sent}
+use Rattle.mb_core.specs.declared.told.Outgoing.{Outgoing}
+use Rattle.mb_core.specs.Told.{as_outgoing}
 
 -- what its sender stamped, where a message is stamped
 abbrev pub bare_in : Letter → Option Bytes
@@ -23,9 +23,9 @@ IsReadable s letter = IfSome (bare_in letter) (λ bare. Fits s letter.says)
 abbrev pub FitsWhereStamped : Shape → List Letter → Type 0
 FitsWhereStamped s letters = AllByRecursion (IsReadable s) letters
 
--- These messages were sent, as bytes, and what is stamped can be read again.
-pub record IsSent (s : Shape) (letters : List Letter) (bytes : List Sent) : Type 0 where
-  pub sent : bytes ≡ map as_sent letters
+-- These messages were sent, as bytes with what is stamped, and what is stamped can be read again.
+pub record IsSent (s : Shape) (letters : List Letter) (bytes : List Outgoing) : Type 0 where
+  pub sent : bytes ≡ map as_outgoing letters
   pub fit : FitsWhereStamped s letters
 
 -- what a host stamped, as bytes, newest first

@@ -12,7 +12,7 @@ use Rattle.mb_world.specs.declared.seen.WorldStop.TheVariants as stop
 use Rattle.mb_world.specs.declared.world.World.{World}
 use Rattle.mb_world.specs.Askers.{RepresentsAskers}
 use Rattle.mb_world.specs.Hosts.{IsSystem}
-use Rattle.mb_world.specs.Marks.{AreClean}
+use Rattle.mb_world.specs.Marks.{AreMarks}
 use Rattle.mb_world.specs.Members.{RepresentsMembers}
 
 -- all but the hosts
@@ -25,7 +25,7 @@ pub record RepresentsRest {V : Type 0} {g : Ghosts V} (s : Schedule) (w : World 
   pub askers : RepresentsAskers s w.askers.items x.askers
   pub ledger : KeepsWorld s w.ledger x
   pub pool : w.pool.items ≡ x.pool
-  pub clean : AreClean s x w.clean.items
+  pub marks : AreMarks s x w.marks.items
   pub line : w.line.items ≡ x.line
   pub refused : w.refused.items ≡ refusals x.seen
   pub events : w.events ≡ length x.seen

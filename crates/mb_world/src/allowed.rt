@@ -4,11 +4,11 @@ ghost use Rattle.std.specs.Prelude.{◌≡◌, not};
 ghost use Rattle.mb_theory.specs.WorldEvents.{culprit};
 ghost use Rattle.mb_world.specs.Contents.{stamping_host};
 
-use crate::marks::is_marked;
+use crate::marks::mark_of;
 use crate::members::Member;
 use crate::seen::WorldStop;
 use crate::world::World;
-use mb_base::{Counter, Host, Items, MESSAGE_LIMIT, NoMemory, View};
+use mb_base::{Counter, Digest, Host, Items, MESSAGE_LIMIT, NoMemory, View};
 use mb_forged::{Checker, change_with, checkpoint_with, commit_for, prepare_with};
 use mb_msg::{Batch, Message, Stamped, Undecoded, decode};
 use mb_parts::{MAX_BATCH, Part, Request};
@@ -55,7 +55,8 @@ impl<V: Service + Drop> World<V> {
     ghost use Rattle.mb_base.specs.Shapes.{host_count};
     ghost use Rattle.mb_parts.specs.Fits.{IsPosition, FitsBatch, FitsRequest};
     ghost use Rattle.mb_msg.specs.Fits.{Fits, FitsStamped};
-    ghost use Rattle.mb_msg.specs.Stamps.{as_stamped};
+    ghost use Rattle.mb_msg.specs.Stamps.{as_message, as_stamped};
+    ghost use Rattle.mb_core.specs.Told.{KnowsBody, KnowsBytes, KnowsMessage};
     ghost use Rattle.mb_sched.specs.Limits.{EventFits, NameFits, is_faulty};
     ghost use Rattle.mb_theory.specs.World.{World as WorldState, System, numbered, read, message_at};
     ghost use Rattle.mb_theory.specs.WorldEvents.{is_faulty_name};
@@ -65,7 +66,7 @@ impl<V: Service + Drop> World<V> {
     ghost use Rattle.mb_world.specs.declared.seen.WorldStop.TheVariants as stop;
     ghost use Rattle.mb_world.specs.Answers.{Tells, TellsStop};
     ghost use Rattle.mb_world.specs.Contents.{Gives, Stamps, IsAllowed, found_in, rest_stop};
-    ghost use Rattle.mb_world.specs.Tables.{RepresentsWorld};
+    ghost use Rattle.mb_world.specs.Tables.{HasWorld, RepresentsWorld};
 
     /// Whether an event can be, and the content that it has a faulty host stamp, if any. Of several stops the first comes in this order:
     /// `NotFaulty`, `NoSuchMessage`, `WrongKind`, `Forged`, `ForgedTag`.
@@ -76,6 +77,7 @@ impl<V: Service + Drop> World<V> {
     ) -> Result<Option<Stamped>, WorldStop>
         requires fits { EventFits self.now.shape event.now }
         requires few { self.now.events < 2 ^ 64 - 1 }
+        requires has { HasWorld V.is_state V.after V.answer V.part_of V.restored self.now }
         ensures stops { (y : System V) (x : WorldState) → RepresentsWorld y self.now x → Tells (stop_of y.schedule x event.now) result }
         ensures content { (y : System V) (x : WorldState) → RepresentsWorld y self.now x → IfOk result (IsAllowed y.schedule x event.now) }
         ensures fits { IfOk result (λ o. IfSome o (FitsStamped self.now.shape)) }
@@ -94,6 +96,7 @@ impl<V: Service + Drop> World<V> {
     fn content_of(&self, alloc: Global, event: &WorldEvent) -> Result<Option<Stamped>, WorldStop>
         requires fits { EventFits self.now.shape event.now }
         requires few { self.now.events < 2 ^ 64 - 1 }
+        requires has { HasWorld V.is_state V.after V.answer V.part_of V.restored self.now }
         ensures stops { (y : System V) (x : WorldState) → RepresentsWorld y self.now x → name_stop y.schedule x event.now ≡ None → Tells (rest_stop y.schedule x event.now) result }
         ensures content { (y : System V) (x : WorldState) → RepresentsWorld y self.now x → name_stop y.schedule x event.now ≡ None → IfOk result (Stamps y.schedule x event.now) }
         ensures fits { IfOk result (λ o. IfSome o (FitsStamped self.now.shape)) }
@@ -110,7 +113,7 @@ impl<V: Service + Drop> World<V> {
                 Name::Client(*client),
                 *message,
             ),
-            WorldEvent::Raw { name, bytes } => self.check_bytes(alloc, *name, bytes.as_slice()),
+            WorldEvent::Raw { name, bytes } => self.check_bytes(alloc, *name, bytes.as_slice(), &None),
             WorldEvent::StampPrepare {
                 view,
                 pos,
@@ -353,15 +356,17 @@ impl<V: Service + Drop> World<V> {
     ) -> Result<Option<Stamped>, WorldStop>
         requires name { NameFits self.now.shape name }
         requires few { self.now.events < 2 ^ 64 - 1 }
+        requires has { HasWorld V.is_state V.after V.answer V.part_of V.restored self.now }
         ensures stops { (y : System V) (x : WorldState) → RepresentsWorld y self.now x → Tells (found_in y.schedule x (option_and_then (read y.schedule) (to_correct y.schedule x (is_faulty_name y.schedule name) (numbered x.pool number)))) result }
         ensures none { IfOk result (λ o. o ≡ None) }
         ensures runs { (result ≡ Err stop.Halted) → ⊥ }
     {
-        if is_marked(self.clean.as_slice(), number) {
+        let mark = mark_of(self.marks.as_slice(), number);
+        if mark.clean {
             return Ok(None);
         }
         match self.message(number) {
-            Some(bytes) => self.check_bytes(alloc, name, bytes.as_slice()),
+            Some(bytes) => self.check_bytes(alloc, name, bytes.as_slice(), &mark.body),
             None => Ok(None),
         }
     }
@@ -372,8 +377,10 @@ impl<V: Service + Drop> World<V> {
         alloc: Global,
         name: Name,
         bytes: &[u8],
+        known: &Option<Digest>,
     ) -> Result<Option<Stamped>, WorldStop>
         requires name { NameFits self.now.shape name }
+        requires known { KnowsBytes self.now.shape known.now bytes.now }
         requires few { self.now.events < 2 ^ 64 - 1 }
         ensures stops { (y : System V) (x : WorldState) → RepresentsWorld y self.now x → Tells (found_in y.schedule x (option_and_then (read y.schedule) (to_correct y.schedule x (is_faulty_name y.schedule name) (Some bytes.now)))) result }
         ensures none { IfOk result (λ o. o ≡ None) }
@@ -383,7 +390,7 @@ impl<V: Service + Drop> World<V> {
             return Ok(None);
         }
         match self.read_bytes(alloc, bytes)? {
-            Some(message) => self.check_forged(alloc, &message),
+            Some(message) => self.check_read(alloc, message, known),
             None => Ok(None),
         }
     }
@@ -402,6 +409,55 @@ impl<V: Service + Drop> World<V> {
         }
     }
 
+    fn check_read(
+        &self,
+        alloc: Global,
+        message: Message,
+        known: &Option<Digest>,
+    ) -> Result<Option<Stamped>, WorldStop>
+        requires fits { Fits self.now.shape message }
+        requires few { self.now.events < 2 ^ 64 - 1 }
+        requires known { KnowsMessage known.now message }
+        ensures stops { (y : System V) (x : WorldState) → RepresentsWorld y self.now x → Tells (found_in y.schedule x (Some message)) result }
+        ensures none { IfOk result (λ o. o ≡ None) }
+        ensures runs { (result ≡ Err stop.Halted) → ⊥ }
+    {
+        match message.into_stamped() {
+            Ok(stamped) => self.check_stamped(alloc, &stamped, known),
+            Err(message) => self.check_forged(alloc, &message),
+        }
+    }
+
+    /// What is forged in a stamped message.
+    fn check_stamped(
+        &self,
+        alloc: Global,
+        message: &Stamped,
+        known: &Option<Digest>,
+    ) -> Result<Option<Stamped>, WorldStop>
+        requires fits { FitsStamped self.now.shape message.now }
+        requires few { self.now.events < 2 ^ 64 - 1 }
+        requires known { KnowsBody known.now message.now }
+        ensures stops { (y : System V) (x : WorldState) → RepresentsWorld y self.now x → Tells (found_in y.schedule x (Some (as_message message.now))) result }
+        ensures none { IfOk result (λ o. o ≡ None) }
+        ensures runs { (result ≡ Err stop.Halted) → ⊥ }
+    {
+        let event = self.events + 1;
+        let checker = self.checker();
+        if let Some(claim) = checker.forged_in(alloc, message, known)? {
+            return Err(WorldStop::Forged {
+                event,
+                host: claim.host,
+                counter: claim.counter,
+            });
+        }
+        if checker.has_forged_tag_in(alloc, message)? {
+            return Err(WorldStop::ForgedTag { event });
+        }
+        Ok(None)
+    }
+
+    /// What is forged in a message that is not stamped.
     fn check_forged(&self, alloc: Global, message: &Message) -> Result<Option<Stamped>, WorldStop>
         requires fits { Fits self.now.shape message.now }
         requires few { self.now.events < 2 ^ 64 - 1 }

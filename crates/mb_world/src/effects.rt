@@ -3,13 +3,15 @@
 ghost use Rattle.std.specs.Prelude.{◌≡◌, ◌++◌, map, fold, OnOk};
 ghost use Rattle.mb_theory.specs.World.{extended};
 
+use crate::marks::{mark_of, note_made};
 use crate::members::step_at;
 use crate::refusals::note_refusal;
 use crate::seen::Seen;
 use crate::stamps::note_step;
 use crate::world::World;
-use mb_base::{Client, Duplicate, Host, Items, NoMemory};
-use mb_msg::{Event, Sent, Slot, Step};
+use mb_base::{Client, Digest, Duplicate, Host, Items, NoMemory};
+use mb_core::{Outgoing, Told};
+use mb_msg::{Event, Slot};
 use mb_sched::Name;
 use mb_service::Service;
 use std::alloc::Global;
@@ -19,7 +21,8 @@ impl<V: Service + Drop> World<V> {
     ghost use Rattle.mb_base.specs.Shapes.{client_count, host_count};
     ghost use Rattle.mb_sched.specs.declared.schedule.WorldEvent.TheVariants.{Give, Take, Raw};
     ghost use Rattle.mb_model.specs.Given.{Answer};
-    ghost use Rattle.mb_core.specs.Represents.{IsStep};
+    ghost use Rattle.mb_core.specs.Represents.{IsTold};
+    ghost use Rattle.mb_core.specs.Told.{KnowsBytes, KnowsEvent};
     ghost use Rattle.mb_sched.specs.Limits.{is_faulty, NameFits};
     ghost use Rattle.mb_theory.specs.World.{World as WorldState, System, lost_or, steps, stepped, numbered, answered, update, give_host, give_client, signal};
     ghost use Rattle.mb_theory.specs.WorldSteps.{with_message, happens};
@@ -50,9 +53,16 @@ impl<V: Service + Drop> World<V> {
     // ---- hosts
 
     /// A host makes the step of an event. At a faulty one it is lost.
-    fn step(&mut self, alloc: Global, host: Host, event: &Event) -> Result<Seen, NoMemory>
+    fn step(
+        &mut self,
+        alloc: Global,
+        host: Host,
+        event: &Event,
+        known: &Option<Digest>,
+    ) -> Result<Seen, NoMemory>
         requires host { host < host_count self.old.shape }
         requires few { self.old.events < 2 ^ 64 - 1 }
+        requires known { KnowsEvent self.old.shape known.now event.now }
         requires runs { AllRun self.old.members.items }
         requires has { HasWorld V.is_state V.after V.answer V.part_of V.restored self.old }
         requires halted { self.old.halted ≡ true }
@@ -63,32 +73,34 @@ impl<V: Service + Drop> World<V> {
         ensures shape { self.new.shape ≡ self.old.shape }
         ensures counts { OnOk result (self.new.events ≡ self.old.events + 1) }
     {
-        match step_at(alloc, &mut self.members, host, event)? {
-            Some(step) => self.stepped(alloc, host, step),
+        match step_at(alloc, &mut self.members, host, event, known)? {
+            Some(told) => self.stepped(alloc, host, told),
             None => self.note(alloc, Seen::Lost),
         }
     }
 
     /// What a correct host's step leaves.
-    fn stepped(&mut self, alloc: Global, host: Host, step: Step) -> Result<Seen, NoMemory>
+    fn stepped(&mut self, alloc: Global, host: Host, told: Told) -> Result<Seen, NoMemory>
         requires host { host < host_count self.old.shape }
         requires few { self.old.events < 2 ^ 64 - 1 }
         requires halted { self.old.halted ≡ true }
         ensures stands { (y : System V) (x : WorldState) (a : Answer) → RepresentsMembers y self.old.members.items (update x.histories host a.left.history) x.faulty_stamps → RepresentsRest y.schedule self.old x
-            → IsStep step a → FitsWhereStamped y.schedule.shape a.left.sent → is_faulty y.schedule host ≡ false → bares_of a.left.history ≡ reverse (filter_map bare_in a.left.sent) ++ bares_of (x.histories host)
+            → IsTold told a → FitsWhereStamped y.schedule.shape a.left.sent → is_faulty y.schedule host ≡ false → bares_of a.left.history ≡ reverse (filter_map bare_in a.left.sent) ++ bares_of (x.histories host)
             → IfOk result (λ r. Leaves y self.new (as_answer r) x (stepped y.schedule host a x)) }
         ensures members { self.new.members ≡ self.old.members }
         ensures halted { self.new.halted ≡ self.old.halted }
         ensures shape { self.new.shape ≡ self.old.shape }
         ensures counts { OnOk result (self.new.events ≡ self.old.events + 1) }
     {
-        let Step {
+        let Told {
             outcome,
             sent,
             executed,
             ..
-        } = step;
+        } = told;
         note_step(alloc, &mut self.ledger, host, sent.as_slice())?;
+        let count = self.pool.len() + 1;
+        note_made(&mut self.marks, count, sent.as_slice())?;
         add_messages(&mut self.pool, sent)?;
         extend_line(&mut self.line, executed)?;
         self.note(alloc, Seen::Host(outcome))
@@ -113,13 +125,20 @@ impl<V: Service + Drop> World<V> {
         ensures shape { self.new.shape ≡ self.old.shape }
         ensures counts { OnOk result (self.new.events ≡ self.old.events + 1) }
     {
-        self.step(alloc, host, event)
+        self.step(alloc, host, event, &None)
     }
 
     /// Bytes come to a host. To a faulty one nothing comes of them.
-    fn give_host(&mut self, alloc: Global, host: Host, bytes: Items<u8>) -> Result<Seen, NoMemory>
+    fn give_host(
+        &mut self,
+        alloc: Global,
+        host: Host,
+        bytes: Items<u8>,
+        known: &Option<Digest>,
+    ) -> Result<Seen, NoMemory>
         requires host { host < host_count self.old.shape }
         requires few { self.old.events < 2 ^ 64 - 1 }
+        requires known { KnowsBytes self.old.shape known.now bytes }
         requires runs { AllRun self.old.members.items }
         requires has { HasWorld V.is_state V.after V.answer V.part_of V.restored self.old }
         requires halted { self.old.halted ≡ true }
@@ -130,7 +149,7 @@ impl<V: Service + Drop> World<V> {
         ensures shape { self.new.shape ≡ self.old.shape }
         ensures counts { OnOk result (self.new.events ≡ self.old.events + 1) }
     {
-        self.step(alloc, host, &Event::Given(bytes))
+        self.step(alloc, host, &Event::Given(bytes), known)
     }
 
     /// A message is given to a host.
@@ -151,8 +170,9 @@ impl<V: Service + Drop> World<V> {
         match self.message(number) {
             Some(bytes) => {
                 let bytes = bytes.duplicate(alloc)?;
+                let known = mark_of(self.marks.as_slice(), number).body;
                 self.mark_clean(Name::Host(host), number)?;
-                self.give_host(alloc, host, bytes)
+                self.give_host(alloc, host, bytes, &known)
             }
             None => self.note(alloc, Seen::Lost),
         }
@@ -227,7 +247,7 @@ impl<V: Service + Drop> World<V> {
         match name {
             Name::Host(host) => {
                 let bytes = bytes.duplicate(alloc)?;
-                self.give_host(alloc, host, bytes)
+                self.give_host(alloc, host, bytes, &None)
             }
             Name::Client(client) => self.give_client(alloc, client, bytes.as_slice()),
         }
@@ -235,7 +255,7 @@ impl<V: Service + Drop> World<V> {
 }
 
 /// Appends what a host sent, in the order in which it was made.
-fn add_messages(pool: &mut Vec<Items<u8>>, sent: Items<Sent>) -> Result<(), NoMemory>
+fn add_messages(pool: &mut Vec<Items<u8>>, sent: Items<Outgoing>) -> Result<(), NoMemory>
     ensures { OnOk result (pool.new.items ≡ pool.old.items ++ map (λ m. m.bytes) sent) }
 {
     for message in sent.into_vec() {

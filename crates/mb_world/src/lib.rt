@@ -6,7 +6,7 @@
 //! | `askers` | each client's side |
 //! | `ledger` | what was stamped, asked and tagged, by one look-up each |
 //! | `pool` | the message of a number |
-//! | `clean` | whether nothing is forged in the message of a number, where it was looked through |
+//! | `marks` | whether the message of a number was looked through and nothing in it is forged, and the digest of its body, where a correct host stamped it |
 //! | `line` | the one list of executed batches |
 //! | `refused` | the events that a host or a client refused |
 //!

@@ -8,14 +8,14 @@ ghost use Rattle.mb_msg.specs.declared.message.Message.{Message as MessageData};
 ghost use Rattle.mb_msg.specs.Fits.{FitsFields};
 ghost use Rattle.mb_msg.specs.Signed.{covered};
 ghost use Rattle.mb_model.specs.Sending.{Letter};
-ghost use Rattle.mb_core.specs.Represents.{as_sent};
+ghost use Rattle.mb_core.specs.Told.{as_outgoing};
 ghost use Rattle.mb_theory.specs.World.{update, with_tagged};
 ghost use Rattle.mb_forged.specs.Ledgers.{Keeps};
 ghost use Rattle.mb_world.specs.Stamps.{IsReadable, IsSent, bare_in};
 
-use mb_base::{Host, Items, NoMemory, Shape};
+use mb_base::{Duplicate, Host, NoMemory};
+use mb_core::Outgoing;
 use mb_forged::Ledger;
-use mb_msg::{Message, Sent, Undecoded, bare_of, decode};
 use std::alloc::Global;
 
 /// A step of a correct host: what it stamped and the tags that it made are kept.
@@ -23,7 +23,7 @@ pub(crate) fn note_step(
     alloc: Global,
     ledger: &mut Ledger,
     host: Host,
-    sent: &[Sent],
+    sent: &[Outgoing],
 ) -> Result<(), NoMemory>
     requires { host < host_count ledger.old.shape }
     ensures keeps { (stamps : ℕ → List Bytes) (asked : List Request) (tagged : List MessageData) (letters : List Letter) → Keeps ledger.old.shape ledger.old stamps asked tagged
@@ -38,45 +38,19 @@ pub(crate) fn note_step(
 }
 
 /// One message that a correct host sent.
-fn note_message(alloc: Global, ledger: &mut Ledger, host: Host, sent: &Sent) -> Result<(), NoMemory>
+fn note_message(alloc: Global, ledger: &mut Ledger, host: Host, sent: &Outgoing) -> Result<(), NoMemory>
     requires { host < host_count ledger.old.shape }
     ensures keeps { (stamps : ℕ → List Bytes) (asked : List Request) (tagged : List MessageData) (letter : Letter) → Keeps ledger.old.shape ledger.old stamps asked tagged
-        → IsReadable ledger.old.shape letter → sent.now ≡ as_sent letter
+        → IsReadable ledger.old.shape letter → sent.now ≡ as_outgoing letter
         → OnOk result (Keeps ledger.old.shape ledger.new (update stamps host (option_to_list (bare_in letter) ++ stamps host)) asked (with_tagged tagged letter)) }
     ensures shape { ledger.new.shape ≡ ledger.old.shape }
 {
-    let shape = ledger.shape();
-    match stamped_in(alloc, &shape, sent)? {
-        Some(bare) => {
+    match &sent.said {
+        Some(said) => {
+            let bare = said.bare.duplicate(alloc)?;
             ledger.note_stamp(host, bare)?;
             ledger.note_sent(alloc, sent.bytes.as_slice())
         }
         None => ledger.note_sent(alloc, sent.bytes.as_slice()),
-    }
-}
-
-/// What a host stamped, where it sent a stamped message: it sends none again.
-fn stamped_in(alloc: Global, shape: &Shape, sent: &Sent) -> Result<Option<Items<u8>>, NoMemory>
-    ensures { (letter : Letter) → IsReadable shape.now letter → sent.now ≡ as_sent letter → IfOk result (λ o. o ≡ bare_in letter) }
-{
-    match decode(alloc, shape, sent.bytes.as_slice()) {
-        Ok(message) => covered_by(alloc, shape, &message),
-        Err(Undecoded::Malformed { .. }) => Ok(None),
-        Err(Undecoded::NoMemory) => Err(NoMemory),
-    }
-}
-
-/// What the certificate of a message covers, where it is stamped.
-fn covered_by(
-    alloc: Global,
-    shape: &Shape,
-    message: &Message,
-) -> Result<Option<Items<u8>>, NoMemory>
-    requires { FitsFields shape.now message.now }
-    ensures { IfOk result (λ o. o ≡ covered message.now) }
-{
-    match bare_of(alloc, shape, message)? {
-        Some(bare) => Ok(Some(Items::from_vec(bare))),
-        None => Ok(None),
     }
 }

@@ -7,6 +7,7 @@ ghost use Rattle.mb_world.specs.Askers.{AskedWithin, AreOfShape};
 
 use crate::allowed::{culprit_of, stamping_host};
 use crate::clients::{askers, pens};
+use crate::marks::Mark;
 use crate::members::{Member, new_members};
 use crate::seen::{Seen, WorldStop};
 use mb_base::{Client, Host, Items, Key, NoMemory, Shape};
@@ -35,8 +36,8 @@ pub struct World<V: Service> {
     pub(crate) ledger: Ledger,
     /// The messages in the order in which they were made. Message 1 is the first.
     pub(crate) pool: Vec<Items<u8>>,
-    /// By its number, whether a message was looked through and nothing in it is forged. What was made stays made, so this stays so.
-    pub(crate) clean: Vec<bool>,
+    /// By its number, what is known of a message. What was made stays made, so this stays so.
+    pub(crate) marks: Vec<Mark>,
     /// The one list of executed batches.
     pub(crate) line: Vec<Slot>,
     pub(crate) refused: Vec<RefusedLine>,
@@ -101,7 +102,7 @@ impl<V: Service + Drop> World<V> {
             askers: askers(alloc, shape, secret)?,
             ledger: Ledger::make(alloc, shape)?,
             pool: Vec::new(alloc),
-            clean: Vec::new(alloc),
+            marks: Vec::new(alloc),
             line: Vec::new(alloc),
             refused: Vec::new(alloc),
             events: 0,

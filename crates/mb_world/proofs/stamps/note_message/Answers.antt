@@ -1,24 +1,30 @@
-use Rattle.std.proofs.Common.{◌∙◌, ◌∷◌, ap}
-use Rattle.mb_msg.specs.declared.event.Sent.{Sent}
+use Rattle.std.proofs.Common.{◌≡◌, ◌∙◌, ◌∷◌, List, [], Option, Some, ap, sym}
+use Rattle.std.specs.Option.{option_map, option_to_list}
+use Rattle.mb_base.specs.Shapes.{Bytes}
+use Rattle.mb_core.specs.declared.told.Outgoing.{Outgoing}
+use Rattle.mb_core.specs.declared.told.Said.{Said}
 use Rattle.mb_theory.specs.World.{update, with_tagged}
+use Rattle.mb_world.specs.Stamps.{bare_in}
 use Rattle.mb_world.proofs.AskerLaws.{ok_then}
 use Rattle.mb_world.proofs.ListLaws.{update_same}
+use Rattle.mb_world.proofs.NoteLaws.{bare_said}
 use Rattle.mb_world.proofs.WorldLaws.{keeps_ok, keeps_same}
 use Rattle.mb_world.proofs.stamps.note_message.Goals as goal
 
 pub returns-in_ok-note_stamp-in-Some-clause-keeps : goal.returns-in_ok-note_stamp-in-Some-clause-keeps
 returns-in_ok-note_stamp-in-Some-clause-keeps c = λ stamps asked tagged letter k fit is.
     let h = c.args.host in
-    let said = rw c.in-Some.is at (c.in_ok-bare.ensures letter (rw c.shape-shape.ensures fit) is) in
+    let bare = c.in_ok-bare-in-Some.bare in
+    let said : Some bare ≡ bare_in letter = ap Some c.in_ok-bare-in-Some.ensures ∙ (ap (option_map (λ (s : Said). s.bare)) (sym c.in-Some.is ∙ ap (λ (o : Outgoing). o.said) is) ∙ bare_said letter) in
     let first = c.in_ok-note_stamp-in-Some.ensures.keeps stamps asked tagged k in
     rw (← said)
-    (keeps_ok c.note_sent.result c.args.ledger.now.shape _ _ (update stamps h (c.in-Some.bare ∷ stamps h)) (update stamps h (c.in-Some.bare ∷ stamps h)) asked asked tagged (with_tagged tagged letter) first
-    (λ j. c.note_sent.ensures.keeps (update stamps h (c.in-Some.bare ∷ stamps h)) asked tagged letter j (c.as_slice.ensures ∙ ap (λ (m : Sent). m.bytes) is)))
+    (keeps_ok c.note_sent.result c.args.ledger.now.shape _ _ (update stamps h (bare ∷ stamps h)) (update stamps h (bare ∷ stamps h)) asked asked tagged (with_tagged tagged letter) first
+    (λ j. c.note_sent.ensures.keeps (update stamps h (bare ∷ stamps h)) asked tagged letter j (c.as_slice.ensures ∙ ap (λ (o : Outgoing). o.bytes) is)))
 
 pub returns-in-None-clause-keeps : goal.returns-in-None-clause-keeps
 returns-in-None-clause-keeps c = λ stamps asked tagged letter k fit is.
     let h = c.args.host in
-    let said = rw c.in-None.is at (c.in_ok-bare.ensures letter (rw c.shape-shape.ensures fit) is) in
+    let said = ap (option_map (λ (s : Said). s.bare)) (sym c.in-None.is ∙ ap (λ (o : Outgoing). o.said) is) ∙ bare_said letter in
     rw (← said)
-    (ok_then c.note_sent-in-None.result _ _ (c.note_sent-in-None.ensures.keeps stamps asked tagged letter k (c.as_slice-in-None.ensures ∙ ap (λ (m : Sent). m.bytes) is))
+    (ok_then c.note_sent-in-None.result _ _ (c.note_sent-in-None.ensures.keeps stamps asked tagged letter k (c.as_slice-in-None.ensures ∙ ap (λ (o : Outgoing). o.bytes) is))
     (λ kept. keeps_same c.args.ledger.now.shape _ stamps (update stamps h (stamps h)) asked (with_tagged tagged letter) (update_same stamps h) kept))

@@ -5,11 +5,11 @@ use Rattle.std.proofs.lemmas.Option.{slice_get-get_or}
 use Rattle.std.proofs.lemmas.List.{take_all, length-map}
 use Rattle.mb_base.specs.Shapes.{Bytes}
 use Rattle.mb_base.specs.declared.shape.Shape.{Shape}
-use Rattle.mb_msg.specs.declared.event.Sent.{Sent}
 use Rattle.mb_msg.specs.declared.message.Message.{Message}
 use Rattle.mb_model.specs.Sending.{Letter}
 use Rattle.mb_fitting.proofs.Batches.{got}
-use Rattle.mb_core.specs.Represents.{as_sent}
+use Rattle.mb_core.specs.declared.told.Outgoing.{Outgoing}
+use Rattle.mb_core.specs.Told.{as_outgoing}
 use Rattle.mb_theory.specs.World.{update, with_tagged}
 use Rattle.mb_world.specs.Stamps.{IsReadable, bare_in}
 use Rattle.mb_world.proofs.NoteLaws.{so_far, keeps_next, keeps_none, next_letter}
@@ -28,7 +28,7 @@ loop-message-preserved c =
       keeps = λ stamps asked tagged letters k is.
           let there : slice_get c.args.sent.now i ≡ Some c.message-item.result =
           slice_get-get_or _ _ c.message-item.result c.loop-message-test.true ∙ ap (λ x. Some x) (sym c.message-item.is) in
-          let next = next_letter letters i c.message-item.result (subst (λ (l : List Sent). slice_get l i ≡ Some c.message-item.result) is.sent there) in
+          let next = next_letter letters i c.message-item.result (subst (λ (l : List Outgoing). slice_get l i ≡ Some c.message-item.result) is.sent there) in
           let letter : Letter = next.0 in
           let before = c.loop-message.invariant.keeps stamps asked tagged letters k is in
           let fits : IsReadable shape letter = got (IsReadable shape) letters is.fit i letter next.1.there in
@@ -42,7 +42,7 @@ loop-message-preserved c =
 
 pub returns-clause-keeps : goal.returns-clause-keeps
 returns-clause-keeps c = λ stamps asked tagged letters k is.
-    let count = ap length is.sent ∙ length-map letters as_sent in
+    let count = ap length is.sent ∙ length-map letters as_outgoing in
     let past = c.loop-message-test.false in
     let all = take_all c.loop-message.message-index letters (omega (arith, count, past)) in
     rw all at (c.loop-message.invariant.keeps stamps asked tagged letters k is)

@@ -13,7 +13,7 @@ use Rattle.mb_model.specs.Sending.{to_all}
 use Rattle.mb_steps.proofs.StepArises.{Adds}
 use Rattle.mb_standing.specs.Stands.{GatesStand}
 use Rattle.mb_core.specs.Between.{AwaitsCheckpoint}
-use Rattle.mb_core.specs.Represents.{as_sent}
+use Rattle.mb_core.specs.Told.{as_outgoing}
 use Rattle.mb_core.proofs.OwnCheckpoints.{fits_unsigned, same_own, adds, fits_own, awaits_keeping, sent_kept, room_kept, gates_kept, who_kept, awaits_cut, checkpoint_ends}
 use Rattle.mb_core.proofs.replica.Replica.checkpoint.Goals as goal
 
@@ -120,4 +120,4 @@ returns g c = λ me x st executed whole room digest.
     (subst (λ (y : StampedMessage). Adds me d (Stamped y)) (sym is) (adds me old c.args.done.now c.args.pos c.args.state x w m same)) (gates_kept me old c.args.done.now c.args.pos c.args.state x w m same mid kept c1 k.writes)) in
     checkpoint_ends me old c.args.done.now c.args.pos c.args.state x w c.cut_log.result mid kept sent c.cut_log.new.self c.publish.new.done m same c1 k.writes stands p.writes log gates c.cut_log.ensures.writes
     (c.cut_log.ensures.stands me (Stamped (stamped.Checkpoint m)) d (awaits_cut me old c.args.done.now c.args.pos c.args.state x w m same mid kept c1 k.writes sent stands p.writes log))
-    (subst (λ (y : StampedMessage). c.publish.new.done.sent ≡ c.args.done.now.sent ++ as_sent (to_all (as_message y)) ∷ []) is p.sent) p.kept
+    (subst (λ (y : StampedMessage). c.publish.new.done.sent ≡ c.args.done.now.sent ++ as_outgoing (to_all (as_message y)) ∷ []) is p.sent) p.kept

@@ -24,8 +24,8 @@ returns-in-Some g c = λ me x s.
     let has = c.has_snapshot-has_snapshot.ensures ∙ ap is_some (s.represents.tables.shelf.finds c.args.m.now.pos) in
     gives_as me r c.args.done.now c.in-Some.outcome (answer c.in-Some.outcome x) (give_fetch me c.args.m.now x) (fetch_refused me x c.args.m.now c.in-Some.outcome (c.in-Some.ensures me x.history s.represents has)) (refl, s)
 
-pub send-requires : goal.send-requires
-send-requires g c =
+pub send-requires-clause-fits : goal.send-requires-clause-fits
+send-requires-clause-fits g c =
     let t = c.requires.history in
     let r = c.args.self.now in
     let m = c.args.m.now in

@@ -1,9 +1,10 @@
-use Rattle.std.proofs.Common.{◌≡◌, [], refl, subst, None}
+use Rattle.std.proofs.Common.{◌≡◌, [], ap, refl, subst, None}
 use Rattle.mb_msg.specs.declared.message.Message.{Message}
 use Rattle.mb_msg.specs.declared.event.Outcome.TheVariants as outcome
 use Rattle.mb_msg.specs.declared.message.Message.TheVariants as message
 use Rattle.mb_model.specs.Histories.{Accepted}
 use Rattle.mb_model.specs.PlainChecks.{resend_refusal}
+use Rattle.mb_msg.specs.Stamps.{as_stamped}
 use Rattle.mb_model.specs.Sending.{write, send, to_host}
 use Rattle.mb_model.specs.Making.{log_for}
 use Rattle.mb_model.specs.Given.{answer, give_resend}
@@ -19,10 +20,13 @@ returns-in-Some g c = λ me x s.
     let r = c.args.self.now in
     gives_as me r c.args.done.now c.in-Some.outcome (answer c.in-Some.outcome x) (give_resend me c.args.m.now x) (resend_refused me x c.args.m.now c.in-Some.outcome (c.in-Some.ensures me x.history s.represents)) (refl, s)
 
-pub send-requires : goal.send-requires
-send-requires g c =
+pub send-requires-clause-fits : goal.send-requires-clause-fits
+send-requires-clause-fits g c =
     let t = c.requires.history in
     log_fits t.me c.args.self.now t.history t.represents c.args.m.now c.in_ok-message.message (c.in_ok-message.ensures t.me t.history t.represents)
+
+pub send-requires-clause-plain : goal.send-requires-clause-plain
+send-requires-clause-plain g c = let t = c.requires.history in ap as_stamped (c.in_ok-message.ensures t.me t.history t.represents)
 
 pub returns : goal.returns
 returns g c = λ me x s.

@@ -1,6 +1,7 @@
 use Rattle.std.proofs.Common.{◌∙◌, ℕ, [], ap, subst}
 use Rattle.std.specs.Prelude.{OnOk}
 use Rattle.mb_model.specs.Execution.{asked_host}
+use Rattle.mb_msg.specs.Stamps.{as_stamped}
 use Rattle.mb_model.specs.Sending.{Letter, send, to_host}
 use Rattle.mb_core.specs.Represents.{StandsAt}
 use Rattle.mb_core.proofs.Letters.{fetch_fits}
@@ -8,12 +9,18 @@ use Rattle.mb_core.proofs.Fetching.{missing_is}
 use Rattle.mb_core.proofs.replica.Replica.send_fetch.Goals as goal
 
 -- src/fetches.rt
-pub send-requires : goal.send-requires
-send-requires g c =
+pub send-requires-clause-fits : goal.send-requires-clause-fits
+send-requires-clause-fits g c =
     let t = c.requires.history in
     let r = c.args.self.now in
     let missing = c.requires.missing ∙ missing_is t.me r.keeper.fetched t.history t.represents.tables.parts in
     fetch_fits t.me r t.history t.represents c.requires.behind _ (c.fetch-message.ensures t.me t.history t.represents missing)
+
+pub send-requires-clause-plain : goal.send-requires-clause-plain
+send-requires-clause-plain g c =
+    let t = c.requires.history in
+    let missing = c.requires.missing ∙ missing_is t.me c.args.self.now.keeper.fetched t.history t.represents.tables.parts in
+    ap as_stamped (c.fetch-message.ensures t.me t.history t.represents missing)
 
 pub returns : goal.returns
 returns g c = λ me x s missing.

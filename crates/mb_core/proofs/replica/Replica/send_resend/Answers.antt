@@ -1,16 +1,20 @@
-use Rattle.std.proofs.Common.{[], subst}
+use Rattle.std.proofs.Common.{[], ap, subst}
 use Rattle.std.specs.Prelude.{OnOk}
 use Rattle.mb_msg.specs.declared.message.Message.{Message}
+use Rattle.mb_msg.specs.Stamps.{as_stamped}
 use Rattle.mb_model.specs.Sending.{send, to_all}
 use Rattle.mb_core.specs.Represents.{StandsAt}
 use Rattle.mb_core.proofs.Letters.{resend_fits}
 use Rattle.mb_core.proofs.replica.Replica.send_resend.Goals as goal
 
 -- src/resends.rt
-pub send-requires : goal.send-requires
-send-requires g c =
+pub send-requires-clause-fits : goal.send-requires-clause-fits
+send-requires-clause-fits g c =
     let t = c.requires in
     resend_fits t.me c.args.self.now t.history t.represents c.in_ok-message.message (c.in_ok-message.ensures t.me t.history t.represents)
+
+pub send-requires-clause-plain : goal.send-requires-clause-plain
+send-requires-clause-plain g c = let t = c.requires in ap as_stamped (c.in_ok-message.ensures t.me t.history t.represents)
 
 pub returns : goal.returns
 returns g c = λ me x s.

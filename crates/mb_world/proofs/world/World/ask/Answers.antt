@@ -26,7 +26,7 @@ returns-clause-stands g c = λ y x h.
     (λ k. subst (λ (q : Request). Keeps v.ledger.shape c.note_asked.new.self (stamps s x) (q ∷ x.asked) x.tagged) is (c.in_ok-note_asked.ensures.keeps (stamps s x) x.asked x.tagged k)) in
     let text = c.in_ok-bytes.ensures.text ∙ ap (λ (q : Request). spelling (message.Request q)) is in
     if_both c.add_message.result _ _ _ c.add_message.ensures.pool c.add_message.ensures.answer
-    (λ a pool answer. made_one y v _ x z (spelling (message.Request r)) a h.rest (record { shape = refl; usig = refl; pens = refl; hosts = refl; clients = refl; clean = refl })
+    (λ a pool answer. made_one y v _ x z (spelling (message.Request r)) a h.rest (record { shape = refl; usig = refl; pens = refl; hosts = refl; clients = refl; marks = refl })
     (record { stamps = λ i. ([], refl); asked = (r ∷ [], refl); tagged = ([], refl) }) h.members (c.in_ok-request.ensures.stands s x.askers h.rest.askers) kept refl refl refl
     (pool ∙ ap (λ (b : Bytes). v.pool.items ++ b ∷ []) text) refl refl refl answer)
 

@@ -1,14 +1,23 @@
-use Rattle.std.proofs.Common.{sym, ◌∙◌}
-use Rattle.std.specs.Prelude.{slice_get}
+use Rattle.std.proofs.Common.{◌≡◌, Some, sym, ap, ◌∙◌}
+use Rattle.mb_theory.specs.World.{numbered}
 use Rattle.mb_theory.specs.WorldEvents.{is_faulty_name}
-use Rattle.mb_world.proofs.MarkLaws.{found_clean, mark_there}
+use Rattle.mb_world.specs.declared.marks.Mark.{Mark}
+use Rattle.mb_world.proofs.WorldLaws.{known_at}
+use Rattle.mb_world.proofs.MarkLaws.{found_clean}
 use Rattle.mb_world.proofs.AllowedLaws.{found_at, found_absent}
 use Rattle.mb_world.proofs.world.World.check_message.Goals as goal
 
-pub returns-then-is_marked-clause-stops : goal.returns-then-is_marked-clause-stops
-returns-then-is_marked-clause-stops g c = λ y x h.
-    let marked = rw c.as_slice.ensures.value at (sym c.is_marked.ensures ∙ c.if-is_marked.true) in
-    found_clean y.schedule x (is_faulty_name y.schedule c.args.name) c.args.number (h.rest.clean c.args.number (mark_there (slice_get c.args.self.now.clean.items c.args.number) marked))
+pub check_bytes-requires-clause-known : goal.check_bytes-requires-clause-known
+check_bytes-requires-clause-known g c =
+    let has = c.requires.has in
+    let there : numbered c.args.self.now.pool.items c.args.number ≡ Some c.as_slice-in-Some.result.now = sym c.in-Some.ensures ∙ ap Some (sym c.as_slice-in-Some.ensures) in
+    let said = known_at has.system c.args.self.now has.state has.represents c.args.number c.as_slice-in-Some.result.now there in
+    rw (ap (λ (k : Mark). k.body) c.mark_of-mark.ensures) said
+
+pub returns-then-clean-clause-stops : goal.returns-then-clean-clause-stops
+returns-then-clean-clause-stops g c = λ y x h.
+    let clean = sym (ap (λ (k : Mark). k.clean) c.mark_of-mark.ensures) ∙ c.if-clean.true in
+    found_clean y.schedule x (is_faulty_name y.schedule c.args.name) c.args.number ((h.rest.marks c.args.number).clean clean)
 
 pub returns-in-Some-clause-stops : goal.returns-in-Some-clause-stops
 returns-in-Some-clause-stops g c = λ y x h.

@@ -19,7 +19,7 @@ returns-in-Ok-clause-stands g c = λ y x h.
     let read : Ok r ≡ reply_or (message_of s.shape bytes) = found ∙ ap (λ (t : Shape). reply_or (message_of t bytes)) h.rest.shape in
     let sides = update x.askers who (takes s.shape s.secret who (x.askers who) r) in
     let z : WorldState = record (heard s bytes x) { askers = sides } in
-    let mid = side_stands y v _ x bytes sides h (record { shape = refl; usig = refl; pens = refl; hosts = refl; clients = refl; clean = refl }) refl (c.take_of-taken.ensures.stands s x.askers h.rest.askers) refl refl refl refl refl in
+    let mid = side_stands y v _ x bytes sides h (record { shape = refl; usig = refl; pens = refl; hosts = refl; clients = refl; marks = refl }) refl (c.take_of-taken.ensures.stands s x.askers h.rest.askers) refl refl refl refl refl in
     let same = ap (λ (t : Taken). answered (OfClient t) z) (c.take_of-taken.ensures.answer s x.askers h.rest.askers) ∙ sym (reads_reply s who (message_of s.shape bytes) r (heard s bytes x) read) in
     if_ok_more c.note.result _ _ (c.note.ensures.stands y z mid)
     (λ a left. leaves_at y _ (as_answer a) x _ _ same (leaves_from y _ (as_answer a) x z _ refl left))

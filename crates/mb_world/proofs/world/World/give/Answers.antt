@@ -1,13 +1,21 @@
 use Rattle.std.proofs.Common.{◌≡◌, ◌∙◌, List, Some, None, sym, ap}
 use Rattle.mb_base.specs.Shapes.{Bytes}
 use Rattle.mb_theory.specs.World.{give_host, numbered}
+use Rattle.mb_world.specs.declared.marks.Mark.{Mark}
 use Rattle.mb_world.proofs.StopLaws.{given_there}
 use Rattle.mb_world.proofs.MarkLaws.{given_clean}
-use Rattle.mb_world.proofs.WorldLaws.{message_there}
+use Rattle.mb_world.proofs.WorldLaws.{known_at, message_there}
 use Rattle.mb_world.proofs.world.World.give.Goals as goal
 
 pub mark_clean-requires-clause-clean : goal.mark_clean-requires-clause-clean
 mark_clean-requires-clause-clean g c = λ y x h correct. given_clean y.schedule x c.args.number c.args.host (c.requires.allowed y x h) correct
+
+pub give_host-requires-clause-known : goal.give_host-requires-clause-known
+give_host-requires-clause-known g c =
+    let has = c.requires.has in
+    let there : numbered c.args.self.now.pool.items c.args.number ≡ Some c.in_ok-bytes-in-Some.bytes = sym c.in-Some.ensures ∙ ap Some (sym c.in_ok-bytes-in-Some.ensures) in
+    let said = known_at has.system c.args.self.now has.state has.represents c.args.number c.in_ok-bytes-in-Some.bytes there in
+    rw (c.in_ok-mark_clean-in-Some.ensures.shape, ap (λ (k : Mark). k.body) c.mark_of.ensures) said
 
 pub give_host-requires-clause-has : goal.give_host-requires-clause-has
 give_host-requires-clause-has g c =

@@ -87,7 +87,7 @@ returns-in_ok-note_stamp-in-Some-clause-stands g c = λ y x m h faulty same.
     (λ k. c.in_ok-note_stamp-in-Some.ensures.keeps (stamps s x) x.asked x.tagged k) in
     if_both c.add_message.result _ _ _ c.add_message.ensures.pool c.add_message.ensures.answer
     (λ a pool answer. leaves_at y _ (as_answer a) x _ _ (content_is s x host c.args.content m made told.0 same)
-    (stamped_one y v _ x host (kept_stamp made) a h (record { shape = refl; usig = refl; pens = refl; hosts = refl; clients = refl; clean = refl }) faulty told.1 refl kept pool refl refl refl answer))
+    (stamped_one y v _ x host (kept_stamp made) a h (record { shape = refl; usig = refl; pens = refl; hosts = refl; clients = refl; marks = refl }) faulty told.1 refl kept pool refl refl refl answer))
 
 pub returns-in-None-clause-stands : goal.returns-in-None-clause-stands
 returns-in-None-clause-stands g c = λ y x m h faulty same.

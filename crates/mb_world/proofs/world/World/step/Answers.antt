@@ -1,10 +1,11 @@
-use Rattle.std.proofs.Common.{◌<◌, ◌∙◌, refl, subst}
+use Rattle.std.proofs.Common.{◌<◌, ◌∙◌, refl, sym, subst}
 use Rattle.mb_base.specs.declared.shape.Shape.{Shape}
 use Rattle.mb_base.specs.Shapes.{host_count}
+use Rattle.mb_core.specs.Told.{KnowsEvent}
 use Rattle.mb_theory.specs.World.{self_of}
 use Rattle.mb_world.specs.Members.{answer_at}
 use Rattle.mb_world.proofs.MarkLaws.{goes_still}
-use Rattle.mb_world.proofs.WorldLaws.{rest_of, all_rest}
+use Rattle.mb_world.proofs.WorldLaws.{rest_of, all_rest, all_of}
 use Rattle.mb_world.proofs.StampedLaws.{stamped_is_sent}
 use Rattle.mb_world.proofs.world.World.step.Goals as goal
 
@@ -12,6 +13,11 @@ pub step_at-requires-clause-rest : goal.step_at-requires-clause-rest
 step_at-requires-clause-rest g c =
     let has = c.requires.has in
     all_rest has.system g.V.Service.is_state g.V.Service.after g.V.Service.answer g.V.Service.part_of g.V.Service.restored c.args.self.now has.state has.is has.represents
+
+pub step_at-requires-clause-known : goal.step_at-requires-clause-known
+step_at-requires-clause-known g c = λ r at.
+    let has = c.requires.has in
+    subst (λ (s : Shape). KnowsEvent s c.args.known.now c.args.event.now) (sym (all_of has.system c.args.self.now has.state has.represents c.args.host r at)) c.requires.known
 
 pub invariant_of-self : goal.invariant_of-self
 invariant_of-self g c =
@@ -38,7 +44,7 @@ returns-in-Some-clause-stands g c = λ y x is h.
     let told = rw c.in-Some.is at (c.in_ok-step.ensures.stands y x.histories x.faulty_stamps is there h.members) in
     rw told.correct
     (c.stepped.ensures.stands y x (answer_at y host c.args.event.now x.histories) told.members
-    (rest_of y.schedule v _ x x h.rest (record { shape = refl; usig = refl; pens = refl; hosts = refl; clients = refl; clean = refl }) (goes_still y.schedule x) h.rest.askers h.rest.ledger h.rest.pool h.rest.line h.rest.refused h.rest.events)
+    (rest_of y.schedule v _ x x h.rest (record { shape = refl; usig = refl; pens = refl; hosts = refl; clients = refl; marks = refl }) (goes_still y.schedule x) h.rest.askers h.rest.ledger h.rest.pool h.rest.line h.rest.refused h.rest.events)
     told.step told.fit told.correct (stamped_is_sent (self_of y host) (x.histories host) c.args.event.now))
 
 pub returns-in-None-clause-stands : goal.returns-in-None-clause-stands
@@ -50,5 +56,5 @@ returns-in-None-clause-stands g c = λ y x is h.
     rw told.0
     (c.note.ensures.stands y x (record {
       members = told.1;
-      rest = rest_of y.schedule v _ x x h.rest (record { shape = refl; usig = refl; pens = refl; hosts = refl; clients = refl; clean = refl }) (goes_still y.schedule x) h.rest.askers h.rest.ledger h.rest.pool h.rest.line h.rest.refused h.rest.events;
+      rest = rest_of y.schedule v _ x x h.rest (record { shape = refl; usig = refl; pens = refl; hosts = refl; clients = refl; marks = refl }) (goes_still y.schedule x) h.rest.askers h.rest.ledger h.rest.pool h.rest.line h.rest.refused h.rest.events;
     }))

@@ -12,10 +12,11 @@ returns-clause-stands g c = λ y x a members rest is fit correct longer.
     let v = c.args.self.now in
     let s = y.schedule in
     let h = c.args.host in
+    let made = c.in_ok-note_made.ensures in
     rw (← is.outcome)
     (if_ok_more c.note.result _ _
     (c.note.ensures.stands y (partway s h a.left x)
-    (partway_stands y v _ x h c.args.step a members rest is (record { shape = refl; usig = refl; pens = refl; hosts = refl; clients = refl; clean = refl }) refl refl
+    (partway_stands y v _ x h c.args.told a members rest is (record { shape = refl; usig = refl; pens = refl; hosts = refl; clients = refl }) fit made refl refl
     (keeps_then s.shape v.ledger _ (stamps s x) (update (stamps s x) h (reverse (filter_map bare_in a.left.sent) ++ stamps s x h)) x.asked x.asked x.tagged (fold with_tagged x.tagged a.left.sent) rest.ledger
     (λ k. c.in_ok-note_step.ensures.keeps (stamps s x) x.asked x.tagged a.left.sent k
     (record { sent = c.as_slice.ensures ∙ is.sent; fit = subst (λ (z : Shape). FitsWhereStamped z a.left.sent) (sym rest.ledger.shape) fit })))

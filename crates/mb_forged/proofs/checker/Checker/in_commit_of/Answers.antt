@@ -8,7 +8,7 @@ use Rattle.mb_msg.specs.Stamps.{bare_of}
 use Rattle.mb_msg.proofs.Injective.{bare_fits}
 use Rattle.mb_theory.specs.Inside.{sender_claim, named_claim}
 use Rattle.mb_forged.proofs.Walks.{front_found, front_clean}
-use Rattle.mb_forged.proofs.checker.Checker.in_commit.Goals as goal
+use Rattle.mb_forged.proofs.checker.Checker.in_commit_of.Goals as goal
 
 pub returns-in-Some : goal.returns-in-Some
 returns-in-Some c s w a =
@@ -20,5 +20,5 @@ returns c s w a =
     let m = c.args.m.now in
     let says : Bare = bare_of (stamped.Commit m) in
     front_clean s w (named_claim s.shape m ∷ []) (sender_claim m.ui says ∷ []) c.forged.result (sym c.in_default.is ∙ c.in_ok-found.ensures s w a)
-    (c.forged.ensures s w says a (subst (λ z. FitsBare z says) a.shape (bare_fits c.args.self.now.shape.now (stamped.Commit m) c.requires))
-    (c.as_slice.ensures.value ∙ c.in_ok-bare.ensures ∙ ap (λ (d : Bytes). bare_bytes (bare.Commit m.view m.pos m.counter m.cert d)) c.batch_digest-batch.ensures))
+    (c.forged.ensures s w says a (subst (λ z. FitsBare z says) a.shape (bare_fits c.args.self.now.shape.now (stamped.Commit m) c.requires.0))
+    (c.as_slice.ensures.value ∙ c.in_ok-bare.ensures ∙ ap (λ (d : Bytes). bare_bytes (bare.Commit m.view m.pos m.counter m.cert d)) c.requires.1))
