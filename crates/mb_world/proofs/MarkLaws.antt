@@ -29,6 +29,7 @@ use Rattle.mb_theory.proofs.Lists.{get_more}
 use Rattle.mb_forged.specs.Checks.{IsClean, MadeMore}
 use Rattle.mb_forged.proofs.CleanLaws.{clean_stays}
 use Rattle.mb_world.specs.Contents.{found_in}
+use Rattle.mb_core.specs.declared.told.Said.{Said}
 use Rattle.mb_core.specs.Told.{KnowsBytes, as_outgoing, said_of}
 use Rattle.mb_world.specs.declared.marks.Mark.{Mark}
 use Rattle.mb_world.specs.Marks.{IsBodyAt, IsCleanAt, IsMarkAt, AreMarks, MarkedMore, lengthened, made_mark, mark_at, unmarked}
@@ -166,23 +167,22 @@ abbrev made_marks : List Letter → List Mark
 made_marks letters = map made_mark (map as_outgoing letters)
 
 -- A mark in front of so many is as it was, and one behind them that of what was sent.
-data Either (marks behind : List Mark) (count n : ℕ) (mark : Mark) : Type 0 where
-  before : mark ≡ mark_at marks n → Either marks behind count n mark
-  after : (k : ℕ) → n ≡ count + k → mark ≡ mark_at behind k → Either marks behind count n mark
+abbrev Either : List Mark → List Mark → ℕ → ℕ → Mark → Type 0
+Either marks behind count n mark = (mark ≡ mark_at marks n) ⊎ ((k : ℕ) × ((n ≡ count + k) × (mark ≡ mark_at behind k)))
 
 -- so many marks, however many there are
 one_of : (marks behind : List Mark) (count j n : ℕ) → count ≤ length marks + j → Either marks behind count n (mark_at (take count (marks ++ replicate j unmarked) ++ behind) n)
-one_of marks behind zero j n le = after n refl refl
+one_of marks behind zero j n le = inr (n, (refl, refl))
 one_of [] behind (suc c) zero n le = absurd (omega (arith, le))
-one_of [] behind (suc c) (suc j) zero le = before refl
+one_of [] behind (suc c) (suc j) zero le = inl refl
 one_of [] behind (suc c) (suc j) (suc n) le = elim (one_of [] behind c j n (omega (arith, le))) [
-  | before is ↦ before (is ∙ none_at n)
-  | after k at is ↦ after k (ap suc at) is
+  | inl is ↦ inl (is ∙ none_at n)
+  | inr (k, (at, is)) ↦ inr (k, (omega (arith, at), is))
 ]
-one_of (m ∷ marks) behind (suc c) j zero le = before refl
+one_of (m ∷ marks) behind (suc c) j zero le = inl refl
 one_of (m ∷ marks) behind (suc c) j (suc n) le = elim (one_of marks behind c j n (omega (arith, le))) [
-  | before is ↦ before is
-  | after k at is ↦ after k (ap suc at) is
+  | inl is ↦ inl is
+  | inr (k, (at, is)) ↦ inr (k, (omega (arith, at), is))
 ]
 
 sent_at : (s : Schedule) (pool : List Bytes) (letters : List Letter) (k : ℕ) → slice_get (pool ++ map (λ (l : Letter). spelling l.says) letters) (length pool + k) ≡ slice_get (map (λ (l : Letter). spelling l.says) letters) k
@@ -203,7 +203,7 @@ module _ (s : Schedule) where
   -- what is said of one letter
   one_said : (x : WorldState) (n : ℕ) (l : Letter) → IsReadable s.shape l → numbered x.pool n ≡ Some (spelling l.says) → IsMarkAt s x n (made_mark (as_outgoing l))
   one_said x n l readable made = record { clean = λ e. absurd cc; body = body_said (as_stamped l.says) refl } where
-    body_said : (o : Option Stamped) → as_stamped l.says ≡ o → IfSome (option_map (λ said. said.body) (option_map said_of o)) (IsBodyAt s x n)
+    body_said : (o : Option Stamped) → as_stamped l.says ≡ o → IfSome (option_map (λ (t : Said). t.body) (option_map said_of o)) (IsBodyAt s x n)
     body_said None e = tt
     body_said (Some st) e = record { bytes = spelling l.says; made = made; knows = knows_sent l.says readable st e }
 
@@ -222,8 +222,8 @@ module _ (s : Schedule) where
   marks_sent x z marks new letters count are on fit pool many is = λ n.
       let still = still_marked s x z marks on are in
       rw is (elim (one_of marks (made_marks letters) count (count - length marks) n (omega arith)) [
-        | before same ↦ rw same (still n)
-        | after k at same ↦ rw (same, at) (letters_said z count letters fit (λ i b there. in_pool i b there) k)
+        | inl same ↦ rw same (still n)
+        | inr (k, (at, same)) ↦ rw (same, at) (letters_said z count letters fit (λ i b there. in_pool i b there) k)
       ])
   where
     in_pool : (i : ℕ) (b : Bytes) → slice_get (map (λ (l : Letter). spelling l.says) letters) i ≡ Some b → numbered z.pool (count + i) ≡ Some b

@@ -4,6 +4,7 @@ use Rattle.std.specs.Option.{option_map}
 use Rattle.mb_base.specs.Shapes.{Bytes}
 use Rattle.mb_msg.specs.declared.message.Message.{Message}
 use Rattle.mb_sched.specs.declared.schedule.Schedule.{Schedule}
+use Rattle.mb_core.specs.declared.told.Said.{Said}
 use Rattle.mb_core.specs.declared.told.Outgoing.{Outgoing}
 use Rattle.mb_core.specs.Told.{KnowsBytes}
 use Rattle.mb_theory.specs.World.{World, numbered, read}
@@ -24,7 +25,7 @@ lengthened marks count = marks ++ replicate (count - length marks) unmarked
 
 -- what is known of a message that a correct host just sent
 abbrev pub made_mark : Outgoing → Mark
-made_mark o = record { clean = false; body = option_map (λ said. said.body) o.said }
+made_mark o = record { clean = false; body = option_map (λ (s : Said). s.body) o.said }
 
 -- The mark of this number says what it said, and that of one number that its message was looked through.
 pub record MarkedMore (old new : List Mark) (number n : ℕ) : Type 0 where

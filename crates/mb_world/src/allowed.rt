@@ -9,7 +9,7 @@ use crate::members::Member;
 use crate::seen::WorldStop;
 use crate::world::World;
 use mb_base::{Counter, Digest, Host, Items, MESSAGE_LIMIT, NoMemory, View};
-use mb_forged::{Checker, change_with, checkpoint_with, commit_for, prepare_with};
+use mb_forged::{Checker, ForgedClaim, change_with, checkpoint_with, commit_for, prepare_with};
 use mb_msg::{Batch, Message, Stamped, Undecoded, decode};
 use mb_parts::{MAX_BATCH, Part, Request};
 use mb_sched::{Name, WorldEvent};
@@ -62,7 +62,9 @@ impl<V: Service + Drop> World<V> {
     ghost use Rattle.mb_theory.specs.WorldEvents.{is_faulty_name};
     ghost use Rattle.mb_theory.specs.FaultyHosts.{commit_for, content, misfit, batch_from, request_at, stamped_after, change_after, is_sendable_change};
     ghost use Rattle.mb_theory.specs.Stops.{NoSuchMessage, WrongKind, name_stop, missing_stop, content_stop, to_correct, stop_of};
-    ghost use Rattle.mb_forged.specs.Checks.{AsksIn};
+    ghost use Rattle.mb_msg.specs.declared.message.Message.{Message as MessageData};
+    ghost use Rattle.mb_theory.specs.Forged.{forged_claim, has_forged_tag};
+    ghost use Rattle.mb_forged.specs.Checks.{AsksIn, told};
     ghost use Rattle.mb_world.specs.declared.seen.WorldStop.TheVariants as stop;
     ghost use Rattle.mb_world.specs.Answers.{Tells, TellsStop};
     ghost use Rattle.mb_world.specs.Contents.{Gives, Stamps, IsAllowed, found_in, rest_stop};
@@ -113,7 +115,12 @@ impl<V: Service + Drop> World<V> {
                 Name::Client(*client),
                 *message,
             ),
-            WorldEvent::Raw { name, bytes } => self.check_bytes(alloc, *name, bytes.as_slice(), &None),
+            WorldEvent::Raw { name, bytes } => self.check_bytes(
+                alloc,
+                *name,
+                bytes.as_slice(),
+                &None,
+            ),
             WorldEvent::StampPrepare {
                 view,
                 pos,
@@ -442,19 +449,10 @@ impl<V: Service + Drop> World<V> {
         ensures none { IfOk result (λ o. o ≡ None) }
         ensures runs { (result ≡ Err stop.Halted) → ⊥ }
     {
-        let event = self.events + 1;
         let checker = self.checker();
-        if let Some(claim) = checker.forged_in(alloc, message, known)? {
-            return Err(WorldStop::Forged {
-                event,
-                host: claim.host,
-                counter: claim.counter,
-            });
-        }
-        if checker.has_forged_tag_in(alloc, message)? {
-            return Err(WorldStop::ForgedTag { event });
-        }
-        Ok(None)
+        let claim = checker.forged_in(alloc, message, known)?;
+        let tag = checker.has_forged_tag_in(alloc, message)?;
+        self.found(claim, tag)
     }
 
     /// What is forged in a message that is not stamped.
@@ -465,16 +463,29 @@ impl<V: Service + Drop> World<V> {
         ensures none { IfOk result (λ o. o ≡ None) }
         ensures runs { (result ≡ Err stop.Halted) → ⊥ }
     {
-        let event = self.events + 1;
         let checker = self.checker();
-        if let Some(claim) = checker.forged_claim(alloc, message)? {
+        let claim = checker.forged_claim(alloc, message)?;
+        let tag = checker.has_forged_tag(alloc, message)?;
+        self.found(claim, tag)
+    }
+
+    /// The stop of what was found in a message: its first forged certificate, or else a forged tag.
+    fn found(&self, claim: Option<ForgedClaim>, tag: bool) -> Result<Option<Stamped>, WorldStop>
+        requires { self.now.events < 2 ^ 64 - 1 }
+        ensures stops { (y : System V) (x : WorldState) (m : MessageData) → RepresentsWorld y self.now x → claim ≡ option_map told (forged_claim y.schedule x m) → tag ≡ has_forged_tag y.schedule x m
+            → Tells (found_in y.schedule x (Some m)) result }
+        ensures none { IfOk result (λ o. o ≡ None) }
+        ensures runs { (result ≡ Err stop.Halted) → ⊥ }
+    {
+        let event = self.events + 1;
+        if let Some(claim) = claim {
             return Err(WorldStop::Forged {
                 event,
                 host: claim.host,
                 counter: claim.counter,
             });
         }
-        if checker.has_forged_tag(alloc, message)? {
+        if tag {
             return Err(WorldStop::ForgedTag { event });
         }
         Ok(None)

@@ -38,7 +38,12 @@ pub(crate) fn note_step(
 }
 
 /// One message that a correct host sent.
-fn note_message(alloc: Global, ledger: &mut Ledger, host: Host, sent: &Outgoing) -> Result<(), NoMemory>
+fn note_message(
+    alloc: Global,
+    ledger: &mut Ledger,
+    host: Host,
+    sent: &Outgoing,
+) -> Result<(), NoMemory>
     requires { host < host_count ledger.old.shape }
     ensures keeps { (stamps : ℕ → List Bytes) (asked : List Request) (tagged : List MessageData) (letter : Letter) → Keeps ledger.old.shape ledger.old stamps asked tagged
         → IsReadable ledger.old.shape letter → sent.now ≡ as_outgoing letter

@@ -20,6 +20,7 @@ give_stamped-requires g c =
       fits = subst (λ (s : Shape). FitsStamped s c.in-Some.entry) (shape_on c.args.self.now c.loop-entry.self c.args.entries (length c.loop-entry.yielded) c.requires.stepping c.loop-entry.invariant)
           (one_fits (FitsStamped c.args.self.now.agreement.shape) c.args.entries (length c.loop-entry.yielded) c.in-Some.entry c.requires.fit t.0 t.1);
       stands = has_history c.loop-entry.self (stepping_on c.args.self.now c.loop-entry.self c.args.entries (length c.loop-entry.yielded) c.requires.stepping c.loop-entry.invariant);
+      known = tt;
     }
 
 pub loop-entry-preserved : goal.loop-entry-preserved

@@ -5,4 +5,4 @@ use Rattle.mb_core.proofs.told.Told.into_step.Goals as goal
 
 -- src/told.rt
 pub returns-clause-lengths : goal.returns-clause-lengths
-returns-clause-lengths c = subst AreMessageLong (sym c.plain_all.ensures) (plain_long c.args.self.sent c.requires)
+returns-clause-lengths c = subst AreMessageLong (sym c.in_ok-plain_all.ensures) (plain_long c.args.self.sent c.requires)
