@@ -13,6 +13,7 @@ use Rattle.mb_msg.specs.declared.stamped.Stamped.{Stamped}
 use Rattle.mb_msg.specs.AsStamped.{stamped_digest}
 use Rattle.mb_msg.specs.Fits.{Fits}
 use Rattle.mb_msg.specs.Signed.{covered}
+use Rattle.mb_msg.specs.Reading.{message_of}
 use Rattle.mb_msg.specs.Spelling.{spelling}
 use Rattle.mb_msg.specs.Stamps.{as_stamped, bare_of}
 use Rattle.mb_msg.proofs.Messages.{message_again}
@@ -172,7 +173,7 @@ Either marks behind count n mark = (mark ≡ mark_at marks n) ⊎ ((k : ℕ) × 
 
 -- so many marks, however many there are
 one_of : (marks behind : List Mark) (count j n : ℕ) → count ≤ length marks + j → Either marks behind count n (mark_at (take count (marks ++ replicate j unmarked) ++ behind) n)
-one_of marks behind zero j n le = inr (n, (refl, refl))
+one_of marks behind zero j n le = inr (n, (omega arith, refl))
 one_of [] behind (suc c) zero n le = absurd (omega (arith, le))
 one_of [] behind (suc c) (suc j) zero le = inl refl
 one_of [] behind (suc c) (suc j) (suc n) le = elim (one_of [] behind c j n (omega (arith, le))) [
@@ -185,20 +186,22 @@ one_of (m ∷ marks) behind (suc c) j (suc n) le = elim (one_of marks behind c j
   | inr (k, (at, is)) ↦ inr (k, (omega (arith, at), is))
 ]
 
-sent_at : (s : Schedule) (pool : List Bytes) (letters : List Letter) (k : ℕ) → slice_get (pool ++ map (λ (l : Letter). spelling l.says) letters) (length pool + k) ≡ slice_get (map (λ (l : Letter). spelling l.says) letters) k
-sent_at s [] letters k = refl
-sent_at s (b ∷ pool) letters k = sent_at s pool letters k
+behind_at : (pool more : List Bytes) (n k : ℕ) → n ≡ length pool + k → slice_get (pool ++ more) n ≡ slice_get more k
+behind_at [] more n k e = let same : n ≡ k = omega (arith, e) in ap (λ (i : ℕ). slice_get more i) same
+behind_at (b ∷ pool) more zero k e = absurd (omega (arith, e))
+behind_at (b ∷ pool) more (suc n) k e = behind_at pool more n k (omega (arith, e))
 
 module _ (s : Schedule) where
+  same_message : (m read : Message) → Fits s.shape m → message_of s.shape (spelling m) ≡ Ok read → m ≡ read
+  same_message m read fits reads =
+      let first : message_of s.shape (spelling m) ≡ Ok m = message_again s.shape (shape_fits s.shape) m fits in
+      cc
+
   -- The digest of what was stamped is that of the message that its bytes are.
   knows_sent : (m : Message) → IfSome (covered m) (λ bare. Fits s.shape m) → (st : Stamped) → as_stamped m ≡ Some st → KnowsBytes s.shape (Some (stamped_digest st)) (spelling m)
   knows_sent m readable st is = λ read reads other stamped.
       let fits : Fits s.shape m = subst (λ (o : Option Stamped). IfSome (option_map (λ (k : Stamped). bare_bytes (bare_of k)) o) (λ bare. Fits s.shape m)) is readable in
-      let same : m ≡ read = ok_is m read (sym (message_again s.shape (shape_fits s.shape) m fits) ∙ reads) in
-      ap stamped_digest (same_Some st other (sym is ∙ (ap as_stamped same ∙ stamped)))
-  where
-    ok_is : (a b : Message) → Ok a ≡ Ok b → a ≡ b
-    ok_is a b e = cc
+      ap stamped_digest (same_Some st other (sym is ∙ (ap as_stamped (same_message m read fits reads) ∙ stamped)))
 
   -- what is said of one letter
   one_said : (x : WorldState) (n : ℕ) (l : Letter) → IsReadable s.shape l → numbered x.pool n ≡ Some (spelling l.says) → IsMarkAt s x n (made_mark (as_outgoing l))
@@ -224,12 +227,11 @@ module _ (s : Schedule) where
       rw is (elim (one_of marks (made_marks letters) count (count - length marks) n (omega arith)) [
         | inl same ↦ rw same (still n)
         | inr (k, (at, same)) ↦ rw (same, at) (letters_said z count letters fit (λ i b there. in_pool i b there) k)
-      ])
-  where
-    in_pool : (i : ℕ) (b : Bytes) → slice_get (map (λ (l : Letter). spelling l.says) letters) i ≡ Some b → numbered z.pool (count + i) ≡ Some b
-    in_pool i b there =
-        let at : count + i ≡ suc (length x.pool + i) = omega (arith, many) in
-        rw (at, pool) (sent_at s x.pool letters i ∙ there)
+      ]) where
+        in_pool : (i : ℕ) (b : Bytes) → slice_get (map (λ (l : Letter). spelling l.says) letters) i ≡ Some b → numbered z.pool (count + i) ≡ Some b
+        in_pool i b there =
+            let at : count + i ≡ suc (length x.pool + i) = omega (arith, many) in
+            rw (at, pool) (behind_at x.pool (map (λ (l : Letter). spelling l.says) letters) (length x.pool + i) i refl ∙ there)
 
 -- ---- what is told where a message was looked through
 

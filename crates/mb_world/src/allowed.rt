@@ -49,12 +49,13 @@ pub(crate) fn stamping_host(event: &WorldEvent) -> Option<Host>
 }
 
 impl<V: Service + Drop> World<V> {
-    ghost use Rattle.std.specs.Prelude.{◌≡◌, ◌≤◌, ◌<◌, ◌+◌, ◌-◌, ◌^◌, true, not, length, reverse, find, is_none, Some, None, Err, option_map, option_and_then, IfOk, IfSome};
+    ghost use Rattle.std.specs.Prelude.{◌≡◌, ◌≤◌, ◌<◌, ◌+◌, ◌-◌, ◌^◌, true, not, length, reverse, find, is_none, Some, None, Ok, Err, option_map, option_and_then, IfOk, IfSome};
     ghost use Rattle.std.specs.Bool.{then_some};
     ghost use Rattle.std.specs.List.{AllByRecursion};
     ghost use Rattle.mb_base.specs.Shapes.{host_count};
     ghost use Rattle.mb_parts.specs.Fits.{IsPosition, FitsBatch, FitsRequest};
     ghost use Rattle.mb_msg.specs.Fits.{Fits, FitsStamped};
+    ghost use Rattle.mb_msg.specs.Reading.{message_of};
     ghost use Rattle.mb_msg.specs.Stamps.{as_message, as_stamped};
     ghost use Rattle.mb_core.specs.Told.{KnowsBody, KnowsBytes, KnowsMessage};
     ghost use Rattle.mb_sched.specs.Limits.{EventFits, NameFits, is_faulty};
@@ -215,6 +216,7 @@ impl<V: Service + Drop> World<V> {
 
     fn read_bytes(&self, alloc: Global, bytes: &[u8]) -> Result<Option<Message>, NoMemory>
         ensures message { (y : System V) (x : WorldState) → RepresentsWorld y self.now x → IfOk result (λ o. o ≡ read y.schedule bytes.now) }
+        ensures reads { IfOk result (λ o. IfSome o (λ m. message_of self.now.shape bytes.now ≡ Ok m)) }
         ensures fits { IfOk result (λ o. IfSome o (Fits self.now.shape)) }
     {
         match decode(alloc, &self.shape, bytes) {

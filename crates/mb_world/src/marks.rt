@@ -46,7 +46,7 @@ fn lengthen(marks: &mut Vec<Mark>, count: usize) -> Result<(), NoMemory>
 }
 
 /// The message of a number was looked through, of so many.
-fn mark(marks: &mut Vec<Mark>, count: usize, number: u64) -> Result<(), NoMemory>
+fn note_clean(marks: &mut Vec<Mark>, count: usize, number: u64) -> Result<(), NoMemory>
     ensures { OnOk result ((n : ℕ) → MarkedMore marks.old.items marks.new.items number n) }
 {
     lengthen(marks, count)?;
@@ -107,6 +107,6 @@ impl<V: Service + Drop> World<V> {
             return Ok(());
         }
         let count = self.pool.len() + 1;
-        mark(&mut self.marks, count, number)
+        note_clean(&mut self.marks, count, number)
     }
 }

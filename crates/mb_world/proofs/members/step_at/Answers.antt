@@ -1,4 +1,4 @@
-use Rattle.std.proofs.Common.{◌≡◌, ◌∙◌, ◌<◌, length, Some, ap, refl, arith}
+use Rattle.std.proofs.Common.{◌≡◌, ◌∙◌, ◌<◌, ℕ, length, Some, ap, refl, subst, arith}
 use Rattle.std.specs.List.{slice_get}
 use Rattle.mb_base.specs.Shapes.{host_count}
 use Rattle.std.proofs.lemmas.Option.{slice_get_read}
@@ -13,7 +13,7 @@ step_of-requires g c =
     let lt : c.from.result < length c.args.members.now.items = omega (arith, c.from.ensures, c.requires.host) in
     let read = slice_get_read c.args.members.now.items (length c.args.members.now.items) c.from.result c.index_mut.result.now refl lt c.index_mut.ensures.value in
     let at : slice_get c.args.members.now.items c.from.result ≡ Some (member.Correct c.in-Correct.replica) = read ∙ ap Some c.in-Correct.is in
-    record { runs = c.requires.runs c.from.result (member.Correct c.in-Correct.replica) at; rest = c.requires.rest c.from.result c.in-Correct.replica at }
+    record { runs = c.requires.runs c.from.result (member.Correct c.in-Correct.replica) at; rest = c.requires.rest c.from.result c.in-Correct.replica at; known = c.requires.known c.in-Correct.replica (subst (λ (i : ℕ). slice_get c.args.members.now.items i ≡ Some (member.Correct c.in-Correct.replica)) c.from.ensures at) }
 
 pub returns-in_ok-step_of-in-Correct-clause-stands : goal.returns-in_ok-step_of-in-Correct-clause-stands
 returns-in_ok-step_of-in-Correct-clause-stands g c = λ y d stamps is there all.

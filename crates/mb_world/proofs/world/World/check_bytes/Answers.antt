@@ -2,6 +2,11 @@ use Rattle.std.proofs.Common.{Some, sym, ◌∙◌}
 use Rattle.mb_world.proofs.AllowedLaws.{found_lost, found_unread, found_read}
 use Rattle.mb_world.proofs.world.World.check_bytes.Goals as goal
 
+pub check_read-requires-clause-known : goal.check_read-requires-clause-known
+check_read-requires-clause-known g c =
+    let reads = rw c.in-Some.is at c.in_ok-message.ensures.reads in
+    c.requires.known c.in-Some.message reads
+
 pub returns-then-is_faulty-clause-stops : goal.returns-then-is_faulty-clause-stops
 returns-then-is_faulty-clause-stops g c = λ y x h.
     rw (sym (c.is_faulty.ensures y x h) ∙ c.if-is_faulty.true) (found_lost y.schedule x (Some c.args.bytes.now))

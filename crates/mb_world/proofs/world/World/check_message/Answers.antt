@@ -12,12 +12,7 @@ check_bytes-requires-clause-known g c =
     let has = c.requires.has in
     let there : numbered c.args.self.now.pool.items c.args.number ≡ Some c.as_slice-in-Some.result.now = sym c.in-Some.ensures ∙ ap Some (sym c.as_slice-in-Some.ensures) in
     let said = known_at has.system c.args.self.now has.state has.represents c.args.number c.as_slice-in-Some.result.now there in
-    rw (ap (λ (k : Mark). k.body) c.mark_of-mark.ensures) said
-
-pub returns-then-clean-clause-stops : goal.returns-then-clean-clause-stops
-returns-then-clean-clause-stops g c = λ y x h.
-    let clean = sym (ap (λ (k : Mark). k.clean) c.mark_of-mark.ensures) ∙ c.if-clean.true in
-    found_clean y.schedule x (is_faulty_name y.schedule c.args.name) c.args.number ((h.rest.marks c.args.number).clean clean)
+    rw (ap (λ (k : Mark). k.body) c.mark_of-mark.ensures, c.as_slice.ensures.value) said
 
 pub returns-in-Some-clause-stops : goal.returns-in-Some-clause-stops
 returns-in-Some-clause-stops g c = λ y x h.

@@ -1,11 +1,16 @@
-use Rattle.std.proofs.Common.{Err, Option, option_map}
+use Rattle.std.proofs.Common.{◌≡◌, true, Err, Option, option_map, ap, not}
+use Rattle.std.specs.Bool.{then_some}
 use Rattle.std.proofs.lemmas.Result.{err_from_is_err_and}
 use Rattle.mb_parts.specs.declared.batch.Batch.{Batch}
 use Rattle.mb_msg.specs.declared.stamped.Stamped.{Stamped}
 use Rattle.mb_msg.specs.Stamps.{as_stamped}
-use Rattle.mb_theory.specs.FaultyHosts.{commit_for, misfit}
+use Rattle.mb_sched.specs.declared.schedule.Name.TheVariants as name
+use Rattle.mb_sched.specs.Limits.{is_faulty}
+use Rattle.mb_theory.specs.WorldEvents.{culprit}
+use Rattle.mb_theory.specs.FaultyHosts.{commit_for, is_sendable_change, misfit}
 use Rattle.mb_theory.specs.Stops.{WrongKind, content_stop}
 use Rattle.mb_world.proofs.AnswerLaws.{told_on}
+use Rattle.mb_world.proofs.StopLaws.{is_doer_faulty}
 use Rattle.mb_world.proofs.AllowedLaws.{told_alone}
 use Rattle.mb_world.proofs.world.World.content_of.Goals as goal
 
@@ -33,3 +38,9 @@ returns-in-StampCommit-clause-stops g c = λ y x h name.
 pub returns-in-StampAs-clause-stops : goal.returns-in-StampAs-clause-stops
 returns-in-StampAs-clause-stops g c = λ y x h name.
     rw c.in-StampAs.is (told_alone (content_stop y.schedule x c.in-StampAs.message as_stamped) c.stamped_of.result (c.stamped_of.ensures.stops y x h))
+
+pub returns-in-StampChange-clause-stops : goal.returns-in-StampChange-clause-stops
+returns-in-StampChange-clause-stops g c = λ y x h named.
+    let change = c.in-StampChange in
+    let faulty : is_faulty y.schedule change.host ≡ true = is_doer_faulty y.schedule x c.args.event.now (name.Host change.host) (ap culprit change.is) named in
+    rw change.is (told_alone (then_some (not (is_sendable_change y.schedule x change.host change.view change.counter)) (WrongKind change.counter)) c.change_of.result (c.change_of.ensures.stops y x h faulty))

@@ -15,7 +15,7 @@ give_host-requires-clause-known g c =
     let has = c.requires.has in
     let there : numbered c.args.self.now.pool.items c.args.number ≡ Some c.in_ok-bytes-in-Some.bytes = sym c.in-Some.ensures ∙ ap Some (sym c.in_ok-bytes-in-Some.ensures) in
     let said = known_at has.system c.args.self.now has.state has.represents c.args.number c.in_ok-bytes-in-Some.bytes there in
-    rw (c.in_ok-mark_clean-in-Some.ensures.shape, ap (λ (k : Mark). k.body) c.mark_of.ensures) said
+    rw (c.in_ok-mark_clean-in-Some.ensures.shape, ap (λ (k : Mark). k.body) c.mark_of-known.ensures, c.as_slice.ensures.value) said
 
 pub give_host-requires-clause-has : goal.give_host-requires-clause-has
 give_host-requires-clause-has g c =

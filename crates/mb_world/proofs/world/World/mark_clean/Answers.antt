@@ -7,7 +7,7 @@ pub returns-clause-stands : goal.returns-clause-stands
 returns-clause-stands g c = λ y x h.
     let old = h.rest in
     let is = c.requires.clean y x h (sym (c.is_faulty.ensures y x h) ∙ c.if-is_faulty.false) in
-    on_ok_more c.mark.result _ _ c.mark.ensures
+    on_ok_more c.note_clean.result _ _ c.note_clean.ensures
     (λ one. record {
       members = h.members;
       rest = record {

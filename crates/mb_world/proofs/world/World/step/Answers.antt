@@ -41,7 +41,7 @@ returns-in-Some-clause-stands g c = λ y x is h.
     let v = c.args.self.now in
     let host = c.args.host in
     let there : host < host_count y.schedule.shape = subst (λ (z : Shape). host < host_count z) h.rest.shape c.requires.host in
-    let told = rw c.in-Some.is at (c.in_ok-step.ensures.stands y x.histories x.faulty_stamps is there h.members) in
+    let told = rw c.in-Some.is at (c.in_ok-told.ensures.stands y x.histories x.faulty_stamps is there h.members) in
     rw told.correct
     (c.stepped.ensures.stands y x (answer_at y host c.args.event.now x.histories) told.members
     (rest_of y.schedule v _ x x h.rest (record { shape = refl; usig = refl; pens = refl; hosts = refl; clients = refl; marks = refl }) (goes_still y.schedule x) h.rest.askers h.rest.ledger h.rest.pool h.rest.line h.rest.refused h.rest.events)
@@ -52,7 +52,7 @@ returns-in-None-clause-stands g c = λ y x is h.
     let v = c.args.self.now in
     let host = c.args.host in
     let there : host < host_count y.schedule.shape = subst (λ (z : Shape). host < host_count z) h.rest.shape c.requires.host in
-    let told = rw c.in-None.is at (c.in_ok-step.ensures.stands y x.histories x.faulty_stamps is there h.members) in
+    let told = rw c.in-None.is at (c.in_ok-told.ensures.stands y x.histories x.faulty_stamps is there h.members) in
     rw told.0
     (c.note.ensures.stands y x (record {
       members = told.1;

@@ -12,7 +12,7 @@ returns-clause-stands g c = λ y x a members rest is fit correct longer.
     let v = c.args.self.now in
     let s = y.schedule in
     let h = c.args.host in
-    let made = c.in_ok-note_made.ensures in
+    let made = rw (c.len-count.ensures ∙ c.args.self.now.pool.ok.0, c.as_slice-2.ensures) at c.in_ok-note_made.ensures in
     rw (← is.outcome)
     (if_ok_more c.note.result _ _
     (c.note.ensures.stands y (partway s h a.left x)
