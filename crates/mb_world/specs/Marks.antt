@@ -1,5 +1,5 @@
 -- What is known of messages, by their numbers.
-use Rattle.std.specs.Prelude.{◌≡◌, ℕ, ◌-◌, ◌⊎◌, ◌++◌, true, false, List, Option, Some, None, IfSome, length, replicate, unwrap_or, slice_get}
+use Rattle.std.specs.Prelude.{◌≡◌, ℕ, ◌-◌, ◌⊎◌, ◌++◌, true, false, List, Some, None, IfSome, length, replicate, unwrap_or, slice_get}
 use Rattle.std.specs.Option.{option_map}
 use Rattle.mb_base.specs.Shapes.{Bytes}
 use Rattle.mb_msg.specs.declared.message.Message.{Message}

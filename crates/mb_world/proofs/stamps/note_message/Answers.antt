@@ -1,6 +1,5 @@
-use Rattle.std.proofs.Common.{◌≡◌, ◌∙◌, ◌∷◌, List, [], Option, Some, ap, sym}
-use Rattle.std.specs.Option.{option_map, option_to_list}
-use Rattle.mb_base.specs.Shapes.{Bytes}
+use Rattle.std.proofs.Common.{◌≡◌, ◌∙◌, ◌∷◌, Some, ap, sym}
+use Rattle.std.specs.Option.{option_map}
 use Rattle.mb_core.specs.declared.told.Outgoing.{Outgoing}
 use Rattle.mb_core.specs.declared.told.Said.{Said}
 use Rattle.mb_theory.specs.World.{update, with_tagged}
