@@ -1,5 +1,5 @@
 -- What a step tells of what it sent.
-use Rattle.std.specs.Prelude.{◌≡◌, List, Option, Some, None, Result, Ok, map, IfSome}
+use Rattle.std.specs.Prelude.{◌≡◌, Option, Some, Ok, IfSome}
 use Rattle.std.specs.Option.{option_map}
 use Rattle.mb_base.specs.Shapes.{Bytes}
 use Rattle.mb_base.specs.declared.shape.Shape.{Shape}
