@@ -48,6 +48,7 @@ use Rattle.mb_model.specs.HostStep.{on_bytes, on_patience, on_nudge, transition}
 use Rattle.mb_model.proofs.Options.{option_cases, if_some}
 use Rattle.mb_theory.specs.World.{System, self_of}
 use Rattle.mb_theory.specs.WorldSteps.{world}
+use Rattle.mb_known.proofs.Cases.{none_is}
 use Rattle.mb_known.proofs.RestsGiven.{convicts}
 use Rattle.mb_line.proofs.StateParts.{part_digest}
 use Rattle.mb_line.proofs.Walks.{IsRuled}
@@ -76,10 +77,6 @@ parts_certified digests parts first e i part there =
     let place : i ≡ (first + i) - first = omega arith in
     listed (slice_get digests (first + i)) part (part_digest digests parts first (first + i) part e (omega arith) (subst (λ (j : ℕ). slice_get parts j ≡ Some part) place there))
 
-nothing : {A : Type 0} (o : Option A) → is_none o ≡ true → o ≡ None
-nothing None e = refl
-nothing (Some x) e = absurd cc
-
 module _ {S : Type 0} (self : Identity S) where
   fault_is : (r : Result (ServedState S) (ℕ × ℕ)) (o : Outcome) → fault_of self r ≡ Some o → (f : ℕ × ℕ) × (r ≡ Err f)
   fault_is (Ok x) o e = absurd cc
@@ -98,7 +95,7 @@ module _ {S : Type 0} (self : Identity S) where
         behind = ltb-true (exec_of d) (low_of self d) w.1;
         list = same_bytes-true (sha256 (digest_string m.digests m.pos)) (stable_of self d).state t.1;
         parts = parts_certified m.digests m.parts m.first t.2;
-        all = nothing (missing self after) l.0;
+        all = none_is (missing self after) l.0;
         fault = f.0;
         none = f.1;
       } where
@@ -267,7 +264,7 @@ module _ {S : Type 0} (self : Identity S) where
               shows = is;
               certified = e;
               ahead = ltb-true (gate x.history l.host).counter f.counter t.1;
-              free = nothing (closed_at x.history l.host) t.0;
+              free = none_is (closed_at x.history l.host) t.0;
             } in
             rw forward (brings (Jumped l.host f) x.history (l, g, shows) s)
         | inr stays ↦ rw stays s

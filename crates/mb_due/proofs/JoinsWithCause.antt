@@ -21,16 +21,13 @@ use Rattle.mb_theory.specs.World.{System, self_of}
 use Rattle.mb_theory.specs.WorldSteps.{world}
 use Rattle.mb_theory.specs.NothingLeft.{IsEvident}
 use Rattle.mb_theory.proofs.KeptByWorlds.{world_arises}
+use Rattle.mb_known.proofs.Cases.{not_true}
 use Rattle.mb_known.proofs.Moments.{arises_by}
 use Rattle.mb_theory.specs.JoinsWithCause.{FellBehind, IsPastItsPlan, MayStampJoin, JoinsWithCause}
 
 either : (a b : Bool) → (a || b) ≡ true → (a ≡ true) ⊎ (b ≡ true)
 either true b e = inl refl
 either false b e = inr e
-
-is_not : (a : Bool) → not a ≡ true → a ≡ false
-is_not true e = absurd cc
-is_not false e = refl
 
 not_both : (a b : Bool) → not (a && b) ≡ true → a ≡ true → b ≡ false
 not_both true true e is = absurd cc
@@ -65,7 +62,7 @@ module _ {S : Type 0} (self : Identity S) (d : History) where
       let f = and_parts (nat_lt 0 (low_of self d)) (nat_le (end_of (evidence_of self d)) (low_of self d)) c.1 in
       record {
         above = ltb-true 0 (view_of self d) a.0;
-        closed = is_not (is_open self d) b.0;
+        closed = not_true (is_open self d) b.0;
         announced = not_both (is_primary self d) (is_changing self d) c.0;
         some = ltb-true 0 (low_of self d) f.0;
         past = leb-true (end_of (evidence_of self d)) (low_of self d) f.1;

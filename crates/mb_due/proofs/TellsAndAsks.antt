@@ -5,7 +5,6 @@ use Rattle.std.proofs.lemmas.Bool.{cases_Bool, eq-eqb, lt-ltb}
 use Rattle.mb_usig.specs.Tags.{wish_tag}
 use Rattle.mb_msg.specs.declared.message.Message.{Message}
 use Rattle.mb_msg.specs.declared.message.Message.TheVariants as message
-use Rattle.mb_msg.specs.declared.change.ReqViewChange.{ReqViewChange}
 use Rattle.mb_msg.specs.declared.transfer.Log.{Log}
 use Rattle.mb_msg.specs.declared.stamped.Stamped.{Stamped as StampedMessage}
 use Rattle.mb_msg.specs.declared.event.Event.TheVariants as event
@@ -19,7 +18,7 @@ use Rattle.mb_model.specs.Stable.{stable_of, low_of}
 use Rattle.mb_model.specs.Positions.{exec_of, is_behind}
 use Rattle.mb_model.specs.Execution.{asked_host}
 use Rattle.mb_model.specs.Sending.{Letter, Progress, begin, to_all, to_host}
-use Rattle.mb_model.specs.Making.{wish, wish_for, fetch}
+use Rattle.mb_model.specs.Making.{wish_for, fetch}
 use Rattle.mb_model.specs.PlainChecks.{log_refusal}
 use Rattle.mb_model.specs.CarriedOut.{run_rules, enough}
 use Rattle.mb_model.specs.Given.{Answer, give_log, give}
