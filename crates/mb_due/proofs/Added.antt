@@ -7,7 +7,9 @@ use Rattle.std.proofs.lemmas.Bool.{cases_Bool, and_parts, eqb-true, ltb-true}
 use Rattle.sha2.specs.Sha256.{sha256}
 use Rattle.sha2.proofs.Facts256.{length-sha256}
 use Rattle.mb_base.specs.Shapes.{Bytes}
+use Rattle.mb_usig.specs.Tags.{certificate}
 use Rattle.mb_usig.proofs.Laws.{same_bytes-true}
+use Rattle.mb_parts.specs.Bares.{bare_bytes}
 use Rattle.mb_parts.specs.declared.floor.Floor.{Floor}
 use Rattle.mb_parts.specs.declared.certificates.FloorCert.{FloorCert}
 use Rattle.mb_parts.specs.declared.request.Request.{Request}
@@ -28,7 +30,7 @@ use Rattle.mb_msg.specs.declared.event.Event.TheVariants as event
 use Rattle.mb_msg.specs.declared.event.Outcome.{Outcome}
 use Rattle.mb_msg.specs.declared.event.Outcome.TheVariants as outcome
 use Rattle.mb_msg.specs.declared.event.Placed.{Placed}
-use Rattle.mb_msg.specs.Stamps.{ui_of, as_message}
+use Rattle.mb_msg.specs.Stamps.{bare_of, ui_of, as_message}
 use Rattle.mb_msg.specs.Reading.{message_of}
 use Rattle.mb_model.specs.Service.{Served as ServedState}
 use Rattle.mb_model.specs.States.{digest_string}
@@ -104,7 +106,15 @@ module _ {S : Type 0} (self : Identity S) where
         wanted false b e = absurd cc
 
   out_of_order : (d : History) (x : StampedMessage) (r : ℕ) → stamped_refusal self d x ≡ Some (outcome.Illegal r) → IsOutOfOrder self d (ui_of x).host (ui_of x).counter x
-  out_of_order d x r e = let c = convicts self d x r e in record { sender = refl; place = refl; next = c.next; refused = c.refused }
+  out_of_order d x r e =
+      let c = convicts self d x r e in
+      record {
+        certified = same_bytes-true (ui_of x).cert (certificate self.secret (ui_of x).host (ui_of x).counter (bare_bytes (bare_of x))) c.certified;
+        sender = refl;
+        place = refl;
+        next = c.next;
+        refused = c.refused;
+      }
 
   -- ---- what a step has added so far
 

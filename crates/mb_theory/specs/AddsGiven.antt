@@ -26,6 +26,7 @@ use Rattle.mb_model.specs.Positions.{exec_of}
 use Rattle.mb_model.specs.Execution.{state_from, parts_held, missing}
 use Rattle.mb_model.specs.Given.{named_prepare}
 use Rattle.mb_model.specs.HostStep.{transition}
+use Rattle.mb_theory.specs.TakesValid.{IsCertified}
 
 -- A given message brings this stamped one: it is it, or a LOG that has it among its entries.
 abbrev pub IsBroughtBy : Message → StampedMessage → Type 0
@@ -53,8 +54,9 @@ module _ {S : Type 0} (self : Identity S) where
     pub ahead : (gate before h).counter < floor.counter
     pub free : closed_at before h ≡ None
 
-  -- The message stands right behind the last one of its host, and may not stand there.
+  -- The message is rightly certified, stands right behind the last one of its host, and may not stand there.
   pub record IsOutOfOrder (before : History) (h counter : ℕ) (x : StampedMessage) : Type 0 where
+    pub certified : IsCertified self x
     pub sender : (ui_of x).host ≡ h
     pub place : (ui_of x).counter ≡ counter
     pub next : counter ≡ (gate before h).counter + 1

@@ -1,5 +1,5 @@
 -- A host joins only with cause: all that is stable is executed, with evidence of its view, and what is stable lies beyond what its view has ordered.
-use Rattle.std.specs.Prelude.{◌≡◌, ℕ, ◌≤◌, ◌<◌, ◌⊎◌, true, false, ◌∷◌, ◌++◌}
+use Rattle.std.specs.Prelude.{◌≡◌, ◌≤◌, ◌<◌, ◌⊎◌, true, false, ◌∷◌, ◌++◌}
 use Rattle.mb_parts.specs.Ordered.{end_of}
 use Rattle.mb_msg.specs.declared.change.Join.{Join}
 use Rattle.mb_msg.specs.declared.stamped.Stamped.TheVariants as stamped
