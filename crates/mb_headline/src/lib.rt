@@ -10,6 +10,7 @@ ghost use Rattle.mb_theory.specs.AllDue.{HostsLeaveNothing};
 /// It leaves its view with cause alone. With a CHECKPOINT that comes at or above the stable position it cuts its log at the floor of the greatest position on
 /// which f+1 hosts agree, where its counter has reached that. It sends what it stamps and each fresh reply, and answers who asks; and what it stamps in a change
 /// of the view, asks and answers says what it holds.
+/// What an event brings is written first, nothing is added that did not come with it, and what is refused leaves all as it was.
 /// So it is of whole hosts over any service.
 pub fn hosts_leave_nothing<V>()
     ensures { HostsLeaveNothing V }
