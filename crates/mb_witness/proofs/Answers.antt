@@ -122,7 +122,7 @@ valid_log_1 : logs.IsValidLog (host 2) log_1
 unfolding host_on_literals
 valid_log_1 = record { other = λ e. let is : 1 ≡ 2 = e in absurd (omega (arith, is)); floor = λ c e. absurd (none_some c e); stable = refl; evidence = λ x e. absurd (none_some x e) }
 
-a_log_is_taken : (logs.KeepsLogs (host 2) [] → Contains (left_by 2 [] (message.Log log_1)) (Accepted (message.Log log_1))) × Contains (left_by 2 [] (message.Log log_1)) (Accepted (message.Log log_1))
+a_log_is_taken : (logs.LogsStand (host 2) [] → Contains (left_by 2 [] (message.Log log_1)) (Accepted (message.Log log_1))) × Contains (left_by 2 [] (message.Log log_1)) (Accepted (message.Log log_1))
 unfolding host_on_literals transition
 a_log_is_taken = (
   λ keeps. keeps (spelling (message.Log log_1)) log_1 refl valid_log_1,

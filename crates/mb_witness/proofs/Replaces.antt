@@ -12,7 +12,7 @@ use Rattle.mb_model.specs.Held.{changes_of, new_view_of, evidence_of, plan_held}
 use Rattle.mb_model.proofs.StepOnLiterals.{host_on_literals}
 use Rattle.mb_theory.specs.KeepsTables.{IsChange}
 use Rattle.mb_theory.specs.FindsTables.{IsNewView, ShowsEvidence, BringsPlan}
-use Rattle.mb_theory.specs.ReplacesTables.{ReplacesNewViews, ReplacesPlans, ReplacesEvidence, ReplacesChanges, IsInTime, IsBeyond}
+use Rattle.mb_theory.specs.ReplacesTables.{ReplacesNewViews, ReplacesPlans, ReplacesEvidence, ReplacesChanges, IsInTime, IsInTimeAndAbove}
 use Rattle.mb_agreement.proofs.ViewChangeData.{evidence_1}
 use Rattle.mb_witness.proofs.Data.{host, change_2, new_view_1, open_2, carried}
 
@@ -55,7 +55,7 @@ second_open = Accepted (message.Open open_of_2) ∷ first_open
 
 evidence_gives_place : (ReplacesEvidence (host 0) second_open
     → (evidence_of (host 0) second_open ≡ Some evidence_1)
-    ⊎ ((y : Evidence) × (evidence_of (host 0) second_open ≡ Some y) × ShowsEvidence (Accepted (message.Open open_of_2)) y × IsBeyond (host 0) (Accepted (message.Open open_of_2)) first_open 1 y.view))
+    ⊎ ((y : Evidence) × (evidence_of (host 0) second_open ≡ Some y) × ShowsEvidence (Accepted (message.Open open_of_2)) y × IsInTimeAndAbove (host 0) (Accepted (message.Open open_of_2)) first_open 1 y.view))
     × (evidence_of (host 0) second_open ≡ Some evidence_2)
 unfolding host_on_literals
 evidence_gives_place = (λ replaces. replaces [] first_open (Accepted (message.Open open_of_2)) evidence_1 refl refl, refl)
