@@ -1,11 +1,14 @@
 -- What a host says is what it holds: its JOINs, what it stamps in a change of the view, the floors that a CHECKPOINT tells, replies, wishes, RESENDs and
--- FETCHes. Where a statement refuses a history, the other history beside it has the same message with cause.
+-- FETCHes, and what a LOG and a STATE show. Where a statement refuses a history, the other history beside it has the same message with cause.
 use Rattle.std.proofs.Common.{inl, inr, ap, sym, subst, ◌≡◌, ◌≤◌, ◌<◌, ℕ, zero, suc, [], ◌∷◌, refl, arith, Some, None}
-use Rattle.std.specs.Prelude.{Contains, slice_get}
+use Rattle.std.specs.Prelude.{Contains, slice_get, Bool, true, false, is_some}
 use Rattle.mb_usig.specs.Tags.{reply_tag}
+use Rattle.mb_base.specs.Shapes.{Bytes}
+use Rattle.mb_parts.specs.declared.batch.Batch.{Batch}
+use Rattle.mb_parts.specs.Bares.{batch_digest}
 use Rattle.mb_parts.specs.declared.floor.Floor.{Floor}
 use Rattle.mb_parts.specs.declared.floor.Phase.TheVariants as phase
-use Rattle.mb_msg.specs.declared.message.Body.TheVariants.{Whole}
+use Rattle.mb_msg.specs.declared.message.Body.TheVariants.{Whole, Bare as Short}
 use Rattle.mb_msg.specs.declared.message.Message.TheVariants as message
 use Rattle.mb_msg.specs.declared.normal.Checkpoint.{Checkpoint}
 use Rattle.mb_msg.specs.declared.normal.Floors.{Floors}
@@ -17,7 +20,12 @@ use Rattle.mb_msg.specs.declared.change.ViewChange.{ViewChange}
 use Rattle.mb_msg.specs.declared.change.Join.{Join}
 use Rattle.mb_msg.specs.declared.transfer.Resend.{Resend}
 use Rattle.mb_msg.specs.declared.transfer.Fetch.{Fetch}
+use Rattle.mb_msg.specs.declared.transfer.Log.{Log}
+use Rattle.mb_msg.specs.declared.transfer.StateMsg.{StateMsg}
+use Rattle.mb_msg.specs.Bodies.{whole_body}
+use Rattle.mb_msg.specs.declared.stamped.Stamped.{Stamped as StampedMessage}
 use Rattle.mb_msg.specs.declared.stamped.Stamped.TheVariants as stamped
+use Rattle.mb_model.specs.States.{part_digests}
 use Rattle.mb_model.specs.Histories.{Accepted, Stamped, Installed, LostPatience, Nudged, History, gate}
 use Rattle.mb_model.specs.Execution.{asked_host}
 use Rattle.mb_model.specs.Making.{floors_under, wish_for, resend, fetch}
@@ -26,13 +34,15 @@ use Rattle.mb_model.specs.HostStep.{transition}
 use Rattle.mb_model.proofs.StepOnLiterals.{host_on_literals}
 use Rattle.mb_theory.specs.JoinsWithCause.{JoinsWithCause, MayStampJoin}
 use Rattle.mb_theory.specs.OwnChanges.{ShowsInChanges, ChangeShows, NewViewShows, EnterAnswers}
+use Rattle.mb_theory.specs.OwnStamps.{CountsOwnPrepares, PrepareCounts}
+use Rattle.mb_theory.specs.ShowsLog.{ShowsLog, ShowsState, IsShownOf}
 use Rattle.mb_theory.specs.Says as says
 use Rattle.mb_theory.specs.TellsFloors.{TellsFloors, Tells}
-use Rattle.mb_agreement.proofs.ViewChangeData.{secret, at_zero, log_2}
+use Rattle.mb_agreement.proofs.ViewChangeData.{secret, at_zero, asked_0, asked, log_2}
 use Rattle.mb_witness.proofs.Data.{host, prepare_1, wish_1, change_1, change_2, new_view_1, enter_2, stable_4, parts_4, point, join_1}
 use Rattle.mb_witness.proofs.NormalCase.{left_by}
 use Rattle.mb_witness.proofs.Tables.{changed_1}
-use Rattle.mb_witness.proofs.ValidMessages.{fetch_2, behind_join, in_whole, none_some, some_is}
+use Rattle.mb_witness.proofs.ValidMessages.{resend_1, stamped_1, fetch_2, executed_4, behind_join, in_whole, none_some, some_is}
 
 -- ---- a view is joined with cause
 
@@ -232,3 +242,52 @@ no_nudge is = absurd cc
 the_same_is_asked : (says.SaysWhatItHolds (host 2) → asked_host (host 2) (LostPatience ∷ behind_join) ≡ 0) × (asked_host (host 2) (LostPatience ∷ behind_join) ≡ 0)
 unfolding host_on_literals
 the_same_is_asked = (λ says. says.stays LostPatience behind_join no_nudge, refl)
+
+-- ---- what is shown is whole
+
+-- h0 stamped a PREPARE, and h1 asks for it. A LOG that shows its digest alone is refused: nothing that was stamped since shortens it.
+abbrev short_prepare : StampedMessage
+short_prepare = stamped.Prepare (record prepare_1 { body = Short (batch_digest asked) })
+
+abbrev short_log : Log
+short_log = record { host = 0; floor = None; stable = at_zero; evidence = None; entries = short_prepare ∷ [] }
+
+abbrev is_whole : StampedMessage → Bool
+is_whole (stamped.Prepare m) = is_some (whole_body m.body)
+is_whole m = true
+
+not_shortened : (x : StampedMessage) → short_prepare ≡ x → Some (stamped.Prepare prepare_1) ≡ Some x → ⊥
+not_shortened x shown there =
+    let short : false ≡ is_whole x = ap is_whole shown in
+    let whole : true ≡ is_whole x = ap is_whole (some_is _ _ there) in
+    absurd cc
+
+no_log_hides_a_batch : ShowsLog (host 0) stamped_1 resend_1 short_log → ⊥
+unfolding host_on_literals
+no_log_hides_a_batch it =
+    let shown : IsShownOf (host 0) stamped_1 1 short_prepare = it.each 0 short_prepare refl in
+    not_shortened shown.stamped (shown.whole tt) shown.there
+
+-- Nor is a batch stamped without its requests.
+not_whole : (d : Bytes) (b : Batch) → Short d ≡ Whole b → ⊥
+not_whole d b is = absurd cc
+
+no_batch_is_stamped_short : CountsOwnPrepares (host 0) (Stamped short_prepare ∷ []) → ⊥
+unfolding host_on_literals
+no_batch_is_stamped_short counts =
+    let it : PrepareCounts (host 0) (Stamped short_prepare ∷ []) [] (record prepare_1 { body = Short (batch_digest asked) }) = counts [] [] (record prepare_1 { body = Short (batch_digest asked) }) refl in
+    not_whole (batch_digest asked) it.batch it.body
+
+-- A STATE whose second part is another than that of the state is refused.
+abbrev other_part : Bytes
+other_part = 7 ∷ []
+
+abbrev other_state : StateMsg
+other_state = record { host = 0; pos = 4; digests = part_digests parts_4; first = 0; parts = asked_0.op ∷ other_part ∷ [] }
+
+not_empty : (part : Bytes) → part ≡ [] → Some part ≡ Some other_part → ⊥
+not_empty part empty is = absurd cc
+
+no_state_has_another_part : ShowsState (host 0) executed_4 fetch_2 parts_4 other_state → ⊥
+unfolding host_on_literals
+no_state_has_another_part it = not_empty [] refl (it.in_order 1 other_part refl)
