@@ -146,7 +146,7 @@ its_entry_is_taken = (
 )
 
 -- A LOG of h0 shows a certified floor behind its first message: the gate of h2 for h0 stands there.
-abbrev log_0 : Log
+abbrev pub log_0 : Log
 log_0 = record { host = 0; floor = Some floor_cert_0; stable = stable_4; evidence = None; entries = [] }
 
 valid_log_0 : logs.IsValidLog (host 2) log_0

@@ -18,7 +18,7 @@ use Rattle.mb_msg.specs.declared.transfer.StateMsg.{StateMsg}
 use Rattle.mb_msg.specs.Reading.{message_of}
 use Rattle.mb_msg.specs.Spelling.{spelling}
 use Rattle.mb_model.specs.States.{part_digests, state_digest}
-use Rattle.mb_model.specs.Histories.{Entry, Accepted, Stamped, Closed, Executed, Served, DroppedParts, LostPatience, Nudged, History}
+use Rattle.mb_model.specs.Histories.{Entry, Accepted, Stamped, Jumped, Closed, Executed, Served, DroppedParts, LostPatience, Nudged, History}
 use Rattle.mb_model.specs.Sending.{Letter, to_all, to_host}
 use Rattle.mb_model.specs.HostStep.{transition}
 use Rattle.mb_model.proofs.StepOnLiterals.{host_on_literals}
@@ -27,9 +27,10 @@ use Rattle.mb_theory.specs.AddsGiven.{AddsGiven, AddsWhatCame, ComesWith, AllCom
 use Rattle.mb_theory.specs.LeavesAlone.{KeepsRefused, KeepsMalformed, KeepsPatience}
 use Rattle.mb_theory.specs.TellsAndAsks.{TellsPatience, IsToldWishFor, FetchesWhereRisen}
 use Rattle.mb_agreement.proofs.ViewChangeData.{secret, three, plan_1, asked_0, asked_1}
-use Rattle.mb_witness.proofs.Data.{host, prepare_1, commit_1, wish_1, change_2, slot_1, placed, stable_4, join_1}
+use Rattle.mb_witness.proofs.Data.{host, prepare_1, commit_1, wish_1, change_2, slot_1, placed, floor_0, stable_4, floor_cert_0, join_1}
 use Rattle.mb_witness.proofs.NormalCase.{left_by}
 use Rattle.mb_witness.proofs.ValidMessages.{fetch_2}
+use Rattle.mb_witness.proofs.Answers.{log_0}
 
 -- ---- what an event brings is written
 
@@ -69,16 +70,23 @@ its_prepare_comes_with_it : ComesWith (host 2) commit_comes [] (Accepted (messag
 unfolding host_on_literals
 its_prepare_comes_with_it = (message.Commit commit_1, refl, inr (inr (commit_1, inl refl, refl)))
 
--- Of one entry that is left alone it is asked that it came, or was done.
+-- A LOG of h0 shows a floor to h2, whose gate jumps there.
+a_gate_jumps_with_cause : ComesWith (host 2) (event.Given (spelling (message.Log log_0))) [] (Jumped 0 floor_0)
+unfolding host_on_literals
+a_gate_jumps_with_cause =
+    let ahead : 0 < 1 = omega arith in
+    (message.Log log_0, refl, (log_0, refl, record { host = refl; cert = floor_cert_0; shows = refl; certified = refl; ahead = ahead; free = refl }))
+
 first_is : (x y : Entry) → x ∷ [] ≡ y ∷ [] → x ≡ y
 first_is x y e = cc
 
+-- Where one entry is left alone, it came or was done.
 of_one : (added : History) (event : Event) (e : Entry) → e ∷ [] ≡ added ++ [] → AllCome (host 2) event [] added → IsDone e ⊎ ComesWith (host 2) event [] e
 of_one [] event e is come = absurd cc
 of_one (x ∷ []) event e is come = subst (λ (x : Entry). IsDone x ⊎ ComesWith (host 2) event [] x) (sym (first_is _ _ is)) come.0
 of_one (x ∷ (y ∷ added)) event e is come = absurd cc
 
--- A Nudge that left an accepted PREPARE is refused,
+-- A Nudge that leaves an accepted PREPARE is refused,
 not_with_a_nudge : (m : Message) → IsDone (Accepted m) ⊎ ComesWith (host 2) event.Nudge [] (Accepted m) → ⊥
 not_with_a_nudge m (inl done) = absurd done
 not_with_a_nudge m (inr is) = absurd cc
@@ -86,7 +94,7 @@ not_with_a_nudge m (inr is) = absurd cc
 nothing_is_accepted_at_a_nudge : AddsWhatCame (host 2) event.Nudge [] (Accepted (message.Prepare prepare_1) ∷ []) → ⊥
 nothing_is_accepted_at_a_nudge it = not_with_a_nudge (message.Prepare prepare_1) (of_one it.added event.Nudge (Accepted (message.Prepare prepare_1)) it.is it.come)
 
--- and so is a message at which patience was lost.
+-- and so is a message at which patience is lost.
 not_with_a_message : (bytes : Bytes) → IsDone LostPatience ⊎ ComesWith (host 2) (event.Given bytes) [] LostPatience → ⊥
 not_with_a_message bytes (inl done) = absurd done
 not_with_a_message bytes (inr (m, reads, never)) = absurd never
@@ -148,7 +156,7 @@ no_message_leaves_all : (KeepsMalformed (host 0) [] → (transition (host 0) [] 
 unfolding host_on_literals transition
 no_message_leaves_all = (λ keeps. keeps (99 ∷ []) 0 refl, refl)
 
--- h2 left for the greatest view, and is asked for another.
+-- h2 left for the greatest view: there is none behind it to wish for.
 abbrev in_last_view : History
 in_last_view = Stamped (stamped.ViewChange (record change_2 { view = 2 ^ 63 - 1 })) ∷ []
 
