@@ -29,7 +29,7 @@ use Rattle.mb_theory.specs.KeepsTables.{IsCheckpoint}
 use Rattle.mb_theory.specs.CutsLog.{floor_told, tells_floor, IsKeptAt, AgreeOnFloor, IsLastAgreed, BringsFloor, CutsLog}
 use Rattle.mb_theory.proofs.FloorCerts.{agreed_many}
 use Rattle.mb_known.proofs.Found.{floor_is}
-use Rattle.mb_due.proofs.FoundMembers.{passes, as_many, some_in, filter_more, of_filter, of_take, agreement, found_both, of_found}
+use Rattle.mb_found.proofs.FoundMembers.{passes, as_many, some_in, filter_more, of_filter, of_take, agreement, found_both, of_found}
 
 -- ---- CHECKPOINTs that tell a floor
 

@@ -4,14 +4,12 @@
 -- (`OpensCount`), and what a host stamps counts for itself (`OwnBehind`, `OwnCounts`). A taken vote leaves slots, votes and view as they were for the rules
 -- behind it (`Staying`, `Voted`), and a position that waits is executed
 -- before the rules end (`Running`), so the vote that completes f+1 executes in its step (`Completing`, `CompletingOpens`). Gates stand behind the last message
--- of their host (`KeptGates`), and what is found came (`WhatCame`, `EntriesCame`, `StableCame`, `TablesCame`) and gives place only in time (`TablesReplaced`). What came is found until something takes its place
--- (`KeptTables`): requests and wishes (`KeptRequests`), parts of a state and snapshots (`KeptParts`), VIEW_CHANGEs and ENTERs (`KeptChanges`), OPENs, NEW_VIEWs,
--- plans and evidence (`KeptOpenings`), CHECKPOINTs and what is stable by them (`KeptStable`). A host leaves its view with cause alone (`LeavesWithCause`),
+-- of their host (`KeptGates`). A host leaves its view with cause alone (`LeavesWithCause`),
 -- cuts its log where f+1 agree on a floor (`CutsLog`), takes LOGs and their entries (`LogsStand`, `JumpsToFloors`, `TakesLogs`), sends what it stamps and
 -- each fresh reply (`Sends`), and answers who asks (`ShowsLog`, `Answers`). What an event brings is written first (`Written`), and what a step adds came
 -- with its event (`Added`); what is refused adds nothing else (`LeftAlone`). A JOIN has cause (`JoinsWithCause`), and lost patience and a stable position that
--- rose are followed by a letter (`TellsAndAsks`).
--- What it says by that it holds (`Says`), as what it stamps in a change of the view (`OwnChanges`) and the floors of its CHECKPOINTs (`TellsFloors`).
+-- rose are followed by a letter (`TellsAndAsks`). What it says by that it holds (`Says`), as what it stamps in a change of the view (`OwnChanges`) and the
+-- floors of its CHECKPOINTs (`TellsFloors`). What came is found, and what is found came: that stands in `mb_found`.
 pub mod Taken
 pub mod TakesValid
 pub mod AcceptedFits
@@ -22,18 +20,6 @@ pub mod Staying
 pub mod Voted
 pub mod Running
 pub mod Completing
-pub mod FoundMembers
-pub mod KeptRequests
-pub mod KeptParts
-pub mod KeptChanges
-pub mod KeptOpenings
-pub mod KeptStable
-pub mod KeptTables
-pub mod WhatCame
-pub mod EntriesCame
-pub mod StableCame
-pub mod TablesCame
-pub mod TablesReplaced
 pub mod OwnBehind
 pub mod OwnCounts
 pub mod KeptGates

@@ -37,7 +37,7 @@ use Rattle.mb_theory.specs.WhatCame.{SaysSlot, SaysVote}
 use Rattle.mb_known.proofs.Cases.{not_true, not_both}
 use Rattle.mb_known.proofs.OwnSlots.{IsOpened, IsBehind, behind_stays}
 use Rattle.mb_views.proofs.OwnSeen.{seen_open}
-use Rattle.mb_due.proofs.WhatCame.{says_slot, says_vote}
+use Rattle.mb_found.proofs.WhatCame.{says_slot, says_vote}
 
 none_where : {A : Type 0} (o : Option A) → ((x : A) → o ≡ Some x → ⊥) → o ≡ None
 none_where None never = refl

@@ -36,7 +36,7 @@ use Rattle.mb_known.proofs.Rests.{Each}
 use Rattle.mb_views.proofs.HeldSound.{chosen_to}
 use Rattle.mb_views.proofs.OwnPlans.{chosen_many}
 use Rattle.mb_due.proofs.AcceptedFits.{HasValues, values_in_worlds}
-use Rattle.mb_due.proofs.FoundMembers.{of_filter}
+use Rattle.mb_found.proofs.FoundMembers.{of_filter}
 
 -- Each of a list is one of it.
 each_in : {A : Type 0} (P : A → Type 0) (l : List A) → ((x : A) → In l x → P x) → AllByRecursion P l

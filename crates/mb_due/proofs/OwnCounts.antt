@@ -48,7 +48,7 @@ use Rattle.mb_views.proofs.OwnSeen.{seen_prepare, seen_commit}
 use Rattle.mb_views.proofs.PlanMoments.{base_below, low_grows}
 use Rattle.mb_due.proofs.AcceptedFits.{HasValues, values_in_worlds}
 use Rattle.mb_due.proofs.OpensCount.{opened_same, plan_same, view_same, vote_is, held_short, counted, Values}
-use Rattle.mb_due.proofs.WhatCame.{named_in}
+use Rattle.mb_found.proofs.WhatCame.{named_in}
 use Rattle.mb_due.proofs.OwnBehind.{no_vote_of_prepare, no_slot_of_prepare, no_vote_of_commit, no_vote_of_open}
 
 module _ {S : Type 0} (self : Identity S) where

@@ -16,11 +16,11 @@ use Rattle.mb_due.proofs.OrdersAll.{orders_all_that_fit}
 use Rattle.mb_due.proofs.OpensCount.{counts_opens_of}
 use Rattle.mb_due.proofs.Completing.{hosts_execute_with_commit, hosts_execute_with_prepare, hosts_execute_with_both}
 use Rattle.mb_due.proofs.CompletingOpens.{hosts_execute_with_open}
-use Rattle.mb_due.proofs.KeptTables.{keeps_tables}
+use Rattle.mb_found.proofs.KeptTables.{keeps_tables}
 use Rattle.mb_due.proofs.OwnCounts.{hosts_count_own}
-use Rattle.mb_due.proofs.WhatCame.{hosts_find_what_came}
-use Rattle.mb_due.proofs.TablesCame.{hosts_find_tables}
-use Rattle.mb_due.proofs.TablesReplaced.{hosts_replace_tables}
+use Rattle.mb_found.proofs.WhatCame.{hosts_find_what_came}
+use Rattle.mb_found.proofs.TablesCame.{hosts_find_tables}
+use Rattle.mb_found.proofs.TablesReplaced.{hosts_replace_tables}
 use Rattle.mb_due.proofs.KeptGates.{hosts_gates_stand}
 use Rattle.mb_due.proofs.LeavesWithCause.{hosts_leave_with_cause}
 use Rattle.mb_due.proofs.CutsLog.{hosts_cut_logs}

@@ -34,7 +34,7 @@ use Rattle.mb_model.proofs.Members.{In, in_contained}
 use Rattle.mb_model.proofs.Options.{or_some, if_some, map_some}
 use Rattle.mb_theory.specs.KeepsTables.{IsChange, IsEnter, IsCheckpoint, outdoes, is_enter_of, is_open_of, is_checkpoint_of, is_execution_of}
 use Rattle.mb_theory.specs.FindsTables.{Came, CameLast, IsNewView, AsksFor, ShowsEvidence, BringsPlan, FindsEnters, FindsSnapshots}
-use Rattle.mb_due.proofs.FoundMembers.{of_filter, of_found}
+use Rattle.mb_found.proofs.FoundMembers.{of_filter, of_found}
 use Rattle.mb_line.proofs.Executions.{in_parts}
 use Rattle.mb_known.proofs.Cases.{some_is, whole_is, not_le}
 

@@ -2,11 +2,11 @@
 use Rattle.mb_model.specs.Histories.{History, Identity}
 use Rattle.mb_theory.specs.KeepsTables.{KeepsTables}
 use Rattle.mb_views.proofs.PlanMoments.{base_below}
-use Rattle.mb_due.proofs.KeptRequests.{keeps_requests, keeps_wishes, keeps_wishes_of_changes, keeps_own_wishes}
-use Rattle.mb_due.proofs.KeptParts.{keeps_parts, keeps_snapshots}
-use Rattle.mb_due.proofs.KeptChanges.{keeps_changes, keeps_own_changes, keeps_enters}
-use Rattle.mb_due.proofs.KeptOpenings.{keeps_opens, keeps_new_views, keeps_own_new_views, keeps_plans, keeps_own_plans, keeps_plans_of_opens, keeps_evidence, keeps_evidence_of_joins, keeps_evidence_of_logs, keeps_own_evidence}
-use Rattle.mb_due.proofs.KeptStable.{keeps_checkpoints, raises_by_checkpoints, raises_by_joins, raises_by_logs}
+use Rattle.mb_found.proofs.KeptRequests.{keeps_requests, keeps_wishes, keeps_wishes_of_changes, keeps_own_wishes}
+use Rattle.mb_found.proofs.KeptParts.{keeps_parts, keeps_snapshots}
+use Rattle.mb_found.proofs.KeptChanges.{keeps_changes, keeps_own_changes, keeps_enters}
+use Rattle.mb_found.proofs.KeptOpenings.{keeps_opens, keeps_new_views, keeps_own_new_views, keeps_plans, keeps_own_plans, keeps_plans_of_opens, keeps_evidence, keeps_evidence_of_joins, keeps_evidence_of_logs, keeps_own_evidence}
+use Rattle.mb_found.proofs.KeptStable.{keeps_checkpoints, raises_by_checkpoints, raises_by_joins, raises_by_logs}
 
 pub keeps_tables : {S : Type 0} (self : Identity S) (d : History) → KeepsTables self d
 keeps_tables self d = record {

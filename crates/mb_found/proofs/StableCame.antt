@@ -21,10 +21,10 @@ use Rattle.mb_theory.specs.KeepsTables.{names_state}
 use Rattle.mb_theory.specs.FindsTables.{Came, BringsPlan, ShowsStable, FindsStable}
 use Rattle.mb_known.proofs.Cases.{some_is}
 use Rattle.mb_known.proofs.HeldStable.{agreed_shape}
-use Rattle.mb_due.proofs.FoundMembers.{passes, as_many, filter_more, of_filter, of_take}
-use Rattle.mb_due.proofs.KeptStable.{names, agreed_place}
-use Rattle.mb_due.proofs.WhatCame.{and_then_at}
-use Rattle.mb_due.proofs.EntriesCame.{came_now, came_before, plan_said}
+use Rattle.mb_found.proofs.FoundMembers.{passes, as_many, filter_more, of_filter, of_take}
+use Rattle.mb_found.proofs.KeptStable.{names, agreed_place}
+use Rattle.mb_found.proofs.WhatCame.{and_then_at}
+use Rattle.mb_found.proofs.EntriesCame.{came_now, came_before, plan_said}
 
 -- ---- a certificate of CHECKPOINTs has f+1 that name its state
 

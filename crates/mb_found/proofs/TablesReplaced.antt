@@ -20,8 +20,8 @@ use Rattle.mb_theory.specs.World.{System, self_of}
 use Rattle.mb_theory.specs.WorldSteps.{world}
 use Rattle.mb_known.proofs.Cases.{some_is}
 use Rattle.mb_known.proofs.Found.{gives_current}
-use Rattle.mb_due.proofs.EntriesCame.{change_said, new_view_said, plan_said, shown_said}
-use Rattle.mb_due.proofs.KeptChanges.{in_filter}
+use Rattle.mb_found.proofs.EntriesCame.{change_said, new_view_said, plan_said, shown_said}
+use Rattle.mb_found.proofs.KeptChanges.{in_filter}
 
 module _ {S : Type 0} (self : Identity S) where
   -- ---- NEW_VIEWs
