@@ -128,7 +128,7 @@ a_gate_closes = (λ keeps. keeps (spelling (message.Enter enter_first)) (message
 
 it_closes_with_cause : ComesWith (host 1) (event.Given (spelling (message.Enter enter_first))) [] (Closed 2 1)
 unfolding host_on_literals
-it_closes_with_cause = (message.Enter enter_first, refl, (stamped.Enter enter_first, inl refl, record { sender = refl; place = refl; next = refl; refused = refl }))
+it_closes_with_cause = (message.Enter enter_first, refl, (stamped.Enter enter_first, inl refl, record { certified = refl; sender = refl; place = refl; next = refl; refused = refl }))
 
 -- A STATE brings all parts of what was certified as the state at position 4, and they are no state: they are dropped.
 abbrev no_parts : List Bytes
