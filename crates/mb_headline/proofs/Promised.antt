@@ -35,6 +35,7 @@ use Rattle.mb_due.proofs.TellsAndAsks.{hosts_tell_and_ask}
 use Rattle.mb_due.proofs.OwnChanges.{hosts_show_in_changes}
 use Rattle.mb_due.proofs.Says.{says_what_it_holds}
 use Rattle.mb_due.proofs.TellsFloors.{hosts_tell_floors}
+use Rattle.mb_headline.specs.Worlds.{EventsAreSteps, VotesExecuteAtOnce, NoEventIsBlame}
 use Rattle.mb_headline.proofs.EventsStep.{events_step}
 use Rattle.mb_headline.proofs.ExecutesAtOnce.{executes_at_once}
 use Rattle.mb_headline.proofs.NobodyBlamed.{no_event_blames}
@@ -88,6 +89,21 @@ nothing_left S system k h =
       tells_floors = hosts_tell_floors system k h;
     }
 
+-- ---- each event
+
+pub all_are_steps : (S : Type 0) → EventsAreSteps S
+all_are_steps S system k = events_step system (world system k)
+
+pub all_execute_at_once : (S : Type 0) → VotesExecuteAtOnce S
+all_execute_at_once S system k = executes_at_once system (world system k) (nothing_left S system k)
+
+pub none_is_blame : (S : Type 0) → NoEventIsBlame S
+none_is_blame S system fits k le none apart =
+    let held : HoldsOfTheCorrect system (world system k) = worlds_are_justified S system fits k le none apart in
+    no_event_blames system (world system k) held.blameless
+
+-- ---- all of it
+
 pub all_stay_one : (S : Type 0) → HostsStayOne S
 all_stay_one S system service fits k le none apart =
     let line : HasOneList system (world system k) = worlds_have_one_list S system service fits k le none apart in
@@ -100,7 +116,7 @@ all_stay_one S system service fits k le none apart =
       done = λ h correct. nothing_left S system k h;
       bounded = held.bounded;
       blameless = held.blameless;
-      unblamed = no_event_blames system (world system k) held.blameless;
-      steps = events_step system (world system k);
-      executes_at_once = executes_at_once system (world system k) (nothing_left S system k);
+      unblamed = none_is_blame S system fits k le none apart;
+      steps = all_are_steps S system k;
+      executes_at_once = all_execute_at_once S system k;
     }

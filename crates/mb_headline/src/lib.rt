@@ -3,6 +3,7 @@
 
 ghost use Rattle.mb_theory.specs.Headline.{HostsStayOne};
 ghost use Rattle.mb_theory.specs.AllDue.{HostsLeaveNothing};
+ghost use Rattle.mb_headline.specs.Worlds.{EventsAreSteps, VotesExecuteAtOnce, NoEventIsBlame};
 
 /// After any events no correct host has left anything undone that is due, whoever else is faulty and whatever is forged: it has ordered, committed,
 /// executed and changed views as far as it may; each valid message is taken, each vote that it takes or stamps counts, what else came is found until
@@ -14,6 +15,24 @@ ghost use Rattle.mb_theory.specs.AllDue.{HostsLeaveNothing};
 /// So it is of whole hosts over any service.
 pub fn hosts_leave_nothing<V>()
     ensures { HostsLeaveNothing V }
+{}
+
+/// Each event that may be next is a step of the correct host to which it comes, and of no other, whoever is faulty and whatever is forged. So it is
+/// in each world of a schedule, over any service.
+pub fn events_are_steps<V>()
+    ensures { EventsAreSteps V }
+{}
+
+/// An event that brings a correct host the vote that completes f+1 has the position executed in its step, whoever is faulty and whatever is forged: a
+/// COMMIT, a PREPARE, both in one message, or an OPEN. So it is in each world of a schedule, over any service.
+pub fn votes_execute_at_once<V>()
+    ensures { VotesExecuteAtOnce V }
+{}
+
+/// No event that brings a correct host what another correct one stamped is answered with blame, whatever at most f faulty hosts stamp. So it is
+/// after each event of a schedule, of whole hosts over any service, while nothing was forged and no two of the strings hashed so far share a digest.
+pub fn no_event_is_blame<V>()
+    ensures { NoEventIsBlame V }
 {}
 
 /// For every service that can be replicated and every schedule with at most f faulty hosts and nothing forged, whatever is lost, repeated and
