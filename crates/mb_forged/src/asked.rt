@@ -34,10 +34,12 @@ impl Asked {
     pub(crate) fn note(&mut self, alloc: Global, request: Request) -> Result<(), NoMemory>
         ensures { (asked : List RequestRecord) → HoldsAsked self.old asked → OnOk result (HoldsAsked self.new (request ∷ asked)) }
     {
+        // Room for one, since hardly ever a second comes.
+        let room = Vec::with_capacity(alloc, 1)?;
         let same_tag = self
             .by_tag
             .entry(first_number(&request.tag))?
-            .or_insert(Items::new(alloc));
+            .or_insert(Items::from_vec(room));
         same_tag.push(request)?;
         Ok(())
     }
