@@ -3,6 +3,7 @@
 use crate::tests::{bytes_of, fault, samples, spelled};
 use mb_base::{BadShape, Digest, Items, Shape};
 use mb_msg::*;
+use mb_usig::{Spent, Usig};
 use sha2::{Digest as _, Sha256};
 use std::alloc::Global;
 use std::process::Abort;
@@ -284,5 +285,19 @@ fn refuses_a_shape_beyond_its_limits(rt: HostRuntime) -> Result<(), Fail> {
     for (f, k, clients, number) in [(1, 33, 1, 33), (4, 3, 0, 4), (1, 3, 0, 3), (3, 32, 65, 65)] {
         assert_eq!(rt; Shape::new(f, k, clients), Err(BadShape { number }));
     }
+    Ok(())
+}
+
+/// The trusted counter gives the greatest number, and none behind it.
+#[test]
+fn the_last_counter_is_given_once(rt: HostRuntime) -> Result<(), Fail> {
+    let shape = Shape::new(1, 4, 4)?;
+    let mut usig = Usig::resumed(shape, 2, &[0; 32], u64::MAX - 1);
+    let last = usig
+        .create_ui(b"the last one")
+        .ok()
+        .ok_or("a counter is left")?;
+    assert_eq!(rt; last.counter, u64::MAX);
+    assert_eq!(rt; usig.create_ui(b"one more"), Err(Spent));
     Ok(())
 }
