@@ -1,6 +1,6 @@
 -- One event of a world of three correct hosts: the COMMIT of h1 comes to h2, which was given nothing before. It is a step of h2, and is answered with no blame.
 use Rattle.std.proofs.Common.{◌≡◌, ◌<◌, ℕ, zero, suc, [], ◌∷◌, map, refl, arith, subst}
-use Rattle.std.specs.Prelude.{Contains, false}
+use Rattle.std.specs.Prelude.{Contains, true, false}
 use Rattle.mb_base.specs.Shapes.{Bytes}
 use Rattle.mb_msg.specs.declared.event.Event.TheVariants as event
 use Rattle.mb_msg.specs.declared.event.Outcome.TheVariants as outcome
@@ -12,6 +12,7 @@ use Rattle.mb_msg.specs.Stamps.{ui_of}
 use Rattle.mb_sched.specs.declared.schedule.Name.TheVariants as name
 use Rattle.mb_sched.specs.declared.schedule.WorldEvent.{WorldEvent}
 use Rattle.mb_sched.specs.declared.schedule.WorldEvent.TheVariants.{Raw}
+use Rattle.mb_model.specs.Histories.{Closed}
 use Rattle.mb_agreement.proofs.ViewChangeData.{asked}
 use Rattle.mb_theory.specs.World.{World, System, OfHost, nothing_happened}
 use Rattle.mb_theory.specs.WorldSteps.{happens}
@@ -75,6 +76,24 @@ a_step_is_made steps = steps.steps commit_comes 2 (event.Given commit_bytes) ref
 a_commit_is_not_blamed : NoEventBlames system behind → is_blame outcome.Took ≡ false
 unfolding worlds_on_literals
 a_commit_is_not_blamed blames = blames nothing_happened commit_comes 2 commit_bytes (message.Commit commit_1) outcome.Took refl refl correct_2 refl commit_is_of_correct answer_is
+
+-- Where the gate of h1 is closed, as that of no correct host ever is, the same COMMIT is answered with blame.
+abbrev closed_before : World
+closed_before = record nothing_happened { histories = λ h. Closed 1 1 ∷ [] }
+
+abbrev convicted : World
+convicted = happens system closed_before commit_comes
+
+conviction_is : convicted.seen ≡ OfHost (outcome.Convicted 1) ∷ []
+unfolding worlds_on_literals
+conviction_is = refl
+
+-- That is refused.
+no_correct_host_is_convicted : NoEventBlames system convicted → ⊥
+unfolding worlds_on_literals
+no_correct_host_is_convicted blames =
+    let blamed : true ≡ false = blames closed_before commit_comes 2 commit_bytes (message.Commit commit_1) (outcome.Convicted 1) refl refl correct_2 refl commit_is_of_correct conviction_is in
+    absurd cc
 
 -- It brings h2 both votes that lack, and so the batch is executed in the world behind it.
 a_vote_executes_at_once : ExecutesAtOnce system nothing_happened → HasExecuted (behind.histories 2) 1 asked
