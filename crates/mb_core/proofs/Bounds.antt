@@ -9,10 +9,10 @@ use Rattle.mb_model.specs.Stable.{low_of}
 use Rattle.mb_model.specs.Positions.{exec_of, is_behind}
 use Rattle.mb_fitting.proofs.Gates.{gate_fits}
 use Rattle.mb_fitting.proofs.Found.{exec_place}
-use Rattle.mb_core.specs.declared.replica.Replica.{Replica}
-use Rattle.mb_core.specs.Represents.{Represents, HasHistory}
+use Rattle.mb_replica.specs.declared.state.ReplicaState.{ReplicaState}
+use Rattle.mb_replica.specs.Represents.{Represents, HasHistory}
 
-module _ {V : Type 0} (me : Identity V) (r : Replica V) (d : History) (rep : Represents me r d) where
+module _ {V : Type 0} (me : Identity V) (r : ReplicaState V) (d : History) (rep : Represents me r d) where
   pub host_there : me.host < host_count me.shape
   host_there =
       let within : r.agreement.host < host_count r.agreement.shape = r.agreement.host_in in
@@ -32,7 +32,7 @@ module _ {V : Type 0} (me : Identity V) (r : Replica V) (d : History) (rep : Rep
       subst (λ (n : ℕ). n < r.agreement.stable.pos) (sym rep.tables.exec) (subst (λ (c : StableCert). exec_of d < c.pos) (sym rep.tables.stable) lt)
 
 -- The same, whatever the history is.
-module _ {V : Type 0} (r : Replica V) (h : HasHistory r) where
+module _ {V : Type 0} (r : ReplicaState V) (h : HasHistory r) where
   pub executed_low : r.agreement.exec < 2 ^ 63
   executed_low = subst (λ (n : ℕ). n < 2 ^ 63) (sym h.represents.tables.exec) (exec_low h.me r h.history h.represents)
 

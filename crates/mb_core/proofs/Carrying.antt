@@ -22,12 +22,12 @@ use Rattle.mb_normal.specs.Tables.{Represents as NormalRepresents}
 use Rattle.mb_standing.specs.Positions.{CountsVote, PutsSlot, carrying, open_slots, has_place}
 use Rattle.mb_standing.specs.Tables.{Tables}
 use Rattle.mb_standing.proofs.PositionsOpens.{carrying_begins, slot_carried, slot_passed, carrying_ends, no_slot_to_base, no_slot_behind, slot_with_place, no_slot_outside}
-use Rattle.mb_core.specs.declared.replica.Replica.{Replica}
-use Rattle.mb_core.specs.Between.{WritesNormal}
+use Rattle.mb_replica.specs.declared.state.ReplicaState.{ReplicaState}
+use Rattle.mb_replica.specs.Between.{WritesNormal}
 use Rattle.mb_core.specs.Carrying.{Opens, StandsCarrying, CarriesMore, CarriesOn}
-use Rattle.mb_core.specs.Holding.{length_in}
-use Rattle.mb_core.proofs.Places.{stored}
-use Rattle.mb_core.proofs.Accepted.{same_again, still_host}
+use Rattle.mb_replica.specs.Holding.{length_in}
+use Rattle.mb_replica.proofs.Places.{stored}
+use Rattle.mb_replica.proofs.Accepted.{same_again, still_host}
 
 -- So many batches a plan has at most.
 pub index_within : (p : Option Plan) (plan : Plan) (index : ℕ) → Some plan ≡ p → index < length_in p → CanHash plan → index < 64
@@ -35,7 +35,7 @@ index_within p plan index is lt can = let below : index < length plan.batches = 
 
 module _ {V : Type 0} (me : Identity V) (d : History) (m : Open) (view : ℕ) (e : Evidence) where
   -- It still opens where positions alone were written.
-  pub opens_still : (old new : Replica V) → WritesNormal old new → Opens me d m view e old → Opens me d m view e new
+  pub opens_still : (old new : ReplicaState V) → WritesNormal old new → Opens me d m view e old → Opens me d m view e new
   opens_still old new w o = record {
     plan = o.plan;
     who = still_host me old new w.same o.who;
@@ -44,7 +44,7 @@ module _ {V : Type 0} (me : Identity V) (d : History) (m : Open) (view : ℕ) (e
     view_is = o.view_is;
   }
 
-  module _ (r : Replica V) (o : Opens me d m view e r) where
+  module _ (r : ReplicaState V) (o : Opens me d m view e r) where
     abbrev body : OpenBody
     body = record { stable = o.plan.base; batches = o.plan.batches }
 
@@ -114,24 +114,24 @@ module _ {V : Type 0} (me : Identity V) (d : History) (m : Open) (view : ℕ) (e
 -- ---- index by index
 
 -- The positions of so many batches were carried on, and no other table was written.
-pub record CarriedTo {V : Type 0} (view : ℕ) (e : Evidence) (n : ℕ) (old new : Replica V) : Type 0 where
+pub record CarriedTo {V : Type 0} (view : ℕ) (e : Evidence) (n : ℕ) (old new : ReplicaState V) : Type 0 where
   pub writes : WritesNormal old new
   pub carried : (me : Identity V) (d : History) (m : Open) → Opens me d m view e old → NormalRepresents me.shape me.host old.agreement.normal (searches_in me d) → StandsCarrying me d m (e.base + n) new
 
 module _ {V : Type 0} (view : ℕ) (e : Evidence) where
-  pub carried_none : (r : Replica V) → CarriedTo view e 0 r r
+  pub carried_none : (r : ReplicaState V) → CarriedTo view e 0 r r
   carried_none r = record {
     writes = record { same = record { shape = refl; host = refl; secret = refl }; tables = refl };
     carried = λ me d m o st. carry_begins me d m view e r o st;
   }
 
-  pub then_carried : (old mid new : Replica V) → WritesNormal old mid → WritesNormal mid new → WritesNormal old new
+  pub then_carried : (old mid new : ReplicaState V) → WritesNormal old mid → WritesNormal mid new → WritesNormal old new
   then_carried old mid new a b = record {
     same = same_again old mid new a.same b.same;
     tables = b.tables ∙ ap (λ (t : Tables V). record t { normal = new.agreement.normal }) a.tables;
   }
 
-  pub carried_more : (n : ℕ) (old mid new : Replica V) → CarriedTo view e n old mid → WritesNormal mid new → CarriesMore view e n mid new → CarriedTo view e (n + 1) old new
+  pub carried_more : (n : ℕ) (old mid new : ReplicaState V) → CarriedTo view e n old mid → WritesNormal mid new → CarriesMore view e n mid new → CarriedTo view e (n + 1) old new
   carried_more n old mid new c w more = record {
     writes = then_carried old mid new c.writes w;
     carried = λ me d m o st. subst (λ (p : ℕ). StandsCarrying me d m p new) (next e.base n) (more me d m (opens_still me d m view e old mid c.writes o) (c.carried me d m o st));
@@ -139,7 +139,7 @@ module _ {V : Type 0} (view : ℕ) (e : Evidence) where
     next : (b n : ℕ) → b + n + 1 ≡ b + (n + 1)
     next b n = omega arith
 
-  pub carried_all : (n : ℕ) (old new : Replica V) → CarriedTo view e n old new → length_in (plan_of_view view old.agreement.change.plan) ≤ n → CarriesOn view e old new
+  pub carried_all : (n : ℕ) (old new : ReplicaState V) → CarriedTo view e n old new → length_in (plan_of_view view old.agreement.change.plan) ≤ n → CarriesOn view e old new
   carried_all n old new c many me d m o st =
       let same : plan_of_view view new.agreement.change.plan ≡ plan_of_view view old.agreement.change.plan = ap (λ (t : Tables V). plan_of_view view t.change.plan) c.writes.tables in
       carry_ends me d m view e new (opens_still me d m view e old new c.writes o) n (subst (λ (p : Option Plan). length_in p ≤ n) (sym same) many) (c.carried me d m o st)

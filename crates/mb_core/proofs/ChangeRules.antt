@@ -13,9 +13,9 @@ use Rattle.mb_model.specs.Stable.{low_of}
 use Rattle.mb_standing.proofs.Changes.{change_answers}
 use Rattle.mb_core.specs.declared.rules.Due.{Due}
 use Rattle.mb_core.specs.declared.rules.Due.TheVariants as due
-use Rattle.mb_core.specs.declared.replica.Replica.{Replica}
+use Rattle.mb_replica.specs.declared.state.ReplicaState.{ReplicaState}
 use Rattle.mb_core.specs.Due.{Names, change_rule}
-use Rattle.mb_core.specs.Represents.{Represents}
+use Rattle.mb_replica.specs.Represents.{Represents}
 
 -- the name for what the table of view changes says
 abbrev pub as_due : ChangeDue → Option Due
@@ -77,7 +77,7 @@ module _ {S : Type 0} (me : Identity S) (d : History) where
   named (change.Join base) (Some (Prepare p b)) is = absurd is
 
 -- What is due of view changes is the first rule of them.
-pub change_named : {V : Type 0} (me : Identity V) (r : Replica V) (d : History) → Represents me r d → (x : ChangeDue) (at : Floor) (low : ℕ) (room : Bool)
+pub change_named : {V : Type 0} (me : Identity V) (r : ReplicaState V) (d : History) → Represents me r d → (x : ChangeDue) (at : Floor) (low : ℕ) (room : Bool)
     → at ≡ here me d → low ≡ low_of me d → room ≡ has_other_room me d → Answers r.agreement.change x (λ s. due_with r.agreement.change.shape r.agreement.change.host at s r.agreement.exec low room)
     → Names (as_due x) (change_rule me d)
 change_named me r d rep x at low room same_at same_low same_room answers =

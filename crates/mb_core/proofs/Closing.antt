@@ -28,15 +28,15 @@ use Rattle.mb_standing.proofs.Values.{executed_position}
 use Rattle.mb_standing.proofs.Snapshots.{none_kept_above, place_left, shelf_kept, shelf_left}
 use Rattle.mb_standing.proofs.FetchedParts.{held_stays}
 use Rattle.mb_standing.proofs.Together.{EachStands, stand_lags, stays, stands_behind}
-use Rattle.mb_core.specs.declared.replica.Replica.{Replica}
-use Rattle.mb_core.specs.declared.sending.Done.{Done}
-use Rattle.mb_core.specs.Represents.{tables_of, Represents, StandsAt}
-use Rattle.mb_core.specs.Between.{IsSame}
+use Rattle.mb_replica.specs.declared.state.ReplicaState.{ReplicaState}
+use Rattle.mb_replica.specs.declared.sending.Done.{Done}
+use Rattle.mb_replica.specs.Represents.{tables_of, Represents, StandsAt}
+use Rattle.mb_replica.specs.Between.{IsSame}
 use Rattle.mb_core.specs.Serving.{ServesOn, WritesShelf, KeepsWhere}
-use Rattle.mb_core.proofs.Entries.{hosted, is_there}
+use Rattle.mb_replica.proofs.Entries.{hosted, is_there}
 
 module _ {V : Type 0} where
-  pub shelf_written : (r : Replica V) (k : Keeping V) (pos : ℕ) (parts : List Bytes) → k ≡ with_snapshot r.keeper pos parts → WritesShelf r (record r { keeper = k })
+  pub shelf_written : (r : ReplicaState V) (k : Keeping V) (pos : ℕ) (parts : List Bytes) → k ≡ with_snapshot r.keeper pos parts → WritesShelf r (record r { keeper = k })
   shelf_written r k pos parts is = record {
     same = record { shape = refl; host = refl; secret = refl };
     tables = ap (λ (y : Keeping V). record (tables_of r) { service = y.served; shelf = k.snapshots; parts = y.fetched }) is;
@@ -44,7 +44,7 @@ module _ {V : Type 0} where
 
 module _ {V : Type 0} (me : Identity V) where
   -- the last executed position, and a snapshot
-  pub record WritesExecuted (pos : ℕ) (old new : Replica V) : Type 0 where
+  pub record WritesExecuted (pos : ℕ) (old new : ReplicaState V) : Type 0 where
     pub same : IsSame old new
     pub tables : tables_of new ≡ record (tables_of old) { exec = pos; shelf = new.keeper.snapshots }
 
@@ -54,7 +54,7 @@ module _ {V : Type 0} (me : Identity V) where
     pub executed : new.executed ≡ old.executed ++ slot ∷ []
     pub installed : new.installed ≡ old.installed
 
-  module _ (old : Replica V) (done : Done) (pos : ℕ) (served : List Placed) (x : Progress) (s : ServesOn me old done pos [] served x) where
+  module _ (old : ReplicaState V) (done : Done) (pos : ℕ) (served : List Placed) (x : Progress) (s : ServesOn me old done pos [] served x) where
     rep : Represents me old x.history
     rep = s.stands.represents
 
@@ -78,7 +78,7 @@ module _ {V : Type 0} (me : Identity V) where
     at_multiple b is = ap (λ (z : Shape). pos % interval z == 0) rep.who.shape ∙ is
 
     -- At a multiple of the interval a snapshot was kept, and elsewhere none.
-    pub shelf_closed : (new : Replica V) (snapshots : Snapshots V) → me.snapshots ≡ snapshots
+    pub shelf_closed : (new : ReplicaState V) (snapshots : Snapshots V) → me.snapshots ≡ snapshots
         → KeepsWhere (pos % interval old.agreement.shape == 0) pos (parts_of snapshots old.keeper.served) old.keeper.snapshots new.keeper.snapshots → ShelfStands me new.keeper.snapshots (closed_now ∷ x.history)
     shelf_closed new snapshots same keeps = by_test (pos % interval old.agreement.shape == 0) refl keeps where
       parts : parts_of snapshots old.keeper.served ≡ parts_of me.snapshots (state_of me x.history)
@@ -92,7 +92,7 @@ module _ {V : Type 0} (me : Identity V) where
           subst (λ y. ShelfStands me y (closed_now ∷ x.history)) (sym left) (shelf_left me old.keeper.snapshots (slot_for me x.history pos) x.history rep.tables.sound adds_on rep.tables.shelf (at_multiple false apart))
 
     -- So the batch is executed.
-    pub closed_stands : (new : Replica V) (behind : Done) → WritesExecuted pos old new → ShelfStands me new.keeper.snapshots (closed_now ∷ x.history) → DoesBatch (record { pos = pos; requests = served }) done behind
+    pub closed_stands : (new : ReplicaState V) (behind : Done) → WritesExecuted pos old new → ShelfStands me new.keeper.snapshots (closed_now ∷ x.history) → DoesBatch (record { pos = pos; requests = served }) done behind
         → StandsAt me new behind (close_slot me pos x)
     closed_stands new behind writes shelf does =
         let t : Tables V = tables_of old in
@@ -124,7 +124,7 @@ module _ {V : Type 0} (me : Identity V) where
         }
 
   -- What is noted as hashed is no matter of the replica.
-  pub noted : (r : Replica V) (done : Done) (strings : List Bytes) (x : Progress) → StandsAt me r done x → StandsAt me r done (note strings x)
+  pub noted : (r : ReplicaState V) (done : Done) (strings : List Bytes) (x : Progress) → StandsAt me r done x → StandsAt me r done (note strings x)
   noted r done strings x s = record { represents = s.represents; serving = s.serving; sent = s.sent; executed = s.executed; installed = s.installed }
 
   -- ---- the CHECKPOINT that follows
@@ -142,8 +142,8 @@ module _ {V : Type 0} (me : Identity V) where
   no_checkpoint_is pos x room = rw room refl
 
   -- The keeper is as it was.
-  pub kept_same : (r : Replica V) (k : Keeping V) (done : Done) (x : Progress) → k ≡ r.keeper → StandsAt me r done x → StandsAt me (record r { keeper = k }) done x
+  pub kept_same : (r : ReplicaState V) (k : Keeping V) (done : Done) (x : Progress) → k ≡ r.keeper → StandsAt me r done x → StandsAt me (record r { keeper = k }) done x
   kept_same r k done x same s = subst (λ (y : Keeping V). StandsAt me (record r { keeper = y }) done x) (sym same) s
 
-  pub multiple_is : (r : Replica V) (d : History) (pos : ℕ) (b : Bool) → Represents me r d → (pos % interval r.agreement.shape == 0) ≡ b → (pos % interval me.shape == 0) ≡ b
+  pub multiple_is : (r : ReplicaState V) (d : History) (pos : ℕ) (b : Bool) → Represents me r d → (pos % interval r.agreement.shape == 0) ≡ b → (pos % interval me.shape == 0) ≡ b
   multiple_is r d pos b rep is = ap (λ (z : Shape). pos % interval z == 0) rep.who.shape ∙ is

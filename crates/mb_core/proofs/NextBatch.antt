@@ -19,11 +19,11 @@ use Rattle.mb_change.specs.Represents.{searches_of}
 use Rattle.mb_change.specs.Rules.{due_with}
 use Rattle.mb_change.proofs.Agreeing.{rules_agree}
 use Rattle.mb_standing.proofs.PositionsRules.{normal_rule, next_is, ExecuteIs, execute_is}
-use Rattle.mb_core.specs.declared.replica.Replica.{Replica}
-use Rattle.mb_core.specs.declared.sending.Done.{Done}
+use Rattle.mb_replica.specs.declared.state.ReplicaState.{ReplicaState}
+use Rattle.mb_replica.specs.declared.sending.Done.{Done}
 use Rattle.mb_core.specs.declared.rules.Due.TheVariants as named
 use Rattle.mb_core.specs.Due.{IsNamed, IsDue}
-use Rattle.mb_core.specs.Represents.{Represents, Serves, StandsAt}
+use Rattle.mb_replica.specs.Represents.{Represents, Serves, StandsAt}
 use Rattle.mb_core.specs.Serving.{ServesOn, IsInBatch}
 use Rattle.mb_core.proofs.Publishing.{nothing_served}
 
@@ -45,7 +45,7 @@ module _ {S : Type 0} (me : Identity S) (d : History) (p : ℕ) (b : Batch) wher
 
 -- ---- where the execution of a batch begins
 
-module _ {V : Type 0} (me : Identity V) (r : Replica V) (done : Done) (x : Progress) (s : StandsAt me r done x) (p : ℕ) (b : Batch) (next : next_rule me x.history ≡ Some (Execute p b)) where
+module _ {V : Type 0} (me : Identity V) (r : ReplicaState V) (done : Done) (x : Progress) (s : StandsAt me r done x) (p : ℕ) (b : Batch) (next : next_rule me x.history ≡ Some (Execute p b)) where
   is_next : ExecuteIs me x.history p b
   is_next = execute_next me x.history p b next
 
@@ -68,7 +68,7 @@ executed_is me p b batch x same = ap (λ (c : Batch). at_interval me p (close_sl
 
 -- ---- there is a step so
 
-module _ {V : Type 0} (is_state : V → Type 0) (after : V → Bytes → V) (result : V → Bytes → Bytes) (part : V → ℕ → Bytes) (restored : List Bytes → Result V (ℕ × ℕ)) (r : Replica V) (done : Done) (pos : ℕ) where
+module _ {V : Type 0} (is_state : V → Type 0) (after : V → Bytes → V) (result : V → Bytes → Bytes) (part : V → ℕ → Bytes) (restored : List Bytes → Result V (ℕ × ℕ)) (r : ReplicaState V) (done : Done) (pos : ℕ) where
   by_rule : (me : Identity V) (x : Progress) (rule : Rule) → Serves is_state after result part restored me → StandsAt me r done x → IsNamed (named.Execute pos) rule → next_rule me x.history ≡ Some rule → (batch : Batch)
       → ((me : Identity V) → Represents me r x.history → Some batch ≡ batch_of (slot_at me x.history pos)) → IsInBatch is_state after result part restored r done pos batch.requests []
   by_rule me x (Execute p b) serves s is next batch known =

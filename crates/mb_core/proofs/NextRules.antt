@@ -16,9 +16,9 @@ use Rattle.mb_normal.specs.Rules.{first_rule, Names as NormalNames}
 use Rattle.mb_standing.proofs.PositionsRules.{next_is, named}
 use Rattle.mb_core.specs.declared.rules.Due.{Due}
 use Rattle.mb_core.specs.declared.rules.Due.TheVariants as due
-use Rattle.mb_core.specs.declared.replica.Replica.{Replica}
+use Rattle.mb_replica.specs.declared.state.ReplicaState.{ReplicaState}
 use Rattle.mb_core.specs.Due.{Names, change_rule, normal_rule}
-use Rattle.mb_core.specs.Represents.{Represents}
+use Rattle.mb_replica.specs.Represents.{Represents}
 
 -- ---- the first of the two sorts
 
@@ -49,7 +49,7 @@ same_name (normal.Execute pos) rule is = subst (Names (Some (due.Execute pos))) 
 same_name normal.Prepare rule is = subst (Names (Some due.Prepare)) (sym is.2) tt
 
 -- What is due of the normal case is the first rule of it.
-pub normal_named : {V : Type 0} (me : Identity V) (r : Replica V) (d : History) → Represents me r d → (x : NormalDue) (at : Floor) (low : ℕ) (room : Bool)
+pub normal_named : {V : Type 0} (me : Identity V) (r : ReplicaState V) (d : History) → Represents me r d → (x : NormalDue) (at : Floor) (low : ℕ) (room : Bool)
     → at ≡ here me d → low ≡ low_of me d → room ≡ has_room me d
     → ((s : Shape) (h : ℕ) (y : Searches) → NormalRepresents s h r.agreement.normal y → y.low ≡ low → NormalNames x (first_rule s h y at r.agreement.exec room))
     → Names (as_due x) (normal_rule me d)

@@ -14,14 +14,14 @@ use Rattle.mb_searches.proofs.Framing.{low_stays}
 use Rattle.mb_standing.specs.Tables.{Tables}
 use Rattle.mb_standing.proofs.Together.{EachStands, Stays}
 use Rattle.mb_standing.proofs.Values.{asked_nudged}
-use Rattle.mb_core.specs.declared.replica.Replica.{Replica}
-use Rattle.mb_core.specs.Represents.{Represents, tables_of}
-use Rattle.mb_core.specs.Between.{IsSame}
-use Rattle.mb_core.proofs.Behind.{left_by, represents_more}
-use Rattle.mb_core.proofs.Learnt.{KeptStands, kept_stay}
+use Rattle.mb_replica.specs.declared.state.ReplicaState.{ReplicaState}
+use Rattle.mb_replica.specs.Represents.{Represents, tables_of}
+use Rattle.mb_replica.specs.Between.{IsSame}
+use Rattle.mb_replica.proofs.Behind.{left_by, represents_more}
+use Rattle.mb_replica.proofs.Learnt.{KeptStands, kept_stay}
 
 module _ {V : Type 0} (me : Identity V) where
-  pub nudged : (old new : Replica V) (d : History) → Represents me old d → IsSame old new → (asked : ℕ) → tables_of new ≡ record (tables_of old) { asked = asked }
+  pub nudged : (old new : ReplicaState V) (d : History) → Represents me old d → IsSame old new → (asked : ℕ) → tables_of new ≡ record (tables_of old) { asked = asked }
       → (behind : Bool) → is_behind me d ≡ behind → asked ≡ (if behind then next_host me old.agreement.asked else old.agreement.asked) → Represents me new (Nudged ∷ d)
   nudged old new d rep same asked writes behind tests is =
       let left : Stays me (low_of me d) (tables_of old) Nudged d = left_by me old Nudged d rep tt in

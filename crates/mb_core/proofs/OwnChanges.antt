@@ -30,13 +30,13 @@ use Rattle.mb_standing.specs.Tables.{Tables}
 use Rattle.mb_standing.specs.Stands.{NormalStands, ChangeStands}
 use Rattle.mb_standing.proofs.Changes.{change_stays, own_enter_held}
 use Rattle.mb_standing.proofs.Positions.{normal_stays}
-use Rattle.mb_core.specs.declared.replica.Replica.{Replica}
-use Rattle.mb_core.specs.declared.sending.Done.{Done}
+use Rattle.mb_replica.specs.declared.state.ReplicaState.{ReplicaState}
+use Rattle.mb_replica.specs.declared.sending.Done.{Done}
 use Rattle.mb_core.specs.declared.rules.Due.TheVariants as due
 use Rattle.mb_core.specs.declared.stamping.TheConstants.{NO_UI}
-use Rattle.mb_core.specs.Between.{IsSame, AwaitsPublish, WritesCounter, WritesChange}
+use Rattle.mb_replica.specs.Between.{IsSame, AwaitsPublish, WritesCounter, WritesChange}
 use Rattle.mb_core.specs.Due.{IsNamed, IsDue}
-use Rattle.mb_core.specs.Represents.{IsHost, Represents}
+use Rattle.mb_replica.specs.Represents.{IsHost, Represents}
 use Rattle.mb_core.proofs.Publishing.{MayStamp, IsNext, is_next, may_next, Begun, LearntNothing, awaits_publish, begun, nothing_yet, then_change, nothing_by_change}
 
 -- ---- what is named
@@ -93,7 +93,7 @@ join_rule (Prepare p b) is = absurd is
 
 -- ---- what is due
 
-module _ {V : Type 0} (r : Replica V) where
+module _ {V : Type 0} (r : ReplicaState V) where
   -- What is due is due of something.
 
   pub record ChangeDue (view : ℕ) : Type 0 where
@@ -125,7 +125,7 @@ module _ {V : Type 0} (r : Replica V) where
     pub history : History
     pub next : IsNext me r history Join
 
-module _ {V : Type 0} (is_state : V → Type 0) (after : V → Bytes → V) (answer : V → Bytes → Bytes) (part : V → ℕ → Bytes) (restored : List Bytes → Result V (ℕ × ℕ)) (r : Replica V) (done : Done) where
+module _ {V : Type 0} (is_state : V → Type 0) (after : V → Bytes → V) (answer : V → Bytes → Bytes) (part : V → ℕ → Bytes) (restored : List Bytes → Result V (ℕ × ℕ)) (r : ReplicaState V) (done : Done) where
   pub change_due : (view : ℕ) → IsDue is_state after answer part restored r done (due.ChangeView view) → ChangeDue r view
   change_due view q =
       record { me = q.me; history = q.left.history; next = is_next q.me r done q.left (ChangeView view) q.stands (q.next ∙ ap (λ (a : Rule). Some a) (sym (change_rule view q.rule q.named))) }
@@ -185,7 +185,7 @@ same_enter a b e = cc
 
 -- ---- the tables behind ENTER and JOIN
 
-module _ {V : Type 0} (me : Identity V) (old new : Replica V) (d : History) (rep : Represents me old d) (b : Begun me old new) (k : LearntNothing me old new) (normal : new.agreement.normal ≡ old.agreement.normal) where
+module _ {V : Type 0} (me : Identity V) (old new : ReplicaState V) (d : History) (rep : Represents me old d) (b : Begun me old new) (k : LearntNothing me old new) (normal : new.agreement.normal ≡ old.agreement.normal) where
   normal_behind : (m : StampedMessage) → MayStamp me m d → speaks_of_positions (Stamped m) ≡ false → NormalStands me new.agreement.normal (Stamped m ∷ d)
   normal_behind m may none = subst (λ (t : Normal). NormalStands me t (Stamped m ∷ d)) (sym normal) (normal_stays me (Stamped m) d old.agreement.normal may.sound.arises none rep.tables.normal)
 
@@ -202,7 +202,7 @@ module _ {V : Type 0} (me : Identity V) (old new : Replica V) (d : History) (rep
 
 -- ---- as the code writes them
 
-module _ {V : Type 0} (me : Identity V) (old bound : Replica V) (d : History) where
+module _ {V : Type 0} (me : Identity V) (old bound : ReplicaState V) (d : History) where
   -- This host is one of the hosts.
   pub own_host : IsHost me old → IsSame old bound → (n : ℕ) → n ≡ me.host → n < host_count bound.agreement.shape
   own_host who same n is = subst (λ (s : Shape). n < host_count s) (sym same.shape) (subst (λ (h : ℕ). h < host_count old.agreement.shape) (sym (is ∙ who.host)) old.agreement.host_in)
@@ -221,7 +221,7 @@ module _ {V : Type 0} (me : Identity V) (old bound : Replica V) (d : History) wh
     pub enter_made : (y : NewView) → Some y ≡ old.agreement.change.new_view → signed me d (stamped.Enter (record { view = y.view; counter = y.ui.counter; plan = y.plan; ui = NO_UI })) ≡ signed me d (enter n)
     enter_made y held = enter_signed me d n enter_has y (held ∙ next.represents.tables.change.represents.new_view_is)
 
-    pub enter_waits : (w : WritesCounter old bound) (held : Replica V) → WritesChange bound held → (kept : EnterMessage) → stamped.Enter kept ≡ signed me d (enter n) → StandsWith bound.agreement.change (with_enter kept) held.agreement.change
+    pub enter_waits : (w : WritesCounter old bound) (held : ReplicaState V) → WritesChange bound held → (kept : EnterMessage) → stamped.Enter kept ≡ signed me d (enter n) → StandsWith bound.agreement.change (with_enter kept) held.agreement.change
         → AwaitsPublish me held (signed me d (enter n)) d
     enter_waits w held writes kept is stands =
         let m : EnterMessage = record { view = n.view; counter = n.ui.counter; plan = n.plan; ui = next_ui me d (bare_of (enter n)) } in

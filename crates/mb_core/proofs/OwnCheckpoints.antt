@@ -38,16 +38,16 @@ use Rattle.mb_standing.specs.Stands.{GatesStand, LogStands, NormalStands, ShelfS
 use Rattle.mb_standing.proofs.OwnLogs.{place_for, stamp_appended}
 use Rattle.mb_standing.proofs.Together.{EachStands, stands_behind, stand_lags, stays}
 use Rattle.mb_standing.proofs.Values.{own_counter_stamped}
-use Rattle.mb_core.specs.declared.replica.Replica.{Replica}
-use Rattle.mb_core.specs.declared.sending.Done.{Done}
+use Rattle.mb_replica.specs.declared.state.ReplicaState.{ReplicaState}
+use Rattle.mb_replica.specs.declared.sending.Done.{Done}
 use Rattle.mb_core.specs.declared.stamping.TheConstants.{NO_UI}
-use Rattle.mb_core.specs.Represents.{IsHost, Represents, StandsAt, tables_of}
-use Rattle.mb_core.specs.Told.{as_outgoing}
-use Rattle.mb_core.specs.Between.{WritesCounter, WritesStamp, WritesLog, WritesKept, KeepingStands, AwaitsKeeping, AwaitsCut, AwaitsCheckpoint}
+use Rattle.mb_replica.specs.Represents.{IsHost, Represents, StandsAt, tables_of}
+use Rattle.mb_replica.specs.Told.{as_outgoing}
+use Rattle.mb_replica.specs.Between.{WritesCounter, WritesStamp, WritesLog, WritesKept, KeepingStands, AwaitsKeeping, AwaitsCut, AwaitsCheckpoint}
 use Rattle.mb_core.specs.declared.stamping.Signed.{Signed}
 use Rattle.mb_core.specs.Signed.{IsSigned}
-use Rattle.mb_core.proofs.Accepted.{still_host}
-use Rattle.mb_core.proofs.Accepting.{there}
+use Rattle.mb_replica.proofs.Accepted.{still_host}
+use Rattle.mb_replica.proofs.Accepting.{there}
 use Rattle.mb_core.proofs.Publishing.{fits_again, no_ui_fits}
 
 where_holds : (test : Bool) (o : Option Rule) (r : Rule) → rule_where test o ≡ Some r → test ≡ true
@@ -70,7 +70,7 @@ module _ {V : Type 0} (me : Identity V) where
   low_reached [] pos a j = absurd j
   low_reached (e ∷ d) pos a j = absurd j
 
-  module _ (old : Replica V) (done : Done) (pos : ℕ) (state : Bytes) (x : Progress) (w : AwaitsCheckpoint me old done pos state x) where
+  module _ (old : ReplicaState V) (done : Done) (pos : ℕ) (state : Bytes) (x : Progress) (w : AwaitsCheckpoint me old done pos state x) where
     abbrev d : History
     d = x.history
 
@@ -135,7 +135,7 @@ module _ {V : Type 0} (me : Identity V) where
           let at : m.pos ≡ pos = ap (λ (y : Checkpoint). y.pos) (sym (same_checkpoint _ m same)) in
           le-leb (low_of me d) m.pos (let le = low_reached d pos rep.tables.sound.arises w.executed in omega (arith, le, at))
 
-      pub awaits_keeping : (mid : Replica V) → WritesCounter old mid → AwaitsKeeping me mid m entry d
+      pub awaits_keeping : (mid : ReplicaState V) → WritesCounter old mid → AwaitsKeeping me mid m entry d
       awaits_keeping mid c = record {
         who = still_host me old mid c.same rep.who;
         sound = rep.tables.sound;
@@ -153,7 +153,7 @@ module _ {V : Type 0} (me : Identity V) where
 
       -- ---- it is published
 
-      module _ (mid kept : Replica V) (c : WritesCounter old mid) (k : WritesKept mid kept) where
+      module _ (mid kept : ReplicaState V) (c : WritesCounter old mid) (k : WritesKept mid kept) where
         written : tables_of kept ≡ record (tables_of old) { counter = old.agreement.usig.counter + 1; normal = kept.agreement.normal; stable = kept.agreement.stable; shelf = kept.keeper.snapshots; parts = kept.keeper.fetched }
         written = k.tables ∙ ap (λ (t : Tables V). record t { normal = kept.agreement.normal; stable = kept.agreement.stable; shelf = kept.keeper.snapshots; parts = kept.keeper.fetched }) c.tables
 
@@ -172,7 +172,7 @@ module _ {V : Type 0} (me : Identity V) where
         pub gates_kept : GatesStand me kept.agreement.gates.items d
         gates_kept = subst (λ (l : List Gate). GatesStand me l d) (sym (ap (λ (t : Tables V). t.gates) written)) rep.tables.gates
 
-        module _ (sent : Replica V) (stands : KeepingStands me kept (entry ∷ d)) (s : WritesStamp kept sent) (log : sent.agreement.log ≡ appended (stamped.Checkpoint m) kept.agreement.log) where
+        module _ (sent : ReplicaState V) (stands : KeepingStands me kept (entry ∷ d)) (s : WritesStamp kept sent) (log : sent.agreement.log ≡ appended (stamped.Checkpoint m) kept.agreement.log) where
           pub awaits_cut : AwaitsCut me sent entry d
           awaits_cut = record {
             who = still_host me kept sent s.same who_kept;
@@ -182,7 +182,7 @@ module _ {V : Type 0} (me : Identity V) where
             normal = subst (λ n. NormalStands me n (entry ∷ d)) (sym (ap (λ (t : Tables V). t.normal) s.tables)) stands.normal;
           }
 
-          pub checkpoint_stands : (new : Replica V) → GatesStand me sent.agreement.gates.items (entry ∷ d) → WritesLog sent new → LogStands me new.agreement.log (entry ∷ d) → Represents me new (entry ∷ d)
+          pub checkpoint_stands : (new : ReplicaState V) → GatesStand me sent.agreement.gates.items (entry ∷ d) → WritesLog sent new → LogStands me new.agreement.log (entry ∷ d) → Represents me new (entry ∷ d)
           checkpoint_stands new gates l cut =
               let left = stays me (low_of me d) (tables_of old) entry d (stand_lags me (tables_of old) d rep.tables) adds in
               let all : tables_of new ≡ record (tables_of old) {
@@ -215,7 +215,7 @@ module _ {V : Type 0} (me : Identity V) where
     -- ---- the step
 
     -- It was sent to all, and nothing else.
-    pub checkpoint_sent : (new : Replica V) (after : Done) (m : Checkpoint) → made ≡ stamped.Checkpoint m → Represents me new (Stamped (stamped.Checkpoint m) ∷ d)
+    pub checkpoint_sent : (new : ReplicaState V) (after : Done) (m : Checkpoint) → made ≡ stamped.Checkpoint m → Represents me new (Stamped (stamped.Checkpoint m) ∷ d)
         → after.sent ≡ done.sent ++ as_outgoing (to_all (as_message (stamped.Checkpoint m))) ∷ [] → (after.executed ≡ done.executed) × (after.installed ≡ done.installed) → StandsAt me new after (stamp me (checkpoint me d pos) x)
     checkpoint_sent new after m same r sent kept = subst (λ (y : StampedMessage). StandsAt me new after (send (to_all (as_message y)) (write (Stamped y) x))) (sym same) (record {
       represents = r;
@@ -225,7 +225,7 @@ module _ {V : Type 0} (me : Identity V) where
       installed = kept.1 ∙ w.stands.installed;
     })
 
-    pub checkpoint_ends : {E : Type 0} (result : Result (Unit {0}) E) (mid kept sent new : Replica V) (after : Done) (m : Checkpoint) (same : made ≡ stamped.Checkpoint m) (c : WritesCounter old mid) (k : WritesKept mid kept)
+    pub checkpoint_ends : {E : Type 0} (result : Result (Unit {0}) E) (mid kept sent new : ReplicaState V) (after : Done) (m : Checkpoint) (same : made ≡ stamped.Checkpoint m) (c : WritesCounter old mid) (k : WritesKept mid kept)
         → KeepingStands me kept (Stamped (stamped.Checkpoint m) ∷ d) → WritesStamp kept sent → sent.agreement.log ≡ appended (stamped.Checkpoint m) kept.agreement.log → GatesStand me sent.agreement.gates.items (Stamped (stamped.Checkpoint m) ∷ d)
         → OnOk result (WritesLog sent new) → OnOk result (LogStands me new.agreement.log (Stamped (stamped.Checkpoint m) ∷ d))
         → after.sent ≡ done.sent ++ as_outgoing (to_all (as_message (stamped.Checkpoint m))) ∷ [] → (after.executed ≡ done.executed) × (after.installed ≡ done.installed) → OnOk result (StandsAt me new after (stamp me (checkpoint me d pos) x))

@@ -52,15 +52,15 @@ use Rattle.mb_standing.specs.Tables.{Tables}
 use Rattle.mb_fitting.proofs.Changes.{chosen_fit}
 use Rattle.mb_standing.proofs.Changes.{change_answers, own_change_stored, own_change_not_stored, own_new_view_held, own_open_held}
 use Rattle.mb_standing.proofs.PositionsOpens.{change_cleared, change_counted, own_new_view_raised, own_new_view_counted, open_carried, own_open_view}
-use Rattle.mb_core.specs.declared.replica.Replica.{Replica}
+use Rattle.mb_replica.specs.declared.state.ReplicaState.{ReplicaState}
 use Rattle.mb_core.specs.declared.stamping.TheConstants.{NO_UI}
-use Rattle.mb_core.specs.Between.{AwaitsPublish, WritesCounter, WritesNormal, WritesChange}
+use Rattle.mb_replica.specs.Between.{AwaitsPublish, WritesCounter, WritesNormal, WritesChange}
 use Rattle.mb_core.specs.Carrying.{StoresOwn, Opens, CarriesOn}
-use Rattle.mb_core.specs.Holding.{Holds, CountsOpens, StandsCounting, kept_behind}
-use Rattle.mb_core.specs.Represents.{IsHost, Represents}
-use Rattle.mb_core.proofs.Learnt.{KeptStands, kept_learnt, stable_learnt}
-use Rattle.mb_core.proofs.Opened.{opens_are}
-use Rattle.mb_core.proofs.Accepted.{still_host}
+use Rattle.mb_replica.specs.Holding.{Holds, CountsOpens, StandsCounting, kept_behind}
+use Rattle.mb_replica.specs.Represents.{IsHost, Represents}
+use Rattle.mb_replica.proofs.Learnt.{KeptStands, kept_learnt, stable_learnt}
+use Rattle.mb_replica.proofs.Opened.{opens_are}
+use Rattle.mb_replica.proofs.Accepted.{still_host}
 use Rattle.mb_core.proofs.Publishing.{MayStamp, IsNext, may_next, Begun, awaits_publish, awaits_learnt, begun, nothing_yet, then_written, then_normal, then_change, nothing_by_normal, nothing_by_change}
 
 -- ---- snapshots and parts
@@ -144,13 +144,13 @@ pub none_planned : (o : Option Plan) (x : Plan) → o ≡ None → o ≡ Some x 
 none_planned o x none some = let no : None ≡ Some x = sym none ∙ some in absurd cc
 
 -- What was written for the own NEW_VIEW.
-pub announce_begun : {V : Type 0} (me : Identity V) (old bound : Replica V) → WritesCounter old bound → (f : ChangeSearches → ChangeSearches) (c : Option StableCert) (shown kept counted : Replica V) → WritesChange bound shown → Holds f c shown kept
+pub announce_begun : {V : Type 0} (me : Identity V) (old bound : ReplicaState V) → WritesCounter old bound → (f : ChangeSearches → ChangeSearches) (c : Option StableCert) (shown kept counted : ReplicaState V) → WritesChange bound shown → Holds f c shown kept
     → WritesNormal kept counted → Begun me old counted
 announce_begun me old bound w f c shown kept counted first second third =
     then_normal me old kept counted
     (then_written me old shown kept kept.agreement.normal kept.agreement.change (further shown.agreement.stable c) kept.keeper.snapshots kept.keeper.fetched second.same second.tables (then_change me old bound shown (begun me old bound w) first)) third
 
-module _ {V : Type 0} (me : Identity V) (old bound : Replica V) (d : History) (rep : Represents me old d) (w : WritesCounter old bound) where
+module _ {V : Type 0} (me : Identity V) (old bound : ReplicaState V) (d : History) (rep : Represents me old d) (w : WritesCounter old bound) where
   normal_is : bound.agreement.normal ≡ old.agreement.normal
   normal_is = ap (λ (t : Tables V). t.normal) w.tables
 
@@ -177,7 +177,7 @@ module _ {V : Type 0} (me : Identity V) (old bound : Replica V) (d : History) (r
   ]
 
   -- All is cleared, and the votes of OPENs are counted.
-  pub normal_behind : (m : ViewChange) → MayStamp me (stamped.ViewChange m) d → (cleared counted : Replica V) → IsHost me cleared → Becomes bound.agreement.normal cleared.agreement.normal without_votes
+  pub normal_behind : (m : ViewChange) → MayStamp me (stamped.ViewChange m) d → (cleared counted : ReplicaState V) → IsHost me cleared → Becomes bound.agreement.normal cleared.agreement.normal without_votes
       → ChangeStands me cleared.agreement.change (Stamped (stamped.ViewChange m) ∷ d) → CountsOpens m.view cleared counted → NormalStands me counted.agreement.normal (Stamped (stamped.ViewChange m) ∷ d)
   normal_behind m may cleared counted who clears changed counts =
       let e = Stamped (stamped.ViewChange m) in
@@ -191,7 +191,7 @@ module _ {V : Type 0} (me : Identity V) (old bound : Replica V) (d : History) (r
   -- ---- the own NEW_VIEW
 
   module _ (m : NewView) (changes : List ViewChange) (may : MayStamp me (stamped.NewView m) d) (whole : m.body ≡ Whole (record { changes = changes })) (view : ℕ) (plan : Plan) (in_view : view ≡ m.view) (here : view ≡ view_of me d)
-      (plan_is : plan ≡ plan_from me changes) (shown kept counted : Replica V) (first : WritesChange bound shown) (held_first : StandsWith bound.agreement.change (with_new_view m) shown.agreement.change)
+      (plan_is : plan ≡ plan_from me changes) (shown kept counted : ReplicaState V) (first : WritesChange bound shown) (held_first : StandsWith bound.agreement.change (with_new_view m) shown.agreement.change)
       (second : Holds (with_plan view plan) (Some plan.base) shown kept) (third : WritesNormal kept counted) (counts : CountsOpens view kept counted) where
     plan_shown : plan_in_new_view me m ≡ Some (view, plan)
     plan_shown = rw (whole, in_view, plan_is) refl
@@ -251,7 +251,7 @@ module _ {V : Type 0} (me : Identity V) (old bound : Replica V) (d : History) (r
   -- ---- the own OPEN
 
   -- Its plan is carried on, and its evidence held.
-  pub open_awaits : (m : OpenMessage) → MayStamp me (stamped.Open m) d → (view : ℕ) (evidence : Evidence) → Opens me d m view evidence bound → (carried new : Replica V) → WritesNormal bound carried → CarriesOn view evidence bound carried
+  pub open_awaits : (m : OpenMessage) → MayStamp me (stamped.Open m) d → (view : ℕ) (evidence : Evidence) → Opens me d m view evidence bound → (carried new : ReplicaState V) → WritesNormal bound carried → CarriesOn view evidence bound carried
       → WritesChange carried new → StandsWith carried.agreement.change (with_evidence evidence) new.agreement.change → AwaitsPublish me new (stamped.Open m) d
   open_awaits m may view evidence opens carried new first carries second holds =
       let e = Stamped (stamped.Open m) in
@@ -276,12 +276,12 @@ module _ {V : Type 0} (me : Identity V) (d : History) where
   abbrev pub own_change : ℕ → ViewChange
   own_change view = record { view = view; body = Whole (proof_of me d); ui = next_ui me d (bare_of (view_change me d view)) }
 
-module _ {V : Type 0} (me : Identity V) (old bound : Replica V) (d : History) where
+module _ {V : Type 0} (me : Identity V) (old bound : ReplicaState V) (d : History) where
   module _ (view : ℕ) (n : IsNext me old d (ChangeView view)) where
     pub change_may : MayStamp me (signed me d (view_change me d view)) d
     change_may = may_next me old d (ChangeView view) n (signed me d (view_change me d view)) refl
 
-    module _ (w : WritesCounter old bound) (wished stored cleared counted : Replica V) (first : WritesChange bound wished) (wishes : StandsWith bound.agreement.change (with_wish bound.agreement.host view) wished.agreement.change)
+    module _ (w : WritesCounter old bound) (wished stored cleared counted : ReplicaState V) (first : WritesChange bound wished) (wishes : StandsWith bound.agreement.change (with_wish bound.agreement.host view) wished.agreement.change)
         (second : WritesChange wished stored) (stores : StoresOwn me (own_change me d view) wished stored) (third : WritesNormal stored cleared) (clears : Becomes stored.agreement.normal cleared.agreement.normal without_votes)
         (fourth : WritesNormal cleared counted) (counts : CountsOpens view cleared counted) where
       who_stored : IsHost me stored
@@ -358,7 +358,7 @@ module _ {V : Type 0} (me : Identity V) (old bound : Replica V) (d : History) wh
       ui = next_ui me d (bare_of (new_view me d changes));
     }
 
-    pub announce_waits : (w : WritesCounter old bound) (view : ℕ) (plan : Plan) → view ≡ view_of me d → plan ≡ plan_from me changes → (shown kept counted : Replica V) → WritesChange bound shown
+    pub announce_waits : (w : WritesCounter old bound) (view : ℕ) (plan : Plan) → view ≡ view_of me d → plan ≡ plan_from me changes → (shown kept counted : ReplicaState V) → WritesChange bound shown
         → StandsWith bound.agreement.change (with_new_view own_new_view) shown.agreement.change → Holds (with_plan view plan) (Some plan.base) shown kept → WritesNormal kept counted → CountsOpens view kept counted
         → AwaitsPublish me counted (signed me d (new_view me d changes)) d
     announce_waits w view plan here planned shown kept counted first holds second third counts =
@@ -408,7 +408,7 @@ module _ {V : Type 0} (me : Identity V) (old bound : Replica V) (d : History) wh
     may_held : MayStamp me (stamped.Open own_open) d
     may_held = subst (λ (m : StampedMessage). MayStamp me m d) (sym open_has.signs) open_may
 
-    pub open_waits : (w : WritesCounter old bound) (view : ℕ) (y : Evidence) → view ≡ view_of me d → y ≡ e → (carried held : Replica V) → WritesNormal bound carried → CarriesOn view y bound carried → WritesChange carried held
+    pub open_waits : (w : WritesCounter old bound) (view : ℕ) (y : Evidence) → view ≡ view_of me d → y ≡ e → (carried held : ReplicaState V) → WritesNormal bound carried → CarriesOn view y bound carried → WritesChange carried held
         → StandsWith carried.agreement.change (with_evidence y) held.agreement.change → AwaitsPublish me held (signed me d (opening e plan)) d
     open_waits w view y here same carried held first carries second holds =
         let holds_plan : plan_of_view view bound.agreement.change.plan ≡ Some open_has.held =

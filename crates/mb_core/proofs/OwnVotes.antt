@@ -37,13 +37,13 @@ use Rattle.mb_standing.specs.Stands.{NormalStands, ChangeStands}
 use Rattle.mb_standing.proofs.Changes.{change_stays}
 use Rattle.mb_standing.proofs.PositionsRules.{commit_is}
 use Rattle.mb_standing.proofs.PositionsVoted.{own_commit_counts, own_prepare_counts}
-use Rattle.mb_core.specs.declared.replica.Replica.{Replica}
-use Rattle.mb_core.specs.declared.sending.Done.{Done}
+use Rattle.mb_replica.specs.declared.state.ReplicaState.{ReplicaState}
+use Rattle.mb_replica.specs.declared.sending.Done.{Done}
 use Rattle.mb_core.specs.declared.rules.Due.TheVariants as due
 use Rattle.mb_core.specs.declared.stamping.TheConstants.{NO_UI}
-use Rattle.mb_core.specs.Between.{AwaitsPublish, WritesCounter, WritesNormal}
+use Rattle.mb_replica.specs.Between.{AwaitsPublish, WritesCounter, WritesNormal}
 use Rattle.mb_core.specs.Due.{IsNamed, IsDue}
-use Rattle.mb_core.specs.Represents.{Represents}
+use Rattle.mb_replica.specs.Represents.{Represents}
 use Rattle.mb_core.proofs.Publishing.{MayStamp, IsNext, is_next, may_next, awaits_publish, begun, then_normal, nothing_yet, nothing_by_normal}
 use Rattle.mb_standing.specs.Tables.{Tables}
 
@@ -71,7 +71,7 @@ prepare_rule (Prepare p b) is = (p, b, refl)
 
 -- ---- what is due
 
-module _ {V : Type 0} (r : Replica V) where
+module _ {V : Type 0} (r : ReplicaState V) where
   -- A COMMIT is due of some slot, and a PREPARE of some batch.
 
   pub record CommitDue (pos : ℕ) : Type 0 where
@@ -88,7 +88,7 @@ module _ {V : Type 0} (r : Replica V) where
     pub batch : Batch
     pub next : IsNext me r history (Prepare pos batch)
 
-module _ {V : Type 0} (is_state : V → Type 0) (after : V → Bytes → V) (answer : V → Bytes → Bytes) (part : V → ℕ → Bytes) (restored : List Bytes → Result V (ℕ × ℕ)) (r : Replica V) (done : Done) where
+module _ {V : Type 0} (is_state : V → Type 0) (after : V → Bytes → V) (answer : V → Bytes → Bytes) (part : V → ℕ → Bytes) (restored : List Bytes → Result V (ℕ × ℕ)) (r : ReplicaState V) (done : Done) where
   pub commit_due : (pos : ℕ) → IsDue is_state after answer part restored r done (due.Commit pos) → CommitDue r pos
   commit_due pos q =
       let found = commit_rule pos q.rule q.named in
@@ -199,19 +199,19 @@ counts_as : (old new : Normal) (at voter : ℕ) (vote : Vote) (pos host : ℕ) (
 counts_as old new at voter vote pos host v same_pos same_host same_vote c =
     subst (λ (x : Vote). CountsVote old new pos host x) same_vote (subst (λ (h : ℕ). CountsVote old new pos h vote) same_host (subst (λ (p : ℕ). CountsVote old new p voter vote) same_pos c))
 
-module _ {V : Type 0} (me : Identity V) (old bound : Replica V) (d : History) (rep : Represents me old d) (w : WritesCounter old bound) where
+module _ {V : Type 0} (me : Identity V) (old bound : ReplicaState V) (d : History) (rep : Represents me old d) (w : WritesCounter old bound) where
   normal_is : bound.agreement.normal ≡ old.agreement.normal
   normal_is = ap (λ (t : Tables V). t.normal) w.tables
 
   host_is : bound.agreement.host ≡ me.host
   host_is = w.same.host ∙ sym rep.who.host
 
-  change_behind : (new : Replica V) (m : StampedMessage) → new.agreement.change ≡ bound.agreement.change → speaks_of_change (Stamped m) ≡ false → ChangeStands me new.agreement.change (Stamped m ∷ d)
+  change_behind : (new : ReplicaState V) (m : StampedMessage) → new.agreement.change ≡ bound.agreement.change → speaks_of_change (Stamped m) ≡ false → ChangeStands me new.agreement.change (Stamped m ∷ d)
   change_behind new m same none =
       subst (λ (t : ChangeTable). ChangeStands me t (Stamped m ∷ d)) (sym (same ∙ ap (λ (t : Tables V). t.change) w.tables)) (change_stays me old.agreement.change (Stamped m) d none rep.tables.change)
 
   -- The vote of the own COMMIT was counted.
-  commit_awaits : (voted : Replica V) (m : CommitMessage) → MayStamp me (stamped.Commit m) d → WritesNormal bound voted → (at : ℕ) (vote : Vote) → at ≡ m.pos → vote ≡ vote_in_commit m
+  commit_awaits : (voted : ReplicaState V) (m : CommitMessage) → MayStamp me (stamped.Commit m) d → WritesNormal bound voted → (at : ℕ) (vote : Vote) → at ≡ m.pos → vote ≡ vote_in_commit m
       → CountsVote bound.agreement.normal voted.agreement.normal at bound.agreement.host vote → AwaitsPublish me voted (stamped.Commit m) d
   commit_awaits voted m may writes at vote same_pos same_vote counts =
       awaits_publish me old voted (stamped.Commit m) d rep (then_normal me old bound voted (begun me old bound w) writes)
@@ -222,7 +222,7 @@ module _ {V : Type 0} (me : Identity V) (old bound : Replica V) (d : History) (r
       (nothing_by_normal me old bound voted (nothing_yet me old bound w) writes) refl
 
   -- The slot of the own PREPARE was put, and its vote counted.
-  prepare_awaits : (put voted : Replica V) (m : PrepareMessage) → MayStamp me (stamped.Prepare m) d → WritesNormal bound put → WritesNormal put voted → (at voter : ℕ) (slot : KnownSlot) (vote : Vote) → at ≡ m.pos
+  prepare_awaits : (put voted : ReplicaState V) (m : PrepareMessage) → MayStamp me (stamped.Prepare m) d → WritesNormal bound put → WritesNormal put voted → (at voter : ℕ) (slot : KnownSlot) (vote : Vote) → at ≡ m.pos
       → voter ≡ me.host → slot ≡ slot_in_prepare m → vote ≡ vote_in_prepare m → PutsSlot bound.agreement.normal put.agreement.normal at slot → CountsVote put.agreement.normal voted.agreement.normal at voter vote
       → AwaitsPublish me voted (stamped.Prepare m) d
   prepare_awaits put voted m may first second at voter slot vote same_pos same_host same_slot same_vote puts counts =
@@ -236,7 +236,7 @@ module _ {V : Type 0} (me : Identity V) (old bound : Replica V) (d : History) (r
 
 -- ---- as the code writes them
 
-module _ {V : Type 0} (me : Identity V) (old bound : Replica V) (d : History) where
+module _ {V : Type 0} (me : Identity V) (old bound : ReplicaState V) (d : History) where
   module _ (pos : ℕ) (k : KnownSlot) (b : Batch) (n : IsNext me old d (Commit pos k b)) where
     pub commit_may : MayStamp me (signed me d (commit me d pos k b)) d
     commit_may = may_next me old d (Commit pos k b) n (signed me d (commit me d pos k b)) refl
@@ -249,7 +249,7 @@ module _ {V : Type 0} (me : Identity V) (old bound : Replica V) (d : History) wh
         → signed me d (stamped.Commit (record { view = view; pos = pos; counter = counter; cert = cert; body = Whole copy; ui = NO_UI })) ≡ signed me d (commit me d pos k b)
     commit_made view counter cert copy was same_view order batch same = commit_signed me d pos k b commit_has view counter cert copy same_view order (ap (λ (x : Batch). Some x) same ∙ batch)
 
-    pub commit_waits : (w : WritesCounter old bound) (voted : Replica V) → WritesNormal bound voted → (counter : ℕ) (cert body : Bytes) → Some (counter, cert) ≡ option_map order_of (slot_at me d pos) → body ≡ stamped_digest (commit me d pos k b)
+    pub commit_waits : (w : WritesCounter old bound) (voted : ReplicaState V) → WritesNormal bound voted → (counter : ℕ) (cert body : Bytes) → Some (counter, cert) ≡ option_map order_of (slot_at me d pos) → body ≡ stamped_digest (commit me d pos k b)
         → CountsVote bound.agreement.normal voted.agreement.normal pos bound.agreement.host (record { counter = counter; request = body }) → AwaitsPublish me voted (signed me d (commit me d pos k b)) d
     commit_waits w voted writes counter cert body order digest counts =
         let m : CommitMessage = record { view = view_of me d; pos = pos; counter = k.counter; cert = k.cert; body = Whole b; ui = next_ui me d (bare_of (commit me d pos k b)) } in
@@ -266,7 +266,7 @@ module _ {V : Type 0} (me : Identity V) (old bound : Replica V) (d : History) wh
         → signed me d (stamped.Prepare (record { view = view; pos = place; body = Whole batch; ui = NO_UI })) ≡ signed me d (prepare me d pos b)
     prepare_made view place batch same_view next first = prepare_signed me d pos b prepare_has view place batch same_view next first
 
-    pub prepare_waits : (w : WritesCounter old bound) (put voted : Replica V) → WritesNormal bound put → WritesNormal put voted → (place : ℕ) (ui : Ui) (body : Bytes) (copy : Batch) → place ≡ next_position me d → ui ≡ ui_of (signed me d (prepare me d pos b))
+    pub prepare_waits : (w : WritesCounter old bound) (put voted : ReplicaState V) → WritesNormal bound put → WritesNormal put voted → (place : ℕ) (ui : Ui) (body : Bytes) (copy : Batch) → place ≡ next_position me d → ui ≡ ui_of (signed me d (prepare me d pos b))
         → body ≡ stamped_digest (prepare me d pos b) → Some copy ≡ first_batch (unordered me.shape (searches_in me d))
         → PutsSlot bound.agreement.normal put.agreement.normal place (record { counter = ui.counter; cert = ui.cert; digest = body; batch = Some copy })
         → CountsVote put.agreement.normal voted.agreement.normal place put.agreement.host (record { counter = ui.counter; request = body }) → AwaitsPublish me voted (signed me d (prepare me d pos b)) d

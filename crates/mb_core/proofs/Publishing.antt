@@ -46,14 +46,14 @@ use Rattle.mb_standing.proofs.Values.{own_counter_stamped, executed_stays, certi
 use Rattle.mb_fitting.specs.Fitting.{AreFit}
 use Rattle.mb_fitting.proofs.Fit.{rule_fit}
 use Rattle.mb_fitting.proofs.Letters.{stamps_sent}
-use Rattle.mb_core.specs.declared.replica.Replica.{Replica}
-use Rattle.mb_core.specs.declared.sending.Done.{Done}
+use Rattle.mb_replica.specs.declared.state.ReplicaState.{ReplicaState}
+use Rattle.mb_replica.specs.declared.sending.Done.{Done}
 use Rattle.mb_core.specs.declared.stamping.TheConstants.{NO_UI}
-use Rattle.mb_core.specs.Between.{IsSame, RestStands, AwaitsPublish, WritesStamp, WritesCounter, WritesNormal, WritesChange}
-use Rattle.mb_core.specs.Represents.{IsHost, Represents, StandsAt, tables_of}
-use Rattle.mb_core.specs.Told.{as_outgoing}
-use Rattle.mb_core.proofs.Accepted.{same_again, still_host}
-use Rattle.mb_core.proofs.Accepting.{there}
+use Rattle.mb_replica.specs.Between.{IsSame, RestStands, AwaitsPublish, WritesStamp, WritesCounter, WritesNormal, WritesChange}
+use Rattle.mb_replica.specs.Represents.{IsHost, Represents, StandsAt, tables_of}
+use Rattle.mb_replica.specs.Told.{as_outgoing}
+use Rattle.mb_replica.proofs.Accepted.{same_again, still_host}
+use Rattle.mb_replica.proofs.Accepting.{there}
 
 -- ---- identifiers that stand in a message until it is stamped
 
@@ -145,7 +145,7 @@ module _ {V : Type 0} (me : Identity V) where
   signs (rule.Execute pos b) d m = ⊥
   signs (rule.Prepare pos b) d m = signed me d (prepare me d pos b) ≡ m
 
-  module _ (r : Replica V) (d : History) (rep : Represents me r d) (whole : IsWhole d) where
+  module _ (r : ReplicaState V) (d : History) (rep : Represents me r d) (whole : IsWhole d) where
     sound_behind : (a : Rule) → next_rule me d ≡ Some a → IsSound me (carry_out me a (begin d)).history
     sound_behind a next = (rule_sound me a (begin d) next rep.tables.sound whole).0
 
@@ -172,21 +172,21 @@ module _ {V : Type 0} (me : Identity V) where
         (normal_stamp (signed me d (prepare me d pos b)) d refl refl (room_for me d (rule.Prepare pos b) next) (sound_behind (rule.Prepare pos b) next) (fit_behind (rule.Prepare pos b) next))
 
   -- This rule is next in the history that the host stands for.
-  pub record IsNext (r : Replica V) (d : History) (a : Rule) : Type 0 where
+  pub record IsNext (r : ReplicaState V) (d : History) (a : Rule) : Type 0 where
     pub represents : Represents me r d
     pub whole : IsWhole d
     pub next : next_rule me d ≡ Some a
 
-  pub may_next : (r : Replica V) (d : History) (a : Rule) → IsNext r d a → (m : StampedMessage) → signs a d m → MayStamp m d
+  pub may_next : (r : ReplicaState V) (d : History) (a : Rule) → IsNext r d a → (m : StampedMessage) → signs a d m → MayStamp m d
   may_next r d a n m is = may_stamp r d n.represents n.whole a n.next m is
 
-  pub is_next : (r : Replica V) (done : Done) (x : Progress) (a : Rule) → StandsAt me r done x → next_rule me x.history ≡ Some a → IsNext r x.history a
+  pub is_next : (r : ReplicaState V) (done : Done) (x : Progress) (a : Rule) → StandsAt me r done x → next_rule me x.history ≡ Some a → IsNext r x.history a
   is_next r done x a st next = record { represents = st.represents; whole = nothing_served x.history st.serving; next = next }
 
   -- ---- what was written before
 
   -- A counter was bound. Positions, view changes and what is stable may have been written.
-  pub record Begun (old new : Replica V) : Type 0 where
+  pub record Begun (old new : ReplicaState V) : Type 0 where
     pub same : IsSame old new
     pub counter : new.agreement.usig.counter ≡ old.agreement.usig.counter + 1
     pub gates : new.agreement.gates.items ≡ old.agreement.gates.items
@@ -196,13 +196,13 @@ module _ {V : Type 0} (me : Identity V) where
     pub asked : new.agreement.asked ≡ old.agreement.asked
 
   -- Nothing was learnt.
-  pub record LearntNothing (old new : Replica V) : Type 0 where
+  pub record LearntNothing (old new : ReplicaState V) : Type 0 where
     pub stable : new.agreement.stable ≡ old.agreement.stable
     pub shelf : new.keeper.snapshots ≡ old.keeper.snapshots
     pub parts : new.keeper.fetched ≡ old.keeper.fetched
 
   -- First the counter is bound.
-  pub begun : (old new : Replica V) → WritesCounter old new → Begun old new
+  pub begun : (old new : ReplicaState V) → WritesCounter old new → Begun old new
   begun old new w = record {
     same = w.same;
     counter = ap (λ (t : Tables V). t.counter) w.tables;
@@ -213,11 +213,11 @@ module _ {V : Type 0} (me : Identity V) where
     asked = ap (λ (t : Tables V). t.asked) w.tables;
   }
 
-  pub nothing_yet : (old new : Replica V) → WritesCounter old new → LearntNothing old new
+  pub nothing_yet : (old new : ReplicaState V) → WritesCounter old new → LearntNothing old new
   nothing_yet old new w = record { stable = ap (λ (t : Tables V). t.stable) w.tables; shelf = ap (λ (t : Tables V). t.shelf) w.tables; parts = ap (λ (t : Tables V). t.parts) w.tables }
 
   -- These tables may be written then.
-  module _ (old mid new : Replica V) (normal : Normal) (change : ChangeTable) (stable : StableCert) (shelf : List Snapshot) (parts : Option Fetched) (same : IsSame mid new)
+  module _ (old mid new : ReplicaState V) (normal : Normal) (change : ChangeTable) (stable : StableCert) (shelf : List Snapshot) (parts : Option Fetched) (same : IsSame mid new)
       (is : tables_of new ≡ record (tables_of mid) { normal = normal; change = change; stable = stable; shelf = shelf; parts = parts }) where
     pub then_written : Begun old mid → Begun old new
     then_written b = record {
@@ -230,20 +230,20 @@ module _ {V : Type 0} (me : Identity V) where
       asked = ap (λ (t : Tables V). t.asked) is ∙ b.asked;
     }
 
-  pub then_normal : (old mid new : Replica V) → Begun old mid → WritesNormal mid new → Begun old new
+  pub then_normal : (old mid new : ReplicaState V) → Begun old mid → WritesNormal mid new → Begun old new
   then_normal old mid new b w = then_written old mid new new.agreement.normal mid.agreement.change mid.agreement.stable mid.keeper.snapshots mid.keeper.fetched w.same w.tables b
 
-  pub then_change : (old mid new : Replica V) → Begun old mid → WritesChange mid new → Begun old new
+  pub then_change : (old mid new : ReplicaState V) → Begun old mid → WritesChange mid new → Begun old new
   then_change old mid new b w = then_written old mid new mid.agreement.normal new.agreement.change mid.agreement.stable mid.keeper.snapshots mid.keeper.fetched w.same w.tables b
 
-  pub nothing_by_normal : (old mid new : Replica V) → LearntNothing old mid → WritesNormal mid new → LearntNothing old new
+  pub nothing_by_normal : (old mid new : ReplicaState V) → LearntNothing old mid → WritesNormal mid new → LearntNothing old new
   nothing_by_normal old mid new k w = record {
     stable = ap (λ (t : Tables V). t.stable) w.tables ∙ k.stable;
     shelf = ap (λ (t : Tables V). t.shelf) w.tables ∙ k.shelf;
     parts = ap (λ (t : Tables V). t.parts) w.tables ∙ k.parts;
   }
 
-  pub nothing_by_change : (old mid new : Replica V) → LearntNothing old mid → WritesChange mid new → LearntNothing old new
+  pub nothing_by_change : (old mid new : ReplicaState V) → LearntNothing old mid → WritesChange mid new → LearntNothing old new
   nothing_by_change old mid new k w = record {
     stable = ap (λ (t : Tables V). t.stable) w.tables ∙ k.stable;
     shelf = ap (λ (t : Tables V). t.shelf) w.tables ∙ k.shelf;
@@ -252,7 +252,7 @@ module _ {V : Type 0} (me : Identity V) where
 
   -- ---- what waits for the own gate and the own log
 
-  module _ (old new : Replica V) (m : StampedMessage) (d : History) (rep : Represents me old d) (b : Begun old new) (normal : NormalStands me new.agreement.normal (Stamped m ∷ d)) (change : ChangeStands me new.agreement.change (Stamped m ∷ d)) where
+  module _ (old new : ReplicaState V) (m : StampedMessage) (d : History) (rep : Represents me old d) (b : Begun old new) (normal : NormalStands me new.agreement.normal (Stamped m ∷ d)) (change : ChangeStands me new.agreement.change (Stamped m ∷ d)) where
     pub awaits_learnt : new.agreement.stable ≡ stable_of me (Stamped m ∷ d) → ShelfStands me new.keeper.snapshots (Stamped m ∷ d) → HeldStand me new.keeper.fetched (Stamped m ∷ d) → AwaitsPublish me new m d
     awaits_learnt stable shelf parts = record {
       who = still_host me old new b.same rep.who;
@@ -280,7 +280,7 @@ module _ {V : Type 0} (me : Identity V) where
 
   -- ---- published
 
-  rest_after : (r new : Replica V) (d : History) → WritesStamp r new → RestStands me (tables_of r) d → RestStands me (tables_of new) d
+  rest_after : (r new : ReplicaState V) (d : History) → WritesStamp r new → RestStands me (tables_of r) d → RestStands me (tables_of new) d
   rest_after r new d w rest = subst (λ (t : Tables V). RestStands me t d) (sym w.tables) (record {
     counter = rest.counter;
     normal = rest.normal;
@@ -293,7 +293,7 @@ module _ {V : Type 0} (me : Identity V) where
     asked = rest.asked;
   })
 
-  stands_published : (old r new : Replica V) (m : StampedMessage) (d : History) → Represents me old d → MayStamp m d → AwaitsPublish me r m d → new.agreement.log ≡ appended m r.agreement.log
+  stands_published : (old r new : ReplicaState V) (m : StampedMessage) (d : History) → Represents me old d → MayStamp m d → AwaitsPublish me r m d → new.agreement.log ≡ appended m r.agreement.log
       → GatesStand me new.agreement.gates.items (Stamped m ∷ d) → WritesStamp r new → Represents me new (Stamped m ∷ d)
   stands_published old r new m d rep may waits log gates w = let rest = rest_after r new (Stamped m ∷ d) w waits.rest in record {
     who = still_host me r new w.same waits.who;
@@ -314,7 +314,7 @@ module _ {V : Type 0} (me : Identity V) where
     fit = may.fit;
   }
 
-  published : (old r new : Replica V) (before after : Done) (x : Progress) (m : StampedMessage) → StandsAt me old before x → MayStamp m x.history → AwaitsPublish me r m x.history
+  published : (old r new : ReplicaState V) (before after : Done) (x : Progress) (m : StampedMessage) → StandsAt me old before x → MayStamp m x.history → AwaitsPublish me r m x.history
       → after.sent ≡ before.sent ++ as_outgoing (to_all (as_message m)) ∷ [] → (after.executed ≡ before.executed) × (after.installed ≡ before.installed) → new.agreement.log ≡ appended m r.agreement.log
       → GatesStand me new.agreement.gates.items (Stamped m ∷ x.history) → WritesStamp r new → StandsAt me new after (send (to_all (as_message m)) (write (Stamped m) x))
   unfolding just_served
@@ -327,7 +327,7 @@ module _ {V : Type 0} (me : Identity V) where
   }
 
   -- What publishing leaves, where it succeeds.
-  pub when_published : {E : Type 0} (result : Result (Unit {0}) E) (old r new : Replica V) (before after : Done) (x : Progress) (m : StampedMessage) → StandsAt me old before x → MayStamp m x.history → AwaitsPublish me r m x.history
+  pub when_published : {E : Type 0} (result : Result (Unit {0}) E) (old r new : ReplicaState V) (before after : Done) (x : Progress) (m : StampedMessage) → StandsAt me old before x → MayStamp m x.history → AwaitsPublish me r m x.history
       → OnOk result (after.sent ≡ before.sent ++ as_outgoing (to_all (as_message m)) ∷ []) → (after.executed ≡ before.executed) × (after.installed ≡ before.installed)
       → OnOk result (new.agreement.log ≡ appended m r.agreement.log) → ((me : Identity V) (d : History) → IsHost me r → IsSound me d → Adds me d (Stamped m) → GatesStand me r.agreement.gates.items d → OnOk result (GatesStand me new.agreement.gates.items (Stamped m ∷ d)))
       → OnOk result (WritesStamp r new) → OnOk result (StandsAt me new after (send (to_all (as_message m)) (write (Stamped m) x)))
@@ -341,7 +341,7 @@ module _ {V : Type 0} (me : Identity V) where
 pub no_ui_fits : (s : Shape) → FitsUi s NO_UI
 no_ui_fits s = let k = shape_fits s in record { host = omega (arith, k.faults.0); counter = (omega arith, omega arith); cert = refl }
 
-module _ {V : Type 0} (me : Identity V) (r : Replica V) (d : History) (rep : Represents me r d) (m : StampedMessage) (may : MayStamp me m d) where
+module _ {V : Type 0} (me : Identity V) (r : ReplicaState V) (d : History) (rep : Represents me r d) (m : StampedMessage) (may : MayStamp me m d) where
   -- A message that is signed as one that may be stamped fits before.
   pub fits_unsigned : (before : StampedMessage) → FitsUi r.agreement.shape (ui_of before) → signed me d before ≡ m → FitsStamped r.agreement.shape before
   fits_unsigned before own is =
@@ -358,7 +358,7 @@ module _ {V : Type 0} (me : Identity V) (r : Replica V) (d : History) (rep : Rep
   is_left = subst (λ (n : ℕ). n < 2 ^ 64 - 1) (sym rep.tables.counter) may.unspent
 
   -- Once it is signed it is this message, and the log has room for it.
-  module _ (new : Replica V) (b : Begun me r new) where
+  module _ (new : ReplicaState V) (b : Begun me r new) where
     pub fits_signed : (s : StampedMessage) → s ≡ m → FitsStamped new.agreement.shape s
     fits_signed s is = subst (FitsStamped new.agreement.shape) (sym is) (subst (λ (t : Shape). FitsStamped t m) (rep.who.shape ∙ sym b.same.shape) may.fit.values.0)
 
@@ -372,7 +372,7 @@ module _ {V : Type 0} (me : Identity V) (r : Replica V) (d : History) (rep : Rep
 
 module _ {V : Type 0} (me : Identity V) where
   -- A rule ends with what it publishes.
-  pub rule_ends : {E : Type 0} (result : Result (Unit {0}) E) (old r new : Replica V) (before after : Done) (x : Progress) (a : Rule) (s m : StampedMessage) → StandsAt me old before x → next_rule me x.history ≡ Some a
+  pub rule_ends : {E : Type 0} (result : Result (Unit {0}) E) (old r new : ReplicaState V) (before after : Done) (x : Progress) (a : Rule) (s m : StampedMessage) → StandsAt me old before x → next_rule me x.history ≡ Some a
       → signs me a x.history m → s ≡ m → AwaitsPublish me r m x.history → OnOk result (after.sent ≡ before.sent ++ as_outgoing (to_all (as_message s)) ∷ [])
       → (after.executed ≡ before.executed) × (after.installed ≡ before.installed) → OnOk result (new.agreement.log ≡ appended s r.agreement.log)
       → ((me : Identity V) (d : History) → IsHost me r → IsSound me d → Adds me d (Stamped s) → GatesStand me r.agreement.gates.items d → OnOk result (GatesStand me new.agreement.gates.items (Stamped s ∷ d)))
@@ -383,6 +383,6 @@ module _ {V : Type 0} (me : Identity V) where
       subst (λ (y : StampedMessage). OnOk result (StandsAt me new after (send (to_all (as_message y)) (write (Stamped y) x)))) same ends
 
   -- What it compared is no table.
-  pub when_noted : {E : Type 0} (result : Result (Unit {0}) E) (r : Replica V) (done : Done) (x : Progress) (l : List Bytes) → OnOk result (StandsAt me r done x) → OnOk result (StandsAt me r done (note l x))
+  pub when_noted : {E : Type 0} (result : Result (Unit {0}) E) (r : ReplicaState V) (done : Done) (x : Progress) (l : List Bytes) → OnOk result (StandsAt me r done x) → OnOk result (StandsAt me r done (note l x))
   when_noted (Ok a) r done x l st = record { represents = st.represents; serving = st.serving; sent = st.sent; executed = st.executed; installed = st.installed }
   when_noted (Err e) r done x l st = tt

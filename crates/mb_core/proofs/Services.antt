@@ -7,7 +7,7 @@ use Rattle.mb_model.specs.Service.{Machine}
 use Rattle.mb_model.specs.States.{Snapshots}
 use Rattle.mb_model.specs.Histories.{Identity}
 use Rattle.mb_fitting.specs.Fitting.{KeepsStates}
-use Rattle.mb_core.specs.Represents.{Serves}
+use Rattle.mb_replica.specs.Represents.{Serves}
 
 module _ {V : Type 0} (is_state : V → Type 0) (after : V → Bytes → V) (result : V → Bytes → Bytes) (part : V → ℕ → Bytes) (restored : List Bytes → Result V (ℕ × ℕ)) where
   pub keeps_states : ((s : V) (op : Bytes) → is_state s → is_state (after s op)) → ((s : V) (op : Bytes) → is_state s → IsShort (result s op))

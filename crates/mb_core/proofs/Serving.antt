@@ -32,12 +32,12 @@ use Rattle.mb_standing.proofs.Positions.{request_served}
 use Rattle.mb_standing.proofs.Snapshots.{shelf_stays}
 use Rattle.mb_standing.proofs.FetchedParts.{held_stays}
 use Rattle.mb_standing.proofs.Together.{EachStands, stand_lags, stays, stands_behind}
-use Rattle.mb_core.specs.declared.replica.Replica.{Replica}
-use Rattle.mb_core.specs.declared.sending.Done.{Done}
-use Rattle.mb_core.specs.Represents.{tables_of, Represents, StandsServing}
-use Rattle.mb_core.specs.Between.{IsSame}
+use Rattle.mb_replica.specs.declared.state.ReplicaState.{ReplicaState}
+use Rattle.mb_replica.specs.declared.sending.Done.{Done}
+use Rattle.mb_replica.specs.Represents.{tables_of, Represents, StandsServing}
+use Rattle.mb_replica.specs.Between.{IsSame}
 use Rattle.mb_core.specs.Serving.{ServesOn}
-use Rattle.mb_core.proofs.Entries.{hosted, is_there}
+use Rattle.mb_replica.proofs.Entries.{hosted, is_there}
 
 pub nothing_left : {A : Type 0} (l : List A) → length l ≡ 0 → l ≡ []
 nothing_left [] e = refl
@@ -58,7 +58,7 @@ module _ {V : Type 0} (me : Identity V) where
     | inr old ↦ rw old refl
   ]
 
-  replied_on : (new : Replica V) (done before : Done) (pos : ℕ) (p : Placed) (more : List Request) (served : List Placed) (x : Progress)
+  replied_on : (new : ReplicaState V) (done before : Done) (pos : ℕ) (p : Placed) (more : List Request) (served : List Placed) (x : Progress)
       → ServesOn me new before pos more served x → StandsServing me new done served (with_reply me p x) → ServesOn me new done pos more served (with_reply me p x)
   replied_on new done before pos p more served x s stands = record {
     stands = stands;
@@ -69,11 +69,11 @@ module _ {V : Type 0} (me : Identity V) where
   -- ---- a request
 
   -- the service with its table, and the pending requests
-  pub record WritesServed (old new : Replica V) : Type 0 where
+  pub record WritesServed (old new : ReplicaState V) : Type 0 where
     pub same : IsSame old new
     pub tables : tables_of new ≡ record (tables_of old) { normal = new.agreement.normal; service = new.keeper.served }
 
-  module _ (old : Replica V) (done : Done) (pos : ℕ) (r : Request) (more : List Request) (before : List Placed) (x : Progress) (s : ServesOn me old done pos (r ∷ more) before x) where
+  module _ (old : ReplicaState V) (done : Done) (pos : ℕ) (r : Request) (more : List Request) (before : List Placed) (x : Progress) (s : ServesOn me old done pos (r ∷ more) before x) where
     d : History
     d = x.history
 
@@ -102,7 +102,7 @@ module _ {V : Type 0} (me : Identity V) where
     fresh_is fresh is = is ∙ ap (λ (y : ServedState V). is_fresh y r) rep.tables.service
 
     -- What it leaves for the next.
-    served_on : (new : Replica V) (m : Machine V) → me.machine ≡ m → WritesServed old new → StandsServed m old.keeper.served pos r new.keeper.served
+    served_on : (new : ReplicaState V) (m : Machine V) → me.machine ≡ m → WritesServed old new → StandsServed m old.keeper.served pos r new.keeper.served
         → Becomes old.agreement.normal new.agreement.normal (λ y. with_settled y r.client r.seq) → ServesOn me new done pos more (before ++ placed_in me x.history r ∷ []) (write served_now x)
     served_on new m machine writes serves settles =
         let t : Tables V = tables_of old in
@@ -151,7 +151,7 @@ module _ {V : Type 0} (me : Identity V) where
         subst (λ (a : LastReply). 1 ≤ a.seq) (sym now) some
 
     -- Its reply is sent where it is fresh.
-    pub replied : (new : Replica V) (behind : Done) (m : Machine V) (fresh : Bool) → me.machine ≡ m → WritesServed old new → StandsServed m old.keeper.served pos r new.keeper.served
+    pub replied : (new : ReplicaState V) (behind : Done) (m : Machine V) (fresh : Bool) → me.machine ≡ m → WritesServed old new → StandsServed m old.keeper.served pos r new.keeper.served
         → Becomes old.agreement.normal new.agreement.normal (λ y. with_settled y r.client r.seq) → fresh ≡ is_fresh old.keeper.served r
         → ((y : Progress) (p : Placed) (l : List Placed) → StandsServing me new done l y → p.request.client ≡ r.client → p.fresh ≡ fresh → (fresh ≡ true → 1 ≤ last_seq me y.history r.client) → StandsServing me new behind l (with_reply me p y))
         → ServesOn me new behind pos more (before ++ record { request = r; fresh = fresh } ∷ []) (serve me pos r x)
@@ -182,21 +182,21 @@ module _ {V : Type 0} (me : Identity V) where
   serve_none pos x = refl
 
   -- Where these are left, the rest of the batch comes to the same as the whole from its start.
-  pub record Leads (r : Replica V) (done : Done) (pos : ℕ) (rest : List Request) (served : List Placed) (all : Progress) : Type 0 where
+  pub record Leads (r : ReplicaState V) (done : Done) (pos : ℕ) (rest : List Request) (served : List Placed) (all : Progress) : Type 0 where
     pub now : Progress
     pub stands : ServesOn me r done pos rest served now
     pub same : serve_all me pos rest now ≡ all
 
-  pub leads_from : (r : Replica V) (done : Done) (pos : ℕ) (all rest : List Request) (served : List Placed) (x : Progress) → rest ≡ all → served ≡ [] → ServesOn me r done pos all [] x → Leads r done pos rest served (serve_all me pos all x)
+  pub leads_from : (r : ReplicaState V) (done : Done) (pos : ℕ) (all rest : List Request) (served : List Placed) (x : Progress) → rest ≡ all → served ≡ [] → ServesOn me r done pos all [] x → Leads r done pos rest served (serve_all me pos all x)
   leads_from r done pos all rest served x same none s = record {
     now = x;
     stands = subst (λ (rs : List Request). ServesOn me r done pos rs served x) (sym same) (subst (λ (l : List Placed). ServesOn me r done pos all l x) (sym none) s);
     same = ap (λ (rs : List Request). serve_all me pos rs x) same;
   }
 
-  pub leads_on : (old new : Replica V) (before behind : Done) (pos : ℕ) (r : Request) (rest : List Request) (served more : List Placed) (all : Progress) (l : Leads old before pos (r ∷ rest) served all)
+  pub leads_on : (old new : ReplicaState V) (before behind : Done) (pos : ℕ) (r : Request) (rest : List Request) (served more : List Placed) (all : Progress) (l : Leads old before pos (r ∷ rest) served all)
       → ServesOn me new behind pos rest more (serve me pos r l.now) → Leads new behind pos rest more all
   leads_on old new before behind pos r rest served more all l stands = record { now = serve me pos r l.now; stands = stands; same = serve_next pos r rest l.now ∙ l.same }
 
-  pub leads_to : (r : Replica V) (done : Done) (pos : ℕ) (served : List Placed) (all : Progress) → Leads r done pos [] served all → ServesOn me r done pos [] served all
+  pub leads_to : (r : ReplicaState V) (done : Done) (pos : ℕ) (served : List Placed) (all : Progress) → Leads r done pos [] served all → ServesOn me r done pos [] served all
   leads_to r done pos served all l = subst (ServesOn me r done pos [] served) (serve_none pos l.now ∙ l.same) l.stands

@@ -10,13 +10,13 @@ use Rattle.mb_searches.specs.Sound.{IsSound}
 use Rattle.mb_standing.specs.GateCalls.{Marks}
 use Rattle.mb_standing.specs.Stands.{GatesStand}
 use Rattle.mb_standing.proofs.Gates.{mark_says, gate_stamped}
-use Rattle.mb_core.specs.declared.replica.Replica.{Replica}
-use Rattle.mb_core.specs.Between.{GateFollows}
-use Rattle.mb_core.specs.Represents.{IsHost}
+use Rattle.mb_replica.specs.declared.state.ReplicaState.{ReplicaState}
+use Rattle.mb_replica.specs.Between.{GateFollows}
+use Rattle.mb_replica.specs.Represents.{IsHost}
 
 module _ {V : Type 0} where
   -- The own gate takes what is stamped.
-  pub own_gate_follows : (old new : Replica V) (m : StampedMessage) (mark : Mark) → mark ≡ mark_of m → GateFollows old.agreement.host mark old new → (me : Identity V) (d : History) → IsHost me old → IsSound me d → Adds me d (Stamped m)
+  pub own_gate_follows : (old new : ReplicaState V) (m : StampedMessage) (mark : Mark) → mark ≡ mark_of m → GateFollows old.agreement.host mark old new → (me : Identity V) (d : History) → IsHost me old → IsSound me d → Adds me d (Stamped m)
       → GatesStand me old.agreement.gates.items d → GatesStand me new.agreement.gates.items (Stamped m ∷ d)
   own_gate_follows old new m mark same follows me d who sound adds g =
       let f : GateFollows me.host mark old new = subst (λ (h : ℕ). GateFollows h mark old new) (sym who.host) follows in

@@ -16,54 +16,26 @@ use Rattle.mb_searches.proofs.SoundRules.{transition_sound}
 use Rattle.mb_standing.specs.Tables.{Tables}
 use Rattle.mb_standing.specs.Stands.{Stand}
 use Rattle.mb_keeper.specs.Keeping.{Keeping}
-use Rattle.mb_core.specs.declared.agreement.Agreement.{Agreement}
-use Rattle.mb_core.specs.declared.replica.Replica.{Replica}
-use Rattle.mb_core.specs.declared.sending.Done.{Done}
+use Rattle.mb_replica.specs.declared.agreement.Agreement.{Agreement}
+use Rattle.mb_replica.specs.declared.state.ReplicaState.{ReplicaState}
+use Rattle.mb_replica.specs.declared.sending.Done.{Done}
 use Rattle.mb_core.specs.declared.rules.Due.{Due}
 use Rattle.mb_core.specs.Due.{Names, IsNamed, IsDue}
-use Rattle.mb_core.specs.declared.told.Outgoing.{Outgoing}
-use Rattle.mb_core.specs.declared.told.Told.{Told}
-use Rattle.mb_core.specs.Told.{as_outgoing, plain}
-use Rattle.mb_core.specs.Represents.{Represents, Serves, StandsAt, HasHistory, IsInStep, IsAtRest, IsStep, IsTold, as_sent}
+use Rattle.mb_replica.specs.declared.told.Outgoing.{Outgoing}
+use Rattle.mb_replica.specs.declared.told.Told.{Told}
+use Rattle.mb_replica.specs.Told.{as_outgoing, plain}
+use Rattle.mb_replica.specs.Represents.{Represents, Serves, StandsAt, HasHistory, IsInStep, IsAtRest, IsStep, IsTold, as_sent}
 
 module _ {V : Type 0} where
-  -- all that it keeps, of the two parts that it has
-  abbrev kept_in : Agreement → Keeping V → Tables V
-  kept_in a k = record {
-    counter = a.usig.counter;
-    gates = a.gates.items;
-    log = a.log;
-    normal = a.normal;
-    change = a.change;
-    stable = a.stable;
-    exec = a.exec;
-    service = k.served;
-    shelf = k.snapshots;
-    parts = k.fetched;
-    asked = a.asked;
-  }
-
-  -- What it says of itself, and whether it is halted, are no tables.
-  pub same_tables : (me : Identity V) (r new : Replica V) (d : History) → new.agreement ≡ r.agreement → new.keeper ≡ r.keeper → Represents me r d → Represents me new d
-  same_tables me r new d agreement keeper rep = record {
-    who = record {
-      shape = rep.who.shape ∙ sym (ap (λ (a : Agreement). a.shape) agreement);
-      host = rep.who.host ∙ sym (ap (λ (a : Agreement). a.host) agreement);
-      secret = rep.who.secret ∙ sym (ap (λ (a : Agreement). a.usig.secret) agreement);
-    };
-    tables = subst (λ (t : Tables V). Stand me t d) (ap (λ (a : Agreement). kept_in a r.keeper) (sym agreement) ∙ ap (λ (k : Keeping V). kept_in new.agreement k) (sym keeper)) rep.tables;
-    fit = rep.fit;
-  }
-
-  pub has_history : (me : Identity V) (r : Replica V) (done : Done) (x : Progress) → StandsAt me r done x → HasHistory r
+  pub has_history : (me : Identity V) (r : ReplicaState V) (done : Done) (x : Progress) → StandsAt me r done x → HasHistory r
   has_history me r done x stands = record { me = me; history = x.history; represents = stands.represents }
 
   -- at the beginning of a step nothing is done
-  pub stands_begin : (me : Identity V) (r : Replica V) (done : Done) (d : History) → Represents me r d → IsWhole d → done.sent ≡ [] → done.executed ≡ [] → done.installed ≡ None → StandsAt me r done (begin d)
+  pub stands_begin : (me : Identity V) (r : ReplicaState V) (done : Done) (d : History) → Represents me r d → IsWhole d → done.sent ≡ [] → done.executed ≡ [] → done.installed ≡ None → StandsAt me r done (begin d)
   stands_begin me r done d rep whole sent executed installed = record { represents = rep; serving = none_served d whole; sent = sent; executed = executed; installed = installed }
 
 -- a step that is told
-pub is_told : {V : Type 0} (me : Identity V) (r : Replica V) (done : Done) (told : Told) (o : Outcome) (a : Answer) → told ≡ record { outcome = o; sent = done.sent; executed = done.executed; adopted = done.installed } → o ≡ a.outcome → StandsAt me r done a.left → IsTold told a
+pub is_told : {V : Type 0} (me : Identity V) (r : ReplicaState V) (done : Done) (told : Told) (o : Outcome) (a : Answer) → told ≡ record { outcome = o; sent = done.sent; executed = done.executed; adopted = done.installed } → o ≡ a.outcome → StandsAt me r done a.left → IsTold told a
 is_told me r done told o a is same stands = record {
   outcome = ap (λ (t : Told). t.outcome) is ∙ same;
   sent = ap (λ (t : Told). t.sent) is ∙ stands.sent;
@@ -88,11 +60,11 @@ module _ {V : Type 0} (is_state : V → Type 0) (after : V → Bytes → V) (res
   abbrev IsService : Identity V → Type 0
   IsService me = Serves is_state after result part restored me
 
-  pub step_history : (r : Replica V) (done : Done) → IsInStep is_state after result part restored r done → HasHistory r
+  pub step_history : (r : ReplicaState V) (done : Done) → IsInStep is_state after result part restored r done → HasHistory r
   step_history r done s = has_history s.me r done s.left s.stands
 
   -- the rule that the code names is next
-  pub is_due : (r : Replica V) (done : Done) (due : Due) → IsInStep is_state after result part restored r done → ((me : Identity V) (d : History) → Represents me r d → Names (Some due) (next_rule me d))
+  pub is_due : (r : ReplicaState V) (done : Done) (due : Due) → IsInStep is_state after result part restored r done → ((me : Identity V) (d : History) → Represents me r d → Names (Some due) (next_rule me d))
       → IsDue is_state after result part restored r done due
   is_due r done due s named = by_rule (next_rule s.me s.left.history) refl (named s.me s.left.history s.stands.represents) where
     by_rule : (o : Option Rule) → next_rule s.me s.left.history ≡ o → Names (Some due) o → IsDue is_state after result part restored r done due
@@ -100,22 +72,22 @@ module _ {V : Type 0} (is_state : V → Type 0) (after : V → Bytes → V) (res
     by_rule (Some rule) e n = record { me = s.me; left = s.left; rule = rule; serves = s.serves; stands = s.stands; named = n; next = e }
 
   -- and is carried out
-  pub is_done : (r new : Replica V) (done more : Done) (due : Due) → IsDue is_state after result part restored r done due
+  pub is_done : (r new : ReplicaState V) (done more : Done) (due : Due) → IsDue is_state after result part restored r done due
       → ((me : Identity V) (x : Progress) (rule : Rule) → IsService me → StandsAt me r done x → IsNamed due rule → next_rule me x.history ≡ Some rule → StandsAt me new more (carry_out me rule x))
       → IsInStep is_state after result part restored new more
   is_done r new done more due is carried = record { me = is.me; left = carry_out is.me is.rule is.left; serves = is.serves; stands = carried is.me is.left is.rule is.serves is.stands is.named is.next }
 
   -- at the beginning of a step
-  pub step_begins : (r : Replica V) (done : Done) → IsAtRest is_state after result part restored r → done.sent ≡ [] → done.executed ≡ [] → done.installed ≡ None → IsInStep is_state after result part restored r done
+  pub step_begins : (r : ReplicaState V) (done : Done) → IsAtRest is_state after result part restored r → done.sent ≡ [] → done.executed ≡ [] → done.installed ≡ None → IsInStep is_state after result part restored r done
   step_begins r done a sent executed installed = record { me = a.me; left = begin a.history; serves = a.serves; stands = stands_begin a.me r done a.history a.represents a.whole sent executed installed }
 
   -- what a step does of any history it stands for, it does of that which it is in
-  pub step_goes_on : (r new : Replica V) (done more : Done) (f : Identity V → Progress → Progress) → IsInStep is_state after result part restored r done
+  pub step_goes_on : (r new : ReplicaState V) (done more : Done) (f : Identity V → Progress → Progress) → IsInStep is_state after result part restored r done
       → ((me : Identity V) (x : Progress) → IsService me → StandsAt me r done x → StandsAt me new more (f me x)) → IsInStep is_state after result part restored new more
   step_goes_on r new done more f s stands = record { me = s.me; left = f s.me s.left; serves = s.serves; stands = stands s.me s.left s.serves s.stands }
 
   -- at its end it stands for what the event leaves, and is at rest
-  pub step_ends : (r new : Replica V) (event : Event) → IsAtRest is_state after result part restored r
+  pub step_ends : (r new : ReplicaState V) (event : Event) → IsAtRest is_state after result part restored r
       → ((me : Identity V) (d : History) → IsService me → Represents me r d → IsWhole d → Represents me new (transition me d event).left.history)
       → IsAtRest is_state after result part restored new
   step_ends r new event a represents = record {

@@ -12,8 +12,8 @@ use Rattle.mb_normal.specs.Tables.{Represents as NormalRepresents}
 use Rattle.mb_change.specs.Searches.{with_change}
 use Rattle.mb_change.specs.Represents.{StandsWith}
 use Rattle.mb_standing.specs.Positions.{carrying, open_slots, up_to}
-use Rattle.mb_core.specs.declared.replica.Replica.{Replica}
-use Rattle.mb_core.specs.Represents.{IsHost}
+use Rattle.mb_replica.specs.declared.state.ReplicaState.{ReplicaState}
+use Rattle.mb_replica.specs.Represents.{IsHost}
 
 -- The OPEN shows this evidence and this plan.
 pub record Shows (m : Open) (e : Evidence) (plan : Plan) : Type 0 where
@@ -22,11 +22,11 @@ pub record Shows (m : Open) (e : Evidence) (plan : Plan) : Type 0 where
 
 module _ {V : Type 0} where
   -- The own VIEW_CHANGE is stored where it is usable.
-  abbrev pub StoresOwn : Identity V → ViewChange → Replica V → Replica V → Type 0
+  abbrev pub StoresOwn : Identity V → ViewChange → ReplicaState V → ReplicaState V → Type 0
   StoresOwn me m old new = StandsWith old.agreement.change (λ s. if is_none (change_fault me m) then with_change m s else s) new.agreement.change
 
   -- A host whose view is that of the evidence holds the plan that its OPEN shows.
-  pub record Opens (me : Identity V) (d : History) (m : Open) (view : ℕ) (e : Evidence) (r : Replica V) : Type 0 where
+  pub record Opens (me : Identity V) (d : History) (m : Open) (view : ℕ) (e : Evidence) (r : ReplicaState V) : Type 0 where
     pub plan : Plan
     pub who : IsHost me r
     pub held : plan_of_view view r.agreement.change.plan ≡ Some plan
@@ -34,14 +34,14 @@ module _ {V : Type 0} where
     pub view_is : e.view ≡ view_of me d
 
   -- The slots and own votes of the positions up to one were carried on.
-  abbrev pub StandsCarrying : Identity V → History → Open → ℕ → Replica V → Type 0
+  abbrev pub StandsCarrying : Identity V → History → Open → ℕ → ReplicaState V → Type 0
   StandsCarrying me d m last r = NormalRepresents me.shape me.host r.agreement.normal (carrying me.host (searches_in me d) (open_slots me m d) (up_to last))
 
   -- Those of one position more were, that of the batch with this index.
-  abbrev pub CarriesMore : ℕ → Evidence → ℕ → Replica V → Replica V → Type 0
+  abbrev pub CarriesMore : ℕ → Evidence → ℕ → ReplicaState V → ReplicaState V → Type 0
   CarriesMore view e index old new = (me : Identity V) (d : History) (m : Open) → Opens me d m view e old → StandsCarrying me d m (e.base + index) old → StandsCarrying me d m (e.base + index + 1) new
 
   -- Those of all positions were, of none before.
-  abbrev pub CarriesOn : ℕ → Evidence → Replica V → Replica V → Type 0
+  abbrev pub CarriesOn : ℕ → Evidence → ReplicaState V → ReplicaState V → Type 0
   CarriesOn view e old new = (me : Identity V) (d : History) (m : Open) → Opens me d m view e old → NormalRepresents me.shape me.host old.agreement.normal (searches_in me d)
       → NormalRepresents me.shape me.host new.agreement.normal (carrying me.host (searches_in me d) (open_slots me m d) (λ p. true))

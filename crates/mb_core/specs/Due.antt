@@ -5,11 +5,11 @@ use Rattle.mb_base.specs.Shapes.{Bytes}
 use Rattle.mb_model.specs.Histories.{History, Identity}
 use Rattle.mb_model.specs.Sending.{Progress}
 use Rattle.mb_model.specs.EnabledRules.{Rule, ChangeView, Announce, Enter, Open, Join, Commit, Execute, Prepare, change_enabled, announce_enabled, enter_enabled, open_enabled, join_enabled, commit_enabled, execute_enabled, prepare_enabled, next_rule}
-use Rattle.mb_core.specs.declared.replica.Replica.{Replica}
-use Rattle.mb_core.specs.declared.sending.Done.{Done}
+use Rattle.mb_replica.specs.declared.state.ReplicaState.{ReplicaState}
+use Rattle.mb_replica.specs.declared.sending.Done.{Done}
 use Rattle.mb_core.specs.declared.rules.Due.{Due}
 use Rattle.mb_core.specs.declared.rules.Due.TheVariants as due
-use Rattle.mb_core.specs.Represents.{Serves, StandsAt}
+use Rattle.mb_replica.specs.Represents.{Serves, StandsAt}
 
 -- The code names this rule.
 abbrev pub IsNamed : Due → Rule → Type 0
@@ -39,7 +39,7 @@ module _ {S : Type 0} (self : Identity S) where
   normal_rule d = option_or (commit_enabled self d) (option_or (execute_enabled self d) (prepare_enabled self d))
 
 -- There is a step that the replica is in, of a host with this service, in which the rule of this name is next.
-pub record IsDue {V : Type 0} (is_state : V → Type 0) (after : V → Bytes → V) (result : V → Bytes → Bytes) (part : V → ℕ → Bytes) (restored : List Bytes → Result V (ℕ × ℕ)) (r : Replica V) (done : Done) (due : Due) : Type 0 where
+pub record IsDue {V : Type 0} (is_state : V → Type 0) (after : V → Bytes → V) (result : V → Bytes → Bytes) (part : V → ℕ → Bytes) (restored : List Bytes → Result V (ℕ × ℕ)) (r : ReplicaState V) (done : Done) (due : Due) : Type 0 where
   pub me : Identity V
   pub left : Progress
   pub rule : Rule

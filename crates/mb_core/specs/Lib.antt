@@ -1,16 +1,6 @@
 pub mod Represents
-pub mod Between
-pub mod Holding
-pub mod Wishing
 pub mod Signed
-pub mod Arrivals
-pub mod Waiting
-pub mod Answers
 pub mod Due
 pub mod Serving
-pub mod Installing
 pub mod Halting
-pub mod Lengths
-pub mod Told
-pub mod Beginning
 pub mod Carrying

@@ -1,137 +1,19 @@
--- What a replica is: each of its tables stands for its searches in the host's history.
-use Rattle.std.specs.Prelude.{◌≡◌, ℕ, List, [], map, Result}
+-- What a replica is: the state of a host, which stands for a history of it.
+use Rattle.std.specs.Prelude.{ℕ, List, Result}
 use Rattle.mb_base.specs.Shapes.{Bytes}
-use Rattle.mb_msg.specs.declared.event.Placed.{Placed}
-use Rattle.mb_msg.specs.declared.event.Sent.{Sent}
-use Rattle.mb_msg.specs.declared.event.Step.{Step}
-use Rattle.mb_msg.specs.Spelling.{spelling}
 use Rattle.mb_model.specs.Histories.{History, Identity}
-use Rattle.mb_model.specs.CarriedOut.{just_served}
-use Rattle.mb_model.specs.Sending.{Letter, Progress}
-use Rattle.mb_model.specs.Given.{Answer}
-use Rattle.mb_model.specs.HostStep.{rules_follow, asks_on}
-use Rattle.mb_steps.proofs.StepArises.{IsWhole}
-use Rattle.mb_msg.specs.declared.message.Message.{Message}
-use Rattle.mb_msg.specs.declared.message.Message.TheVariants as message
-use Rattle.mb_cache.specs.Represents.{machine_of, snapshots_of}
-use Rattle.mb_core.specs.declared.given.Answer.{Answer as GivenAnswer}
-use Rattle.mb_standing.specs.Tables.{Tables}
-use Rattle.mb_standing.specs.Stands.{Stand}
-use Rattle.mb_fitting.specs.Fitting.{AreFit}
+use Rattle.mb_replica.specs.Represents as state
 use Rattle.mb_core.specs.declared.replica.Replica.{Replica}
-use Rattle.mb_core.specs.declared.sending.Done.{Done}
-use Rattle.mb_core.specs.declared.told.Told.{Told}
-use Rattle.mb_core.specs.Told.{as_outgoing}
-
--- a message that is sent, as its bytes
-abbrev pub as_sent : Letter → Sent
-as_sent letter = record { to = letter.to; bytes = spelling letter.says }
-
--- a whole step is an answer
-pub record IsStep (step : Step) (a : Answer) : Type 0 where
-  pub outcome : step.outcome ≡ a.outcome
-  pub sent : step.sent ≡ map as_sent a.left.sent
-  pub executed : step.executed ≡ a.left.executed
-  pub adopted : step.adopted ≡ a.left.installed
-
--- and so is one that tells what was stamped
-pub record IsTold (told : Told) (a : Answer) : Type 0 where
-  pub outcome : told.outcome ≡ a.outcome
-  pub sent : told.sent ≡ map as_outgoing a.left.sent
-  pub executed : told.executed ≡ a.left.executed
-  pub adopted : told.adopted ≡ a.left.installed
 
 module _ {V : Type 0} where
-  -- all that it keeps
-  abbrev pub tables_of : Replica V → Tables V
-  tables_of r = record {
-    counter = r.agreement.usig.counter;
-    gates = r.agreement.gates.items;
-    log = r.agreement.log;
-    normal = r.agreement.normal;
-    change = r.agreement.change;
-    stable = r.agreement.stable;
-    exec = r.agreement.exec;
-    service = r.keeper.served;
-    shelf = r.keeper.snapshots;
-    parts = r.keeper.fetched;
-    asked = r.agreement.asked;
-  }
-
   -- which host it is
-  pub record IsHost (me : Identity V) (r : Replica V) : Type 0 where
-    pub shape : me.shape ≡ r.agreement.shape
-    pub host : me.host ≡ r.agreement.host
-    pub secret : me.secret ≡ r.agreement.usig.secret
+  abbrev pub IsHost : Identity V → Replica V → Type 0
+  IsHost me r = state.IsHost me r.state
 
-  -- A replica stands for a history of a host, also in the middle of a batch. All that is in it has the values of the grammar.
-  pub record Represents (me : Identity V) (r : Replica V) (d : History) : Type 0 where
-    pub who : IsHost me r
-    pub tables : Stand me (tables_of r) d
-    pub fit : AreFit me d
-
-  -- ---- the service
-
-  -- Its service is this one, and begins with one of its states.
-  pub record Serves (is_state : V → Type 0) (after : V → Bytes → V) (result : V → Bytes → Bytes) (part : V → ℕ → Bytes) (restored : List Bytes → Result V (ℕ × ℕ)) (me : Identity V) : Type 0 where
-    pub machine : me.machine ≡ machine_of after result
-    pub snapshots : me.snapshots ≡ snapshots_of part restored
-    pub first : is_state me.initial
-
-  -- ---- a step
-
-  -- a replica in the middle of a step, and of a batch of which these requests are served, stands where the step stands
-  pub record StandsServing (me : Identity V) (r : Replica V) (done : Done) (served : List Placed) (x : Progress) : Type 0 where
-    pub represents : Represents me r x.history
-    pub serving : just_served x.history ≡ served
-    pub sent : done.sent ≡ map as_outgoing x.sent
-    pub executed : done.executed ≡ x.executed
-    pub installed : done.installed ≡ x.installed
-
-  -- between two batches of a step
-  abbrev pub StandsAt : Identity V → Replica V → Done → Progress → Type 0
-  StandsAt me r done x = StandsServing me r done [] x
-
-  -- ---- what is always so, whatever the history
-
-  -- There is a history that it represents.
-  pub record HasHistory (r : Replica V) : Type 0 where
-    pub me : Identity V
-    pub history : History
-    pub represents : Represents me r history
-
-  -- There is a step that it is in, of a host with this service, between two batches.
-  pub record IsInStep (is_state : V → Type 0) (after : V → Bytes → V) (result : V → Bytes → Bytes) (part : V → ℕ → Bytes) (restored : List Bytes → Result V (ℕ × ℕ)) (r : Replica V) (done : Done) : Type 0 where
-    pub me : Identity V
-    pub left : Progress
-    pub serves : Serves is_state after result part restored me
-    pub stands : StandsAt me r done left
+  -- It stands for a history of a host, also in the middle of a batch.
+  abbrev pub Represents : Identity V → Replica V → History → Type 0
+  Represents me r d = state.Represents me r.state d
 
   -- There is a history between two events that it represents, of a host with this service.
-  pub record IsAtRest (is_state : V → Type 0) (after : V → Bytes → V) (result : V → Bytes → Bytes) (part : V → ℕ → Bytes) (restored : List Bytes → Result V (ℕ × ℕ)) (r : Replica V) : Type 0 where
-    pub me : Identity V
-    pub history : History
-    pub serves : Serves is_state after result part restored me
-    pub represents : Represents me r history
-    pub whole : IsWhole history
-
-  -- ---- what is answered
-
-  -- what became of a message, and what follows it
-  pub record Answers (me : Identity V) (m : Message) (a : GivenAnswer) (is : Answer) : Type 0 where
-    pub outcome : a.outcome ≡ is.outcome
-    pub follow : a.rules_follow ≡ rules_follow me is.outcome m
-    pub asks : a.asks ≡ asks_on me m
-
--- a stamped message or a REPLY
-abbrev pub IsOther : Message → Type 0
-IsOther (message.Prepare m) = Unit {0}
-IsOther (message.Commit m) = Unit {0}
-IsOther (message.Reply m) = Unit {0}
-IsOther (message.Checkpoint m) = Unit {0}
-IsOther (message.ViewChange m) = Unit {0}
-IsOther (message.NewView m) = Unit {0}
-IsOther (message.Enter m) = Unit {0}
-IsOther (message.Open m) = Unit {0}
-IsOther (message.Join m) = Unit {0}
-IsOther m = ⊥
+  abbrev pub IsAtRest : (V → Type 0) → (V → Bytes → V) → (V → Bytes → Bytes) → (V → ℕ → Bytes) → (List Bytes → Result V (ℕ × ℕ)) → Replica V → Type 0
+  IsAtRest is_state after result part restored r = state.IsAtRest is_state after result part restored r.state

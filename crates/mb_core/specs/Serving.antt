@@ -9,19 +9,19 @@ use Rattle.mb_model.specs.Sending.{Progress}
 use Rattle.mb_steps.proofs.StepArises.{JustExecuted}
 use Rattle.mb_searches.proofs.SoundRules.{IsServing}
 use Rattle.mb_fetch.specs.Snapshots.{Snapshot, StandsWith}
-use Rattle.mb_core.specs.declared.replica.Replica.{Replica}
-use Rattle.mb_core.specs.declared.sending.Done.{Done}
-use Rattle.mb_core.specs.Represents.{tables_of, Serves, StandsServing, StandsAt}
-use Rattle.mb_core.specs.Between.{IsSame}
+use Rattle.mb_replica.specs.declared.state.ReplicaState.{ReplicaState}
+use Rattle.mb_replica.specs.declared.sending.Done.{Done}
+use Rattle.mb_replica.specs.Represents.{tables_of, Serves, StandsServing, StandsAt}
+use Rattle.mb_replica.specs.Between.{IsSame}
 
 module _ {V : Type 0} where
   -- Of the batch at a position these requests are served, and these are left.
-  pub record ServesOn (me : Identity V) (r : Replica V) (done : Done) (pos : ℕ) (more : List Request) (served : List Placed) (x : Progress) : Type 0 where
+  pub record ServesOn (me : Identity V) (r : ReplicaState V) (done : Done) (pos : ℕ) (more : List Request) (served : List Placed) (x : Progress) : Type 0 where
     pub stands : StandsServing me r done served x
     pub batch : Batch
     pub serving : IsServing me pos batch more x.history
 
-  module _ (is_state : V → Type 0) (after : V → Bytes → V) (result : V → Bytes → Bytes) (part : V → ℕ → Bytes) (restored : List Bytes → Result V (ℕ × ℕ)) (r : Replica V) (done : Done) (pos : ℕ) where
+  module _ (is_state : V → Type 0) (after : V → Bytes → V) (result : V → Bytes → Bytes) (part : V → ℕ → Bytes) (restored : List Bytes → Result V (ℕ × ℕ)) (r : ReplicaState V) (done : Done) (pos : ℕ) where
     -- There is a step so, of a host with this service.
     pub record IsInBatch (more : List Request) (served : List Placed) : Type 0 where
       pub me : Identity V
@@ -40,7 +40,7 @@ module _ {V : Type 0} where
   -- ---- the snapshot at a multiple of the interval
 
   -- Nothing but the snapshots was written.
-  pub record WritesShelf (old new : Replica V) : Type 0 where
+  pub record WritesShelf (old new : ReplicaState V) : Type 0 where
     pub same : IsSame old new
     pub tables : tables_of new ≡ record (tables_of old) { shelf = new.keeper.snapshots }
 

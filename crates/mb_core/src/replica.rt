@@ -9,16 +9,16 @@ ghost use Rattle.mb_model.specs.Positions.{exec_of};
 ghost use Rattle.mb_model.specs.HostStep.{transition};
 ghost use Rattle.mb_steps.proofs.StepArises.{IsWhole};
 ghost use Rattle.mb_core.specs.Halting.{Halts};
-ghost use Rattle.mb_core.specs.Lengths.{AreMessageLong, AreOutgoingLong};
-ghost use Rattle.mb_core.specs.Represents.{Represents, Serves, IsHost, IsAtRest, IsStep, IsTold};
-ghost use Rattle.mb_core.specs.Told.{KnowsEvent};
+ghost use Rattle.mb_replica.specs.Lengths.{AreMessageLong, AreOutgoingLong};
+ghost use Rattle.mb_replica.specs.Represents.{Serves, IsStep, IsTold};
+ghost use Rattle.mb_core.specs.Represents.{Represents, IsHost, IsAtRest};
+ghost use Rattle.mb_replica.specs.Told.{KnowsEvent};
+ghost use Rattle.mb_replica.specs.Waiting.{wants};
 
-use crate::agreement::Agreement;
-use crate::sending::Done;
-use crate::told::Told;
+use crate::events::on_event;
 use mb_base::{Digest, Host, Key, NoMemory, Pos, Shape};
-use mb_keeper::Keeper;
 use mb_msg::{Event, Floor, Step};
+use mb_replica::{Done, ReplicaState, Told};
 use mb_service::Service;
 use std::alloc::Global;
 
@@ -34,8 +34,7 @@ pub enum Stop {
 /// A host of the protocol.
 #[derive(Drop)]
 pub struct Replica<V: Service> {
-    pub(crate) agreement: Agreement,
-    pub(crate) keeper: Keeper<V>,
+    state: ReplicaState<V>,
     halted: bool,
 }
 
@@ -50,14 +49,12 @@ impl<V: Service + Drop> Replica<V> {
     ) -> Result<Replica<V>, NoMemory>
         requires { host < host_count shape }
         ensures stands { (me : Identity V) → Serves V.is_state V.after V.answer V.part_of V.restored me → me.initial ≡ service → IfOk result (λ r. IsHost me r → Represents me r []) }
-        ensures host { IfOk result (λ r. (r.agreement.shape ≡ shape) × (r.agreement.host ≡ host) × (r.agreement.usig.secret ≡ secret.now)) }
+        ensures host { IfOk result (λ r. (r.state.agreement.shape ≡ shape) × (r.state.agreement.host ≡ host) × (r.state.agreement.usig.secret ≡ secret.now)) }
         ensures rests { IfOk result (λ r. IsAtRest V.is_state V.after V.answer V.part_of V.restored r) }
         ensures runs { IfOk result (λ r. r.halted ≡ false) }
     {
-        service.known();
         Ok(Replica {
-            agreement: Agreement::make(alloc, shape, host, secret)?,
-            keeper: Keeper::make(alloc, shape, service)?,
+            state: ReplicaState::make(alloc, shape, host, secret, service)?,
             halted: false,
         })
     }
@@ -91,7 +88,7 @@ impl<V: Service + Drop> Replica<V> {
         known: &Option<Digest>,
     ) -> Result<Told, Stop>
         requires rests { self.old.halted ≡ false → IsAtRest V.is_state V.after V.answer V.part_of V.restored self.old }
-        requires known { KnowsEvent self.old.agreement.shape known.now event.now }
+        requires known { KnowsEvent self.old.state.agreement.shape known.now event.now }
         ensures stands { (me : Identity V) (d : History) → Serves V.is_state V.after V.answer V.part_of V.restored me → Represents me self.old d → IsWhole d
             → IfOk result (λ t. IsTold t (transition me d event.now) × (Represents me self.new (transition me d event.now).left.history × IsWhole (transition me d event.now).left.history)) }
         ensures lengths { IfOk result (λ t. AreOutgoingLong t.sent) }
@@ -102,7 +99,7 @@ impl<V: Service + Drop> Replica<V> {
             return Err(Stop::Halted);
         }
         let mut done = Done::new(alloc);
-        match self.on_event(alloc, event, known, &mut done) {
+        match on_event(&mut self.state, alloc, event, known, &mut done) {
             Ok(outcome) => {
                 self.halted = false;
                 Ok(done.into_told(outcome))
@@ -117,52 +114,59 @@ impl<V: Service + Drop> Replica<V> {
     // ---- what is seen of a host
 
     pub fn shape(&self) -> Shape
-        ensures { result ≡ self.now.agreement.shape }
+        ensures { result ≡ self.now.state.agreement.shape }
     {
-        self.agreement.shape
+        self.state.agreement.shape
     }
 
     /// The number of this host.
     pub fn host(&self) -> Host
-        ensures { result ≡ self.now.agreement.host }
+        ensures { result ≡ self.now.state.agreement.host }
     {
-        self.agreement.host
+        self.state.agreement.host
     }
 
     /// Where this host stands: where the gate for its own messages stands.
     pub fn at(&self) -> Floor
         ensures { (me : Identity V) (d : History) → Represents me self.now d → result ≡ here me d }
     {
-        self.here()
+        self.state.here()
     }
 
     /// The last executed position.
     pub fn exec(&self) -> Pos
         ensures { (me : Identity V) (d : History) → Represents me self.now d → result ≡ exec_of d }
     {
-        self.agreement.exec
+        self.state.agreement.exec
     }
 
     /// The stable position.
     pub fn low(&self) -> Pos
-        ensures low_is { result ≡ self.now.agreement.stable.pos }
+        ensures low_is { result ≡ self.now.state.agreement.stable.pos }
         ensures reads { (me : Identity V) (d : History) → Represents me self.now d → result ≡ low_of me d }
     {
-        self.agreement.stable.pos
+        self.state.low()
+    }
+
+    /// Whether this host waits for something: a request is pending, or its view is not open.
+    pub fn wants(&self) -> bool
+        ensures { (me : Identity V) (d : History) → Represents me self.now d → result ≡ wants me d }
+    {
+        self.state.wants()
     }
 
     /// The number of messages in the own log.
     pub fn log_len(&self) -> u32
         ensures { (me : Identity V) (d : History) → Represents me self.now d → result ≡ length (own_log me d) }
     {
-        self.agreement.log.len()
+        self.state.agreement.log.len()
     }
 
     /// The most messages that the own log ever held.
     pub fn log_longest(&self) -> u32
         ensures { (me : Identity V) (d : History) → Represents me self.now d → result ≡ log_longest me d }
     {
-        self.agreement.log.longest()
+        self.state.agreement.log.longest()
     }
 
     /// Whether an earlier step ran out of memory.

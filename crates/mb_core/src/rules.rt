@@ -1,10 +1,26 @@
 //! What follows in the same step: eight rules, of which the first that is enabled is next, again and again.
 
-use crate::replica::Replica;
-use crate::sending::Done;
+ghost use Rattle.std.specs.Prelude.{Some, OnOk, ◌≡◌};
+ghost use Rattle.mb_model.specs.Sending.{Progress};
+ghost use Rattle.mb_model.specs.EnabledRules.{Rule, next_rule, next_position};
+ghost use Rattle.mb_model.specs.CarriedOut.{run_rules, carry_out, enough};
+ghost use Rattle.mb_core.specs.Due.{IsNamed, IsDue, Names, change_rule, normal_rule};
+ghost use Rattle.mb_replica.specs.Represents.{Serves, StandsAt, Represents, HasHistory, IsInStep};
+ghost use Rattle.mb_model.specs.Histories.{Identity, History};
+
+use crate::commits::commit;
+use crate::enters::enter;
+use crate::executing::execute;
+use crate::joins::join;
+use crate::new_views::announce;
+use crate::opens::open;
+use crate::prepares::prepare;
+use crate::stamping::{has_other_room, has_room};
+use crate::view_changes::change_view;
 use mb_base::{NoMemory, Pos, View};
 use mb_change::ChangeDue;
 use mb_normal::Due as NormalDue;
+use mb_replica::{Done, ReplicaState};
 use mb_service::Service;
 use std::alloc::Global;
 
@@ -32,95 +48,96 @@ pub(crate) enum Due {
     Prepare,
 }
 
-impl<V: Service + Drop> Replica<V> {
-    ghost use Rattle.std.specs.Prelude.{Some, OnOk, ◌≡◌, IfOk};
-    ghost use Rattle.mb_model.specs.Sending.{Progress};
-    ghost use Rattle.mb_model.specs.EnabledRules.{Rule, next_rule, next_position};
-    ghost use Rattle.mb_model.specs.CarriedOut.{run_rules, carry_out, enough};
-    ghost use Rattle.mb_core.specs.Due.{IsNamed, IsDue, Names, change_rule, normal_rule};
-    ghost use Rattle.mb_core.specs.Represents.{Serves, StandsAt, Represents, HasHistory, IsInStep};
-    ghost use Rattle.mb_model.specs.Histories.{Identity, History};
-
-    /// Carries out the next rule, until none is enabled.
-    pub(crate) fn run_rules(&mut self, alloc: Global, done: &mut Done) -> Result<(), NoMemory>
-        requires { IsInStep V.is_state V.after V.answer V.part_of V.restored self.old done.old }
-        ensures { (me : Identity V) (x : Progress) → Serves V.is_state V.after V.answer V.part_of V.restored me → StandsAt me self.old done.old x → OnOk result (StandsAt me self.new done.new (run_rules me enough x)) }
-    {
-        for _round in 0..ENOUGH {
-            let Some(rule) = self.next_rule() else {
-                return Ok(());
-            };
-            self.carry_out(alloc, rule, done)?;
-        }
-        Ok(())
+/// Carries out the next rule, until none is enabled.
+pub(crate) fn run_rules<V: Service + Drop>(
+    replica: &mut ReplicaState<V>,
+    alloc: Global,
+    done: &mut Done,
+) -> Result<(), NoMemory>
+    requires { IsInStep V.is_state V.after V.answer V.part_of V.restored replica.old done.old }
+    ensures { (me : Identity V) (x : Progress) → Serves V.is_state V.after V.answer V.part_of V.restored me → StandsAt me replica.old done.old x → OnOk result (StandsAt me replica.new done.new (run_rules me enough x)) }
+{
+    for _round in 0..ENOUGH {
+        let Some(rule) = next_rule(replica) else {
+            return Ok(());
+        };
+        carry_out(replica, alloc, rule, done)?;
     }
+    Ok(())
+}
 
-    fn carry_out(&mut self, alloc: Global, rule: Due, done: &mut Done) -> Result<(), NoMemory>
-        requires { IsDue V.is_state V.after V.answer V.part_of V.restored self.old done.old rule }
-        ensures { (me : Identity V) (x : Progress) → (r : Rule) → Serves V.is_state V.after V.answer V.part_of V.restored me → StandsAt me self.old done.old x → IsNamed rule r → next_rule me x.history ≡ Some r → OnOk result (StandsAt me self.new done.new (carry_out me r x)) }
-    {
-        match rule {
-            Due::ChangeView { view } => self.change_view(alloc, view, done),
-            Due::Announce => self.announce(alloc, done),
-            Due::Enter => self.enter(alloc, done),
-            Due::Open => self.open(alloc, done),
-            Due::Join => self.join(alloc, done),
-            Due::Commit { pos } => self.commit(alloc, pos, done),
-            Due::Execute { pos } => self.execute(alloc, pos, done),
-            Due::Prepare => self.prepare(alloc, done),
-        }
+fn carry_out<V: Service + Drop>(
+    replica: &mut ReplicaState<V>,
+    alloc: Global,
+    rule: Due,
+    done: &mut Done,
+) -> Result<(), NoMemory>
+    requires { IsDue V.is_state V.after V.answer V.part_of V.restored replica.old done.old rule }
+    ensures { (me : Identity V) (x : Progress) → (r : Rule) → Serves V.is_state V.after V.answer V.part_of V.restored me → StandsAt me replica.old done.old x → IsNamed rule r → next_rule me x.history ≡ Some r → OnOk result (StandsAt me replica.new done.new (carry_out me r x)) }
+{
+    match rule {
+        Due::ChangeView { view } => change_view(replica, alloc, view, done),
+        Due::Announce => announce(replica, alloc, done),
+        Due::Enter => enter(replica, alloc, done),
+        Due::Open => open(replica, alloc, done),
+        Due::Join => join(replica, alloc, done),
+        Due::Commit { pos } => commit(replica, alloc, pos, done),
+        Due::Execute { pos } => execute(replica, alloc, pos, done),
+        Due::Prepare => prepare(replica, alloc, done),
     }
+}
 
-    /// The first rule that is enabled. Those of view changes come before those of the normal case.
-    fn next_rule(&self) -> Option<Due>
-        requires { HasHistory self.now }
-        ensures { (me : Identity V) (d : History) → Represents me self.now d → Names result (next_rule me d) }
-    {
-        match self.change_rule() {
-            Some(rule) => Some(rule),
-            None => self.normal_rule(),
-        }
+/// The first rule that is enabled. Those of view changes come before those of the normal case.
+fn next_rule<V: Service + Drop>(replica: &ReplicaState<V>) -> Option<Due>
+    requires { HasHistory replica.now }
+    ensures { (me : Identity V) (d : History) → Represents me replica.now d → Names result (next_rule me d) }
+{
+    match change_rule(replica) {
+        Some(rule) => Some(rule),
+        None => normal_rule(replica),
     }
+}
 
-    fn change_rule(&self) -> Option<Due>
-        ensures { (me : Identity V) (d : History) → Represents me self.now d → Names result (change_rule me d) }
-    {
-        let room = self.has_other_room();
-        match self
-            .agreement
-            .change
-            .due(&self.here(), self.agreement.exec, self.low(), room)
-        {
-            ChangeDue::Nothing => None,
-            ChangeDue::ViewChange { view } => Some(Due::ChangeView { view }),
-            ChangeDue::NewView => Some(Due::Announce),
-            ChangeDue::Enter => Some(Due::Enter),
-            ChangeDue::Open => Some(Due::Open),
-            ChangeDue::Join { .. } => Some(Due::Join),
-        }
+fn change_rule<V: Service + Drop>(replica: &ReplicaState<V>) -> Option<Due>
+    ensures { (me : Identity V) (d : History) → Represents me replica.now d → Names result (change_rule me d) }
+{
+    let room = has_other_room(replica);
+    match replica.agreement.change.due(
+        &replica.here(),
+        replica.agreement.exec,
+        replica.low(),
+        room,
+    ) {
+        ChangeDue::Nothing => None,
+        ChangeDue::ViewChange { view } => Some(Due::ChangeView { view }),
+        ChangeDue::NewView => Some(Due::Announce),
+        ChangeDue::Enter => Some(Due::Enter),
+        ChangeDue::Open => Some(Due::Open),
+        ChangeDue::Join { .. } => Some(Due::Join),
     }
+}
 
-    fn normal_rule(&self) -> Option<Due>
-        requires { HasHistory self.now }
-        ensures { (me : Identity V) (d : History) → Represents me self.now d → Names result (normal_rule me d) }
-    {
-        let room = self.has_room();
-        match self
-            .agreement
-            .normal
-            .due(&self.here(), self.agreement.exec, self.low(), room)
-        {
-            NormalDue::Nothing => None,
-            NormalDue::Commit { pos } => Some(Due::Commit { pos }),
-            NormalDue::Execute { pos } => Some(Due::Execute { pos }),
-            NormalDue::Prepare => Some(Due::Prepare),
-        }
+fn normal_rule<V: Service + Drop>(replica: &ReplicaState<V>) -> Option<Due>
+    requires { HasHistory replica.now }
+    ensures { (me : Identity V) (d : History) → Represents me replica.now d → Names result (normal_rule me d) }
+{
+    let room = has_room(replica);
+    match replica.agreement.normal.due(
+        &replica.here(),
+        replica.agreement.exec,
+        replica.low(),
+        room,
+    ) {
+        NormalDue::Nothing => None,
+        NormalDue::Commit { pos } => Some(Due::Commit { pos }),
+        NormalDue::Execute { pos } => Some(Due::Execute { pos }),
+        NormalDue::Prepare => Some(Due::Prepare),
     }
+}
 
-    /// The position behind the last one.
-    pub(crate) fn next_position(&self) -> Pos
-        ensures { (me : Identity V) (d : History) → Represents me self.now d → result ≡ next_position me d }
-    {
-        self.here().last.saturating_add(1)
-    }
+/// The position behind the last one.
+pub(crate) fn next_position<V: Service + Drop>(replica: &ReplicaState<V>) -> Pos
+    ensures { (me : Identity V) (d : History) → Represents me replica.now d → result ≡ next_position me d }
+{
+    replica.here().last.saturating_add(1)
 }

@@ -1,9 +1,26 @@
 //! How a host stamps a message.
 
-use crate::replica::Replica;
-use crate::sending::Done;
+ghost use Rattle.std.specs.Prelude.{◌≡◌, IfOk, ◌<◌, ◌+◌, ◌-◌, ◌^◌, ◌++◌, ◌∷◌, [], true, OnOk};
+ghost use Rattle.mb_usig.specs.Trusted.{ui_at};
+ghost use Rattle.mb_model.specs.Histories.{Identity, History, Stamped as StampedEntry, counter_of};
+ghost use Rattle.mb_model.specs.OwnLog.{is_unspent, has_room, has_other_room};
+ghost use Rattle.mb_msg.specs.Fits.{Fits, FitsStamped};
+ghost use Rattle.mb_msg.specs.Stamps.{as_message};
+ghost use Rattle.mb_msg.specs.Spelling.{stamped_kind};
+ghost use Rattle.mb_msg.specs.AsStamped.{stamped_digest};
+ghost use Rattle.mb_log.specs.Logs.{has_room_for, appended};
+ghost use Rattle.mb_model.specs.Sending.{signed, to_all};
+ghost use Rattle.mb_steps.proofs.StepArises.{Adds};
+ghost use Rattle.mb_searches.specs.Sound.{IsSound};
+ghost use Rattle.mb_standing.specs.Stands.{GatesStand};
+ghost use Rattle.mb_replica.specs.Represents.{IsHost, Represents};
+ghost use Rattle.mb_replica.specs.Told.{as_outgoing};
+ghost use Rattle.mb_replica.specs.Between.{WritesCounter, WritesStamp};
+ghost use Rattle.mb_core.specs.Signed.{IsSigned};
+
 use mb_base::{Counter, Digest, NoMemory, Ui};
 use mb_msg::Stamped;
+use mb_replica::{Done, ReplicaState};
 use mb_service::Service;
 use std::alloc::Global;
 
@@ -28,99 +45,83 @@ pub(crate) struct Signed {
     pub(crate) body: Digest,
 }
 
-impl<V: Service + Drop> Replica<V> {
-    ghost use Rattle.std.specs.Prelude.{◌≡◌, IfOk, ◌<◌, ◌+◌, ◌-◌, ◌^◌, ◌++◌, ◌∷◌, [], true, OnOk};
-    ghost use Rattle.mb_usig.specs.Trusted.{ui_at};
-    ghost use Rattle.mb_model.specs.Histories.{Identity, History, Stamped as StampedEntry, counter_of};
-    ghost use Rattle.mb_model.specs.OwnLog.{is_unspent, has_room, has_other_room};
-    ghost use Rattle.mb_msg.specs.Fits.{Fits, FitsStamped};
-    ghost use Rattle.mb_msg.specs.Stamps.{as_message};
-    ghost use Rattle.mb_msg.specs.Spelling.{stamped_kind};
-    ghost use Rattle.mb_msg.specs.AsStamped.{stamped_digest};
-    ghost use Rattle.mb_log.specs.Logs.{has_room_for, appended};
-    ghost use Rattle.mb_model.specs.Sending.{signed, to_all};
-    ghost use Rattle.mb_steps.proofs.StepArises.{Adds};
-    ghost use Rattle.mb_searches.specs.Sound.{IsSound};
-    ghost use Rattle.mb_standing.specs.Stands.{GatesStand};
-    ghost use Rattle.mb_core.specs.Represents.{IsHost, Represents};
-    ghost use Rattle.mb_core.specs.Told.{as_outgoing};
-    ghost use Rattle.mb_core.specs.Between.{WritesCounter, WritesStamp};
-    ghost use Rattle.mb_core.specs.Signed.{IsSigned};
+// ---- room
 
-    // ---- room
+/// The USIG has a counter left.
+fn is_unspent<V: Service + Drop>(replica: &ReplicaState<V>) -> bool
+    ensures { (me : Identity V) (d : History) → Represents me replica.now d → result ≡ is_unspent me d }
+{
+    replica.agreement.usig.counter() < Counter::MAX
+}
 
-    /// The USIG has a counter left.
-    fn is_unspent(&self) -> bool
-        ensures { (me : Identity V) (d : History) → Represents me self.now d → result ≡ is_unspent me d }
-    {
-        self.agreement.usig.counter() < Counter::MAX
+/// For one more PREPARE, COMMIT or CHECKPOINT.
+pub(crate) fn has_room<V: Service + Drop>(replica: &ReplicaState<V>) -> bool
+    ensures { (me : Identity V) (d : History) → Represents me replica.now d → result ≡ has_room me d }
+{
+    replica.agreement.log.room(NORMAL) && is_unspent(replica)
+}
+
+/// For one more of the other kinds.
+pub(crate) fn has_other_room<V: Service + Drop>(replica: &ReplicaState<V>) -> bool
+    ensures { (me : Identity V) (d : History) → Represents me replica.now d → result ≡ has_other_room me d }
+{
+    replica.agreement.log.room(OTHER) && is_unspent(replica)
+}
+
+// ---- stamping
+
+/// Binds the next counter to a message. There is one.
+pub(crate) fn sign<V: Service + Drop>(
+    replica: &mut ReplicaState<V>,
+    alloc: Global,
+    message: Stamped,
+) -> Result<Signed, NoMemory>
+    requires fits { FitsStamped replica.old.agreement.shape message }
+    requires unspent { replica.old.agreement.usig.counter < 2 ^ 64 - 1 }
+    ensures signed { (me : Identity V) (d : History) → IsHost me replica.old → replica.old.agreement.usig.counter ≡ counter_of d → IfOk result (λ s. IsSigned (signed me d message) s) }
+    ensures writes { OnOk result (WritesCounter replica.old replica.new) }
+{
+    let body = message.body_digest(alloc, &replica.agreement.shape)?;
+    let bare = message.bare_with(alloc, &replica.agreement.shape, &body)?;
+    let ui = next_ui(replica, bare.as_slice());
+    Ok(Signed {
+        message: message.with_ui(ui),
+        ui,
+        body,
+    })
+}
+
+/// The identifier of the next message, of which these bytes are hashed.
+fn next_ui<V: Service + Drop>(replica: &mut ReplicaState<V>, bare: &[u8]) -> Ui
+    requires { replica.old.agreement.usig.counter < 2 ^ 64 - 1 }
+    ensures ui { result ≡ ui_at replica.old.agreement.usig (replica.old.agreement.usig.counter + 1) bare.now }
+    ensures writes { WritesCounter replica.old replica.new }
+{
+    match replica.agreement.usig.create_ui(bare) {
+        Ok(ui) => ui,
+        Err(_) => unreachable!(),
     }
+}
 
-    /// For one more PREPARE, COMMIT or CHECKPOINT.
-    pub(crate) fn has_room(&self) -> bool
-        ensures { (me : Identity V) (d : History) → Represents me self.now d → result ≡ has_room me d }
-    {
-        self.agreement.log.room(NORMAL) && self.is_unspent()
-    }
-
-    /// For one more of the other kinds.
-    pub(crate) fn has_other_room(&self) -> bool
-        ensures { (me : Identity V) (d : History) → Represents me self.now d → result ≡ has_other_room me d }
-    {
-        self.agreement.log.room(OTHER) && self.is_unspent()
-    }
-
-    // ---- stamping
-
-    /// Binds the next counter to a message. There is one.
-    pub(crate) fn sign(&mut self, alloc: Global, message: Stamped) -> Result<Signed, NoMemory>
-        requires fits { FitsStamped self.old.agreement.shape message }
-        requires unspent { self.old.agreement.usig.counter < 2 ^ 64 - 1 }
-        ensures signed { (me : Identity V) (d : History) → IsHost me self.old → self.old.agreement.usig.counter ≡ counter_of d → IfOk result (λ s. IsSigned (signed me d message) s) }
-        ensures writes { OnOk result (WritesCounter self.old self.new) }
-    {
-        let body = message.body_digest(alloc, &self.agreement.shape)?;
-        let bare = message.bare_with(alloc, &self.agreement.shape, &body)?;
-        let ui = self.next_ui(bare.as_slice());
-        Ok(Signed {
-            message: message.with_ui(ui),
-            ui,
-            body,
-        })
-    }
-
-    /// The identifier of the next message, of which these bytes are hashed.
-    fn next_ui(&mut self, bare: &[u8]) -> Ui
-        requires { self.old.agreement.usig.counter < 2 ^ 64 - 1 }
-        ensures ui { result ≡ ui_at self.old.agreement.usig (self.old.agreement.usig.counter + 1) bare.now }
-        ensures writes { WritesCounter self.old self.new }
-    {
-        match self.agreement.usig.create_ui(bare) {
-            Ok(ui) => ui,
-            Err(_) => unreachable!(),
-        }
-    }
-
-    /// Sends a signed message to all, lets the own gate take it, and puts it into the own log, which has room.
-    pub(crate) fn publish(
-        &mut self,
-        alloc: Global,
-        message: Stamped,
-        body: Digest,
-        done: &mut Done,
-    ) -> Result<(), NoMemory>
-        requires room { has_room_for self.old.agreement.log (stamped_kind message) ≡ true }
-        requires fits { Fits self.old.agreement.shape (as_message message) }
-        requires body { body ≡ stamped_digest message }
-        ensures sent { OnOk result (done.new.sent ≡ done.old.sent ++ as_outgoing (to_all (as_message message)) ∷ []) }
-        ensures kept { (done.new.executed ≡ done.old.executed) × (done.new.installed ≡ done.old.installed) }
-        ensures log { OnOk result (self.new.agreement.log ≡ appended message self.old.agreement.log) }
-        ensures gates { (me : Identity V) (d : History) → IsHost me self.old → IsSound me d → Adds me d (StampedEntry message) → GatesStand me self.old.agreement.gates.items d → OnOk result (GatesStand me self.new.agreement.gates.items (StampedEntry message ∷ d)) }
-        ensures writes { OnOk result (WritesStamp self.old self.new) }
-    {
-        self.send_stamped(alloc, &message, body, done)?;
-        self.gate_follows(self.agreement.host, &message.mark());
-        self.agreement.log.append_with(message, body);
-        Ok(())
-    }
+/// Sends a signed message to all, lets the own gate take it, and puts it into the own log, which has room.
+pub(crate) fn publish<V: Service + Drop>(
+    replica: &mut ReplicaState<V>,
+    alloc: Global,
+    message: Stamped,
+    body: Digest,
+    done: &mut Done,
+) -> Result<(), NoMemory>
+    requires room { has_room_for replica.old.agreement.log (stamped_kind message) ≡ true }
+    requires fits { Fits replica.old.agreement.shape (as_message message) }
+    requires body { body ≡ stamped_digest message }
+    ensures sent { OnOk result (done.new.sent ≡ done.old.sent ++ as_outgoing (to_all (as_message message)) ∷ []) }
+    ensures kept { (done.new.executed ≡ done.old.executed) × (done.new.installed ≡ done.old.installed) }
+    ensures log { OnOk result (replica.new.agreement.log ≡ appended message replica.old.agreement.log) }
+    ensures gates { (me : Identity V) (d : History) → IsHost me replica.old → IsSound me d → Adds me d (StampedEntry message) → GatesStand me replica.old.agreement.gates.items d → OnOk result (GatesStand me replica.new.agreement.gates.items (StampedEntry message ∷ d)) }
+    ensures writes { OnOk result (WritesStamp replica.old replica.new) }
+{
+    replica.send_stamped(alloc, &message, body, done)?;
+    replica.gate_follows(replica.agreement.host, &message.mark());
+    replica.agreement.log.append_with(message, body);
+    Ok(())
 }

@@ -1,7 +1,7 @@
 -- Messages that have the length of one.
 use Rattle.std.proofs.Common.{suc, List, [], ◌∷◌, refl}
 use Rattle.mb_msg.specs.declared.event.Sent.{Sent}
-use Rattle.mb_core.specs.Lengths.{AreMessageLong}
+use Rattle.mb_replica.specs.Lengths.{AreMessageLong}
 use Rattle.mb_node.specs.Messages.{AreMessages}
 
 pub messages_are : (sent : List Sent) → AreMessageLong sent → AreMessages sent

@@ -6,8 +6,9 @@ use Rattle.mb_msg.specs.declared.event.Event.{Event}
 use Rattle.mb_model.specs.Histories.{History, Identity, onto}
 use Rattle.mb_steps.proofs.StepArises.{IsWhole}
 use Rattle.mb_core.specs.declared.replica.Replica.{Replica}
-use Rattle.mb_core.specs.Represents.{Represents, Serves}
-use Rattle.mb_core.specs.Waiting.{wants}
+use Rattle.mb_core.specs.Represents.{Represents}
+use Rattle.mb_replica.specs.Represents.{Serves}
+use Rattle.mb_replica.specs.Waiting.{wants}
 use Rattle.mb_node.specs.declared.node.Node.{Node}
 use Rattle.mb_node.specs.declared.receiving.Arrival.{Arrival}
 use Rattle.mb_node.specs.declared.receiving.Receiver.{Receiver}

@@ -17,8 +17,9 @@ use Rattle.mb_edge.specs.Told.{with_more}
 use Rattle.mb_edge.proofs.PieceLemmas.{appended_both}
 use Rattle.mb_edge.proofs.ToldLemmas.{with_more-nil, with_more-append}
 use Rattle.mb_core.specs.declared.replica.Replica.{Replica}
-use Rattle.mb_core.specs.Represents.{Represents, Serves}
-use Rattle.mb_core.specs.Waiting.{wants}
+use Rattle.mb_core.specs.Represents.{Represents}
+use Rattle.mb_replica.specs.Represents.{Serves}
+use Rattle.mb_replica.specs.Waiting.{wants}
 use Rattle.mb_node.specs.declared.node.Node.{Node}
 use Rattle.mb_node.specs.declared.outbox.Outbox.{Outbox}
 use Rattle.mb_node.specs.declared.receiving.Arrival.{Arrival}

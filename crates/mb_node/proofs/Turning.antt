@@ -17,7 +17,7 @@ use Rattle.mb_edge.specs.Pieces.{AppendsPart}
 use Rattle.mb_edge.specs.Told.{with_more}
 use Rattle.mb_edge.proofs.ToldLemmas.{with_more-nil}
 use Rattle.mb_core.specs.declared.replica.Replica.{Replica}
-use Rattle.mb_core.specs.Waiting.{wants}
+use Rattle.mb_replica.specs.Waiting.{wants}
 use Rattle.mb_node.specs.declared.outbox.Outbox.{Outbox}
 use Rattle.mb_node.specs.declared.stops.ServeStop.{ServeStop}
 use Rattle.mb_node.specs.declared.stops.ServeStop.TheVariants as stop

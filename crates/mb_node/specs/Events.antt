@@ -8,7 +8,7 @@ use Rattle.mb_msg.specs.declared.event.Outcome.TheVariants as outcome
 use Rattle.mb_msg.specs.declared.event.Slot.{Slot}
 use Rattle.mb_model.specs.Histories.{History, Identity}
 use Rattle.mb_model.specs.HostStep.{transition}
-use Rattle.mb_core.specs.Waiting.{wants}
+use Rattle.mb_replica.specs.Waiting.{wants}
 use Rattle.mb_node.specs.Receives.{Receives, made_whole}
 
 -- the quiet that counts so many makes a host lose patience

@@ -13,7 +13,7 @@ use Rattle.mb_model.specs.Histories.{History, Identity}
 use Rattle.mb_model.specs.HostStep.{transition}
 use Rattle.mb_sched.specs.declared.records.Entry.{Entry}
 use Rattle.mb_sched.specs.Records.{entry_text}
-use Rattle.mb_core.specs.Represents.{as_sent}
+use Rattle.mb_replica.specs.Represents.{as_sent}
 use Rattle.mb_node.specs.Events.{left_by, stops, has_stop}
 
 -- to whom a message is sent, as a byte of the digest

@@ -6,7 +6,7 @@ use Rattle.mb_msg.specs.declared.event.Event.TheVariants as event
 use Rattle.mb_model.specs.Histories.{History, Identity}
 use Rattle.mb_edge.specs.Told.{with_more}
 use Rattle.mb_core.specs.declared.replica.Replica.{Replica}
-use Rattle.mb_core.specs.Represents.{Serves}
+use Rattle.mb_replica.specs.Represents.{Serves}
 use Rattle.mb_node.specs.declared.node.Node.{Node}
 use Rattle.mb_node.specs.declared.receiving.Arrival.{Arrival}
 use Rattle.mb_node.specs.declared.receiving.Arrival.TheVariants as arrival

@@ -6,7 +6,8 @@ use Rattle.mb_model.specs.Histories.{History, Identity}
 use Rattle.mb_steps.proofs.StepArises.{IsWhole}
 use Rattle.mb_edge.specs.Told.{with_more}
 use Rattle.mb_core.specs.declared.replica.Replica.{Replica}
-use Rattle.mb_core.specs.Represents.{Represents, Serves}
+use Rattle.mb_core.specs.Represents.{Represents}
+use Rattle.mb_replica.specs.Represents.{Serves}
 use Rattle.mb_node.specs.declared.stops.ServeStop.{ServeStop}
 use Rattle.mb_node.specs.declared.stops.ServeStop.TheVariants as stop
 use Rattle.mb_node.specs.Receives.{Receives}

@@ -6,7 +6,8 @@ use Rattle.mb_model.specs.Histories.{History, Identity}
 use Rattle.mb_model.specs.HostStep.{transition}
 use Rattle.mb_steps.proofs.StepArises.{IsWhole}
 use Rattle.mb_core.specs.declared.replica.Replica.{Replica}
-use Rattle.mb_core.specs.Represents.{Represents, IsStep}
+use Rattle.mb_core.specs.Represents.{Represents}
+use Rattle.mb_replica.specs.Represents.{IsStep}
 use Rattle.mb_node.specs.declared.outbox.Outbox.{Outbox}
 use Rattle.mb_node.specs.declared.stops.ServeStop.{ServeStop}
 use Rattle.mb_node.specs.declared.stops.ServeStop.TheVariants as stop

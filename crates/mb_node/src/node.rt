@@ -8,7 +8,7 @@ ghost use Rattle.mb_edge.specs.Faults.{TellsFaults};
 ghost use Rattle.mb_node.specs.Rounds.{Rounds, event_of, quiets_of};
 ghost use Rattle.mb_model.specs.Histories.{Identity, History};
 ghost use Rattle.mb_core.specs.Represents.{Represents};
-ghost use Rattle.mb_core.specs.Waiting.{wants};
+ghost use Rattle.mb_replica.specs.Waiting.{wants};
 
 use crate::outbox::Outbox;
 use crate::receiving::{Arrival, Receiver};

@@ -5,7 +5,8 @@ ghost use Rattle.mb_base.specs.Shapes.{host_count};
 ghost use Rattle.mb_model.specs.Histories.{Identity, History};
 ghost use Rattle.mb_steps.proofs.StepArises.{IsWhole};
 ghost use Rattle.mb_usig.specs.Tags.{same_bytes};
-ghost use Rattle.mb_core.specs.Represents.{Represents, Serves, IsAtRest};
+ghost use Rattle.mb_core.specs.Represents.{Represents, IsAtRest};
+ghost use Rattle.mb_replica.specs.Represents.{Serves};
 ghost use Rattle.mb_node.specs.Retracing.{IsOf, Retraces, Compares};
 
 use crate::entries::sent_digest;

@@ -4,7 +4,8 @@ ghost use Rattle.std.specs.Prelude.{◌≡◌, ◌<◌, ◌%◌, ◌^◌, ◌||�
 ghost use Rattle.mb_base.specs.Shapes.{host_count};
 ghost use Rattle.mb_model.specs.Histories.{Identity, History};
 ghost use Rattle.mb_steps.proofs.StepArises.{IsWhole};
-ghost use Rattle.mb_core.specs.Represents.{Represents, Serves, IsAtRest};
+ghost use Rattle.mb_core.specs.Represents.{Represents, IsAtRest};
+ghost use Rattle.mb_replica.specs.Represents.{Serves};
 ghost use Rattle.mb_node.specs.Events.{is_stopping, is_patience, executes_none};
 ghost use Rattle.mb_node.specs.Messages.{AreMessages};
 ghost use Rattle.mb_edge.specs.Faults.{TellsFaults};

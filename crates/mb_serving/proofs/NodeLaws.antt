@@ -7,7 +7,7 @@ use Rattle.mb_answer.specs.Clusters.{IsUnbroken}
 use Rattle.mb_answer.specs.Configs.{used, unused}
 use Rattle.mb_answer.specs.Devices.{Device, LinkState}
 use Rattle.mb_base.specs.Shapes.{Bytes, host_count}
-use Rattle.mb_core.specs.Represents as Represented
+use Rattle.mb_replica.specs.Represents as Represented
 use Rattle.mb_core.specs.declared.replica.Replica.{Replica}
 use Rattle.mb_edge.specs.Faults.{Rose}
 use Rattle.mb_edge.specs.Told.{with_more}

@@ -30,8 +30,8 @@ use Rattle.mb_theory.proofs.Lists.{get_more}
 use Rattle.mb_forged.specs.Checks.{IsClean, MadeMore}
 use Rattle.mb_forged.proofs.CleanLaws.{clean_stays}
 use Rattle.mb_world.specs.Contents.{found_in}
-use Rattle.mb_core.specs.declared.told.Said.{Said}
-use Rattle.mb_core.specs.Told.{KnowsBytes, as_outgoing, said_of}
+use Rattle.mb_replica.specs.declared.told.Said.{Said}
+use Rattle.mb_replica.specs.Told.{KnowsBytes, as_outgoing, said_of}
 use Rattle.mb_world.specs.declared.marks.Mark.{Mark}
 use Rattle.mb_world.specs.Marks.{IsBodyAt, IsCleanAt, IsMarkAt, AreMarks, MarkedMore, lengthened, made_mark, mark_at, unmarked}
 use Rattle.mb_world.specs.Stamps.{FitsWhereStamped, IsReadable}

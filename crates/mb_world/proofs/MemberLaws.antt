@@ -4,14 +4,15 @@ use Rattle.std.specs.List.{slice_get}
 use Rattle.mb_base.specs.Shapes.{Bytes, IsShape, host_count}
 use Rattle.mb_base.specs.declared.shape.Shape.{Shape}
 use Rattle.mb_msg.specs.declared.event.Event.{Event}
-use Rattle.mb_core.specs.declared.told.Told.{Told}
+use Rattle.mb_replica.specs.declared.told.Told.{Told}
 use Rattle.mb_model.specs.Histories.{History, Identity}
 use Rattle.mb_model.specs.HostStep.{transition}
 use Rattle.mb_steps.proofs.StepArises.{IsWhole}
 use Rattle.mb_searches.specs.Sound.{IsSound}
 use Rattle.mb_sched.specs.Limits.{is_faulty}
 use Rattle.mb_core.specs.declared.replica.Replica.{Replica}
-use Rattle.mb_core.specs.Represents.{Represents, IsHost, IsTold, Serves}
+use Rattle.mb_core.specs.Represents.{Represents, IsHost}
+use Rattle.mb_replica.specs.Represents.{IsTold, Serves}
 use Rattle.mb_theory.specs.World.{System, FaultyStamp, self_of, update}
 use Rattle.mb_world.specs.declared.members.FaultyHost.{FaultyHost}
 use Rattle.mb_world.specs.declared.members.Member.{Member}
@@ -73,7 +74,7 @@ shape_is s = record { faults = s.faults_in; intervals = s.interval_in; clients =
 
 -- A host that was made with a schedule's shape and secret stands for the history in which nothing happened.
 pub made_as : {V : Type 0} (is_state : V → Type 0) (after : V → Bytes → V) (result : V → Bytes → Bytes) (part : V → ℕ → Bytes) (restored : List Bytes → Result V (ℕ × ℕ)) (y : System V) (h : ℕ) (r : Replica V)
-    → IsSystem is_state after result part restored y → (r.agreement.shape ≡ y.schedule.shape) × (r.agreement.host ≡ h) × (r.agreement.usig.secret ≡ y.schedule.secret)
+    → IsSystem is_state after result part restored y → (r.state.agreement.shape ≡ y.schedule.shape) × (r.state.agreement.host ≡ h) × (r.state.agreement.usig.secret ≡ y.schedule.secret)
     → (IsHost (self_of y h) r → Represents (self_of y h) r []) → Represents (self_of y h) r []
 made_as is_state after result part restored y h r is host made = made (record { shape = sym host.0; host = sym host.1; secret = sym host.2 })
 

@@ -14,9 +14,9 @@ use Rattle.mb_msg.specs.declared.stamped.Stamped.{Stamped}
 use Rattle.mb_msg.specs.Stamps.{as_stamped, bare_of}
 use Rattle.mb_model.specs.Sending.{Letter}
 use Rattle.mb_model.proofs.Options.{option_cases}
-use Rattle.mb_core.specs.declared.told.Outgoing.{Outgoing}
-use Rattle.mb_core.specs.declared.told.Said.{Said}
-use Rattle.mb_core.specs.Told.{as_outgoing, said_in, said_of}
+use Rattle.mb_replica.specs.declared.told.Outgoing.{Outgoing}
+use Rattle.mb_replica.specs.declared.told.Said.{Said}
+use Rattle.mb_replica.specs.Told.{as_outgoing, said_in, said_of}
 use Rattle.mb_theory.specs.World.{update, with_tagged}
 use Rattle.mb_forged.specs.declared.ledger.Ledger.{Ledger}
 use Rattle.mb_forged.specs.Ledgers.{Keeps}

@@ -24,10 +24,10 @@ use Rattle.mb_model.specs.Given.{Answer}
 use Rattle.mb_sched.specs.declared.schedule.Schedule.{Schedule}
 use Rattle.mb_sched.specs.Limits.{is_faulty, is_faulty_client}
 use Rattle.mb_core.specs.declared.replica.Replica.{Replica}
-use Rattle.mb_core.specs.declared.told.Outgoing.{Outgoing}
-use Rattle.mb_core.specs.declared.told.Told.{Told}
-use Rattle.mb_core.specs.Told.{KnowsBytes, as_outgoing}
-use Rattle.mb_core.specs.Represents.{IsTold}
+use Rattle.mb_replica.specs.declared.told.Outgoing.{Outgoing}
+use Rattle.mb_replica.specs.declared.told.Told.{Told}
+use Rattle.mb_replica.specs.Told.{KnowsBytes, as_outgoing}
+use Rattle.mb_replica.specs.Represents.{IsTold}
 use Rattle.mb_theory.specs.Refusals.{refusals, refusal_in}
 use Rattle.mb_theory.specs.World.{World as WorldState, System, self_of, nothing_happened, Made, Lost, FaultyStamp, update, extended, with_tagged, answered, lost_or, heard, numbered, arrives, made, stamps, steps, partway, client_reads, takes_reply, Unread, give_host, give_client}
 use Rattle.mb_theory.specs.World.{Seen as AnswerState}
@@ -340,7 +340,7 @@ module _ {V : Type 0} {g : Ghosts V} (y : System V) where
   message_there w x f o bytes r there left = rw there left
 
   -- Each correct host is of this size.
-  pub all_of : (w : World V g) (x : WorldState) → RepresentsWorld y w x → (h : ℕ) (r : Replica V) → slice_get w.members.items h ≡ Some (member.Correct r) → r.agreement.shape ≡ w.shape
+  pub all_of : (w : World V g) (x : WorldState) → RepresentsWorld y w x → (h : ℕ) (r : Replica V) → slice_get w.members.items h ≡ Some (member.Correct r) → r.state.agreement.shape ≡ w.shape
   all_of w x rep h r at =
       let host : IsCorrectHost y h r (x.histories h) = rep.members h (member.Correct r) at in
       sym host.represents.who.shape ∙ sym rep.rest.shape

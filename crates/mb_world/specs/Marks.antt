@@ -4,9 +4,9 @@ use Rattle.std.specs.Option.{option_map}
 use Rattle.mb_base.specs.Shapes.{Bytes}
 use Rattle.mb_msg.specs.declared.message.Message.{Message}
 use Rattle.mb_sched.specs.declared.schedule.Schedule.{Schedule}
-use Rattle.mb_core.specs.declared.told.Said.{Said}
-use Rattle.mb_core.specs.declared.told.Outgoing.{Outgoing}
-use Rattle.mb_core.specs.Told.{KnowsBytes}
+use Rattle.mb_replica.specs.declared.told.Said.{Said}
+use Rattle.mb_replica.specs.declared.told.Outgoing.{Outgoing}
+use Rattle.mb_replica.specs.Told.{KnowsBytes}
 use Rattle.mb_theory.specs.World.{World, numbered, read}
 use Rattle.mb_forged.specs.Checks.{IsClean}
 use Rattle.mb_world.specs.declared.marks.Mark.{Mark}

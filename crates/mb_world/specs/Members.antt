@@ -10,8 +10,9 @@ use Rattle.mb_model.specs.HostStep.{transition}
 use Rattle.mb_sched.specs.declared.schedule.Schedule.{Schedule}
 use Rattle.mb_sched.specs.Limits.{is_faulty}
 use Rattle.mb_core.specs.declared.replica.Replica.{Replica}
-use Rattle.mb_core.specs.declared.told.Told.{Told}
-use Rattle.mb_core.specs.Represents.{Represents, IsTold, IsAtRest}
+use Rattle.mb_replica.specs.declared.told.Told.{Told}
+use Rattle.mb_core.specs.Represents.{Represents, IsAtRest}
+use Rattle.mb_replica.specs.Represents.{IsTold}
 use Rattle.mb_theory.specs.World.{System, FaultyStamp, self_of, update}
 use Rattle.mb_world.specs.declared.members.FaultyHost.{FaultyHost}
 use Rattle.mb_world.specs.declared.members.Member.{Member}

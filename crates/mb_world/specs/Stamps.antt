@@ -8,8 +8,8 @@ use Rattle.mb_msg.specs.Signed.{covered}
 use Rattle.mb_parts.specs.Bares.{bare_bytes}
 use Rattle.mb_model.specs.Histories.{History, said}
 use Rattle.mb_model.specs.Sending.{Letter}
-use Rattle.mb_core.specs.declared.told.Outgoing.{Outgoing}
-use Rattle.mb_core.specs.Told.{as_outgoing}
+use Rattle.mb_replica.specs.declared.told.Outgoing.{Outgoing}
+use Rattle.mb_replica.specs.Told.{as_outgoing}
 
 -- what its sender stamped, where a message is stamped
 abbrev pub bare_in : Letter → Option Bytes

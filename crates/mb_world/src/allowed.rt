@@ -57,7 +57,7 @@ impl<V: Service + Drop> World<V> {
     ghost use Rattle.mb_msg.specs.Fits.{Fits, FitsStamped};
     ghost use Rattle.mb_msg.specs.Reading.{message_of};
     ghost use Rattle.mb_msg.specs.Stamps.{as_message, as_stamped};
-    ghost use Rattle.mb_core.specs.Told.{KnowsBody, KnowsBytes, KnowsMessage};
+    ghost use Rattle.mb_replica.specs.Told.{KnowsBody, KnowsBytes, KnowsMessage};
     ghost use Rattle.mb_sched.specs.Limits.{EventFits, NameFits, is_faulty};
     ghost use Rattle.mb_theory.specs.World.{World as WorldState, System, numbered, read, message_at};
     ghost use Rattle.mb_theory.specs.WorldEvents.{is_faulty_name};

@@ -5,7 +5,7 @@ ghost use Rattle.mb_world.specs.Marks.{MarkedMore, lengthened, made_mark, mark_a
 
 use crate::world::World;
 use mb_base::{Digest, NoMemory};
-use mb_core::Outgoing;
+use mb_replica::Outgoing;
 use mb_sched::Name;
 use mb_service::Service;
 

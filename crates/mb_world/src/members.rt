@@ -6,7 +6,7 @@ ghost use Rattle.mb_base.specs.declared.shape.Shape.{Shape as ShapeRecord};
 ghost use Rattle.mb_model.specs.Histories.{History};
 ghost use Rattle.mb_theory.specs.World.{System, FaultyStamp};
 ghost use Rattle.mb_core.specs.Represents.{IsAtRest};
-ghost use Rattle.mb_core.specs.Told.{KnowsEvent};
+ghost use Rattle.mb_replica.specs.Told.{KnowsEvent};
 ghost use Rattle.mb_core.specs.declared.replica.Replica.{Replica};
 ghost use Rattle.mb_world.specs.declared.members.Member.TheVariants as member;
 ghost use Rattle.mb_sched.specs.Limits.{is_faulty};
@@ -14,8 +14,9 @@ ghost use Rattle.mb_world.specs.Hosts.{IsSystem, AreServices};
 ghost use Rattle.mb_world.specs.Members.{AllRest, AllRun, AreOf, Goes, IsCorrectHost, IsMember, RepresentsMembers, StampedWithin, StepsAt, has_halted, shape_of, stamped_by};
 
 use mb_base::{Digest, Host, Items, Key, NoMemory, Shape};
-use mb_core::{Replica, Stop, Told};
+use mb_core::{Replica, Stop};
 use mb_msg::Event;
+use mb_replica::Told;
 use mb_service::Service;
 use mb_usig::Usig;
 use std::alloc::Global;
@@ -105,7 +106,7 @@ pub(crate) fn step_at<V: Service + Drop>(
     requires host { host < length members.old.items }
     requires runs { AllRun members.old.items }
     requires rest { AllRest V.is_state V.after V.answer V.part_of V.restored members.old.items }
-    requires known { (r : Replica V) → slice_get members.old.items host ≡ Some (member.Correct r) → KnowsEvent r.agreement.shape known.now event.now }
+    requires known { (r : Replica V) → slice_get members.old.items host ≡ Some (member.Correct r) → KnowsEvent r.state.agreement.shape known.now event.now }
     ensures stands { (y : System V) (d : ℕ → History) (stamps : ℕ → List FaultyStamp) → IsSystem V.is_state V.after V.answer V.part_of V.restored y → host < host_count y.schedule.shape → RepresentsMembers y members.old.items d stamps
         → IfOk result (λ o. StepsAt y host event.now d stamps o members.new.items) }
     ensures runs { OnOk result (AllRun members.new.items) }
@@ -127,7 +128,7 @@ fn step_of<V: Service + Drop>(
 ) -> Result<Told, NoMemory>
     requires runs { replica.old.halted ≡ false }
     requires rest { IsAtRest V.is_state V.after V.answer V.part_of V.restored replica.old }
-    requires known { KnowsEvent replica.old.agreement.shape known.now event.now }
+    requires known { KnowsEvent replica.old.state.agreement.shape known.now event.now }
     ensures stands { (y : System V) (h : ℕ) (d : History) → IsSystem V.is_state V.after V.answer V.part_of V.restored y → h < host_count y.schedule.shape → IsCorrectHost y h replica.old d
         → IfOk result (λ s. Goes y h d event.now s replica.new) }
     ensures runs { OnOk result (replica.new.halted ≡ false) }

@@ -8,14 +8,14 @@ ghost use Rattle.mb_msg.specs.declared.message.Message.{Message as MessageData};
 ghost use Rattle.mb_msg.specs.Fits.{FitsFields};
 ghost use Rattle.mb_msg.specs.Signed.{covered};
 ghost use Rattle.mb_model.specs.Sending.{Letter};
-ghost use Rattle.mb_core.specs.Told.{as_outgoing};
+ghost use Rattle.mb_replica.specs.Told.{as_outgoing};
 ghost use Rattle.mb_theory.specs.World.{update, with_tagged};
 ghost use Rattle.mb_forged.specs.Ledgers.{Keeps};
 ghost use Rattle.mb_world.specs.Stamps.{IsReadable, IsSent, bare_in};
 
 use mb_base::{Duplicate, Host, NoMemory};
-use mb_core::Outgoing;
 use mb_forged::Ledger;
+use mb_replica::Outgoing;
 use std::alloc::Global;
 
 /// A step of a correct host: what it stamped and the tags that it made are kept.

@@ -1,6 +1,7 @@
 use Rattle.std.proofs.Common.{◌≡◌, take, false}
 use Rattle.mb_model.specs.Histories.{Identity}
-use Rattle.mb_core.specs.Represents.{Serves, IsAtRest}
+use Rattle.mb_core.specs.Represents.{IsAtRest}
+use Rattle.mb_replica.specs.Represents.{Serves}
 use Rattle.mb_node.specs.Retracing.{IsOf}
 use Rattle.mb_node.proofs.Retraced.{IsRetraced}
 use Rattle.mb_node.proofs.retracing.retrace.Given as goal

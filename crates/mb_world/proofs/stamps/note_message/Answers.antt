@@ -1,7 +1,7 @@
 use Rattle.std.proofs.Common.{◌≡◌, ◌∙◌, ◌∷◌, Some, ap, sym}
 use Rattle.std.specs.Option.{option_map}
-use Rattle.mb_core.specs.declared.told.Outgoing.{Outgoing}
-use Rattle.mb_core.specs.declared.told.Said.{Said}
+use Rattle.mb_replica.specs.declared.told.Outgoing.{Outgoing}
+use Rattle.mb_replica.specs.declared.told.Said.{Said}
 use Rattle.mb_theory.specs.World.{update, with_tagged}
 use Rattle.mb_world.specs.Stamps.{bare_in}
 use Rattle.mb_world.proofs.AskerLaws.{ok_then}

@@ -8,8 +8,8 @@ use Rattle.mb_base.specs.declared.shape.Shape.{Shape}
 use Rattle.mb_msg.specs.declared.message.Message.{Message}
 use Rattle.mb_model.specs.Sending.{Letter}
 use Rattle.mb_fitting.proofs.Batches.{got}
-use Rattle.mb_core.specs.declared.told.Outgoing.{Outgoing}
-use Rattle.mb_core.specs.Told.{as_outgoing}
+use Rattle.mb_replica.specs.declared.told.Outgoing.{Outgoing}
+use Rattle.mb_replica.specs.Told.{as_outgoing}
 use Rattle.mb_theory.specs.World.{update, with_tagged}
 use Rattle.mb_world.specs.Stamps.{IsReadable, bare_in}
 use Rattle.mb_world.proofs.NoteLaws.{so_far, keeps_next, keeps_none, next_letter}

@@ -1,6 +1,6 @@
 use Rattle.std.proofs.Common.{◌≡◌, ◌∙◌, Option, refl, ap, sym, subst}
 use Rattle.std.proofs.lemmas.Result.{err_from_is_err_and}
-use Rattle.mb_core.specs.Waiting.{wants}
+use Rattle.mb_replica.specs.Waiting.{wants}
 use Rattle.mb_node.specs.declared.node.Node.{Node}
 use Rattle.mb_node.specs.declared.outbox.Outbox.{Outbox}
 use Rattle.mb_node.specs.Receives.{Receives}

@@ -1,7 +1,7 @@
 use Rattle.std.proofs.Common.{◌<◌, ◌∙◌, refl, sym, subst}
 use Rattle.mb_base.specs.declared.shape.Shape.{Shape}
 use Rattle.mb_base.specs.Shapes.{host_count}
-use Rattle.mb_core.specs.Told.{KnowsEvent}
+use Rattle.mb_replica.specs.Told.{KnowsEvent}
 use Rattle.mb_theory.specs.World.{self_of}
 use Rattle.mb_world.specs.Members.{answer_at}
 use Rattle.mb_world.proofs.MarkLaws.{goes_still}

@@ -1,5 +1,0 @@
-use Rattle.mb_core.proofs.Carrying.{CarriedTo}
-use Rattle.mb_core.proofs.replica.Replica.carry_on.Given as goal
-
-abbrev pub invariant-loop-index : goal.invariant-loop-index
-invariant-loop-index g l = CarriedTo l.view l.evidence l.index l.initial.self l.self

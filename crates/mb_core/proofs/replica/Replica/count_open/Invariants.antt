@@ -1,8 +1,0 @@
-use Rattle.std.proofs.Common.{◌+◌}
-use Rattle.mb_model.specs.Held.{plan_of_view}
-use Rattle.mb_core.specs.Holding.{base_in}
-use Rattle.mb_core.proofs.OpenVotes.{PositionsCounted}
-use Rattle.mb_core.proofs.replica.Replica.count_open.Given as goal
-
-abbrev pub invariant-loop-index : goal.invariant-loop-index
-invariant-loop-index g l = PositionsCounted l.fn.self l.self l.host (base_in (plan_of_view l.here l.fn.self.agreement.change.plan) + l.index) l.here

@@ -1,5 +1,0 @@
-use Rattle.mb_core.proofs.OpenVotes.{HostsCounted}
-use Rattle.mb_core.proofs.replica.Replica.count_opens.Given as goal
-
-abbrev pub invariant-loop-host : goal.invariant-loop-host
-invariant-loop-host g l = HostsCounted l.fn.self l.self l.host l.here

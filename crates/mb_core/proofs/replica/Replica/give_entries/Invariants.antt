@@ -1,6 +1,0 @@
-use Rattle.std.proofs.Common.{length}
-use Rattle.mb_core.proofs.ShownEntries.{GivenSoFar}
-use Rattle.mb_core.proofs.replica.Replica.give_entries.Given as goal
-
-abbrev pub invariant-loop-entry : goal.invariant-loop-entry
-invariant-loop-entry g l = GivenSoFar l.fn.self l.fn.entries (length l.yielded) l.self

@@ -1,0 +1,11 @@
+pub mod Represents
+pub mod Between
+pub mod Holding
+pub mod Wishing
+pub mod Arrivals
+pub mod Waiting
+pub mod Answers
+pub mod Installing
+pub mod Lengths
+pub mod Told
+pub mod Beginning

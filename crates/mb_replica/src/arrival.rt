@@ -1,0 +1,73 @@
+//! A given stamped message, with what is hashed and read of it once.
+
+ghost use Rattle.std.specs.Prelude.{◌≡◌, IfOk};
+ghost use Rattle.mb_msg.specs.Fits.{FitsStamped};
+ghost use Rattle.mb_msg.specs.AsStamped.{stamped_digest};
+ghost use Rattle.mb_replica.specs.Told.{KnowsBody};
+
+use mb_base::{Digest, NoMemory, Shape, Ui};
+use mb_msg::{Mark, Stamped};
+use std::alloc::Global;
+
+/// A given stamped message.
+#[derive(Drop)]
+pub(crate) struct Arrival {
+    pub(crate) message: Stamped,
+    pub(crate) ui: Ui,
+    pub(crate) mark: Mark,
+    /// The digest of its body, 32 zero bytes where it has none.
+    pub(crate) body: Digest,
+}
+
+impl Arrival {
+    ghost use Rattle.std.specs.Prelude.{◌≡◌, IfOk};
+    ghost use Rattle.mb_parts.specs.Bares.{bare_bytes};
+    ghost use Rattle.mb_msg.specs.Fits.{FitsStamped};
+    ghost use Rattle.mb_msg.specs.Stamps.{bare_of};
+    ghost use Rattle.mb_replica.specs.Arrivals.{IsArrival};
+    ghost use Rattle.mb_replica.specs.Told.{KnowsBody};
+
+    /// Where the digest of its body is known, it is not hashed.
+    pub(crate) fn of(
+        alloc: Global,
+        shape: &Shape,
+        message: Stamped,
+        known: &Option<Digest>,
+    ) -> Result<Arrival, NoMemory>
+        requires fits { FitsStamped shape.now message }
+        requires known { KnowsBody known.now message }
+        ensures { IfOk result (λ a. IsArrival shape.now a × (a.message ≡ message)) }
+    {
+        Ok(Arrival {
+            ui: message.ui(),
+            mark: message.mark(),
+            body: body_of(alloc, shape, &message, known)?,
+            message,
+        })
+    }
+
+    /// What its certificate covers.
+    pub(crate) fn bare(&self, alloc: Global, shape: &Shape) -> Result<Vec<u8>, NoMemory>
+        requires { IsArrival shape.now self.now }
+        ensures { IfOk result (λ v. v.items ≡ bare_bytes (bare_of self.now.message)) }
+    {
+        self.message.bare_with(alloc, shape, &self.body)
+    }
+}
+
+/// The digest of a message's body, hashed where it is not known.
+fn body_of(
+    alloc: Global,
+    shape: &Shape,
+    message: &Stamped,
+    known: &Option<Digest>,
+) -> Result<Digest, NoMemory>
+    requires fits { FitsStamped shape.now message.now }
+    requires known { KnowsBody known.now message.now }
+    ensures { IfOk result (λ d. d ≡ stamped_digest message.now) }
+{
+    match known {
+        Some(body) => Ok(*body),
+        None => message.body_digest(alloc, shape),
+    }
+}

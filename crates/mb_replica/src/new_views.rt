@@ -1,0 +1,108 @@
+//! NEW_VIEW: the primary of a view announces the plan of f+1 VIEW_CHANGEs.
+
+use crate::state::ReplicaState;
+use mb_base::{Digest, NoMemory};
+use mb_msg::{Body, NewView, Outcome, Plan, ViewChange};
+use mb_plan::{NewViewFault, PlanFault, check_new_view, plan_of};
+use mb_service::Service;
+use std::alloc::Global;
+
+/// The index and the reason of a NEW_VIEW that announces another plan than that of its members.
+const OTHER_PLAN: Outcome = Outcome::Unusable {
+    index: 255,
+    reason: 11,
+};
+
+impl<V: Service + Drop> ReplicaState<V> {
+    ghost use Rattle.mb_msg.specs.declared.stamped.Stamped.TheVariants as stamped;
+    ghost use Rattle.mb_msg.specs.Fits.{FitsNewView, FitsMember};
+    ghost use Rattle.mb_msg.specs.AsStamped.{stamped_digest};
+    ghost use Rattle.mb_model.specs.KindChecks.{stamped_refusal, new_view_refusal};
+    ghost use Rattle.mb_replica.specs.Between.{AwaitsGate};
+    ghost use Rattle.std.specs.Prelude.{◌≡◌, true, Some, OnOk, IfOk, None};
+    ghost use Rattle.mb_replica.specs.Represents.{Represents};
+    ghost use Rattle.std.specs.List.{AllByRecursion};
+    ghost use Rattle.mb_msg.specs.Plans.{CanHash};
+    ghost use Rattle.mb_model.specs.Histories.{Accepted, Identity, History};
+    ghost use Rattle.mb_model.specs.Held.{plan_from};
+    ghost use Rattle.mb_plan.specs.Planned.{are_quorum};
+    ghost use Rattle.std.specs.Option.{IfSome};
+    ghost use Rattle.mb_parts.specs.Fits.{FitsStable};
+    ghost use Rattle.mb_replica.specs.Holding.{HoldsEntry};
+    ghost use Rattle.mb_msg.specs.declared.message.Message.TheVariants as message;
+
+    /// Its members one by one, then its plan, where it is whole and current.
+    pub(crate) fn new_view_refusal(
+        &self,
+        alloc: Global,
+        m: &NewView,
+    ) -> Result<Option<Outcome>, NoMemory>
+        requires { FitsNewView self.now.agreement.shape m.now }
+        ensures { (me : Identity V) (d : History) → Represents me self.now d → IfOk result (λ o. o ≡ new_view_refusal me d m.now) }
+    {
+        if !self.is_current(m.view) {
+            return Ok(None);
+        }
+        match check_new_view(alloc, &self.agreement.shape, &self.agreement.usig, m) {
+            Ok(_plan) => Ok(None),
+            Err(NewViewFault::Unusable { index, reason }) => Ok(Some(Outcome::Unusable {
+                index: u16::from(index),
+                reason,
+            })),
+            Err(NewViewFault::OtherPlan) => Ok(Some(OTHER_PLAN)),
+            // It came as the digest of its body.
+            Err(NewViewFault::Few) => Ok(None),
+            Err(NewViewFault::NoMemory) => Err(NoMemory),
+        }
+    }
+
+    /// What it announces is held, and then the votes of OPENs are counted.
+    pub(crate) fn accept_new_view(
+        &mut self,
+        alloc: Global,
+        m: NewView,
+        digest: Digest,
+    ) -> Result<(), NoMemory>
+        requires fits { FitsNewView self.old.agreement.shape m }
+        requires digest { digest ≡ stamped_digest (stamped.NewView m) }
+        ensures { (me : Identity V) (d : History) → Represents me self.old d → stamped_refusal me d (stamped.NewView m) ≡ None → OnOk result (AwaitsGate me self.old self.new (stamped.NewView m) d) }
+    {
+        let here = self.view();
+        self.hold_announced(alloc, m, digest)?;
+        self.count_opens(here);
+        Ok(())
+    }
+
+    /// A whole NEW_VIEW of a current view is held, with the plan of its members.
+    fn hold_announced(&mut self, alloc: Global, m: NewView, digest: Digest) -> Result<(), NoMemory>
+        requires fits { FitsNewView self.old.agreement.shape m }
+        requires digest { digest ≡ stamped_digest (stamped.NewView m) }
+        ensures { (me : Identity V) (d : History) → Represents me self.old d → OnOk result (HoldsEntry me d (Accepted (message.NewView m)) self.old self.new) }
+    {
+        if !self.is_current(m.view) {
+            return Ok(());
+        }
+        let Body::Whole(body) = &m.body else {
+            return Ok(());
+        };
+        let view = m.view;
+        let Some(plan) = self.plan_from(alloc, body.changes.as_slice())? else {
+            return Ok(());
+        };
+        self.agreement.change.hold_new_view(m, digest);
+        self.hold_plan(alloc, view, plan)
+    }
+
+    /// The plan of f+1 VIEW_CHANGEs of different hosts.
+    pub fn plan_from(&self, alloc: Global, changes: &[ViewChange]) -> Result<Option<Plan>, NoMemory>
+        requires { AllByRecursion (FitsMember self.now.agreement.shape) changes.now }
+        ensures fits { IfOk result (λ p. IfSome p (λ plan. CanHash plan × FitsStable self.now.agreement.shape plan.base)) }
+        ensures plan { (me : Identity V) (d : History) → Represents me self.now d → are_quorum me.shape changes.now ≡ true → IfOk result (λ p. p ≡ Some (plan_from me changes.now)) }
+    {
+        match plan_of(alloc, &self.agreement.shape, changes) {
+            Ok(plan) => Ok(Some(plan)),
+            Err(PlanFault::Few) => Ok(None),
+            Err(PlanFault::NoMemory) => Err(NoMemory),
+        }
+    }
+}

@@ -1,0 +1,159 @@
+//! A given stamped message: why it is refused, and what it does where it is not.
+
+use crate::arrival::Arrival;
+use crate::state::ReplicaState;
+use mb_base::{Counter, Digest, Host, NoMemory, Ui};
+use mb_msg::{Mark, Outcome, Stamped};
+use mb_service::Service;
+use std::alloc::Global;
+
+impl<V: Service + Drop> ReplicaState<V> {
+    ghost use Rattle.std.specs.Prelude.{◌<◌, Some, None, OnOk, ◌≡◌, IfOk, IsTrue};
+    ghost use Rattle.mb_base.specs.Shapes.{host_count};
+    ghost use Rattle.mb_model.specs.Sending.{Progress};
+    ghost use Rattle.mb_model.specs.Given.{give_stamped, closing, accept};
+    ghost use Rattle.mb_replica.specs.Represents.{StandsAt, Represents, HasHistory};
+    ghost use Rattle.mb_replica.specs.declared.sending.Done.{Done};
+    ghost use Rattle.mb_msg.specs.declared.stamped.Stamped.{Stamped as StampedMessage};
+    ghost use Rattle.mb_msg.specs.Stamps.{ui_of};
+    ghost use Rattle.mb_msg.specs.Fits.{FitsStamped};
+    ghost use Rattle.mb_model.specs.Histories.{Identity, History};
+    ghost use Rattle.mb_model.specs.KindChecks.{kind_refusal, stamped_refusal};
+    ghost use Rattle.mb_replica.specs.Arrivals.{IsArrival};
+    ghost use Rattle.mb_replica.specs.Told.{KnowsBody};
+    ghost use Rattle.mb_gate.specs.Marks.{is_stamped_kind};
+    ghost use Rattle.mb_replica.specs.Between.{AwaitsGate, IsNoCommit, LetsPass, GateFollows, GateCloses};
+    ghost use Rattle.mb_msg.specs.AsStamped.{stamped_digest};
+
+    /// Gives a stamped message, of which the digest of the body may be known.
+    pub(crate) fn give_stamped(
+        &mut self,
+        alloc: Global,
+        message: Stamped,
+        known: &Option<Digest>,
+    ) -> Result<Outcome, NoMemory>
+        requires fits { FitsStamped self.old.agreement.shape message }
+        requires stands { HasHistory self.old }
+        requires known { KnowsBody known.now message }
+        ensures { (me : Identity V) (x : Progress) → (done : Done) → StandsAt me self.old done x → IfOk result (λ o. (o ≡ (give_stamped me message x).outcome) × StandsAt me self.new done (give_stamped me message x).left) }
+    {
+        let arrival = Arrival::of(alloc, &self.agreement.shape, message, known)?;
+        match self.stamped_refusal(alloc, &arrival)? {
+            None => {
+                self.accept(alloc, arrival)?;
+                Ok(Outcome::Took)
+            }
+            Some(outcome) => {
+                self.closing(outcome, &arrival.ui);
+                Ok(outcome)
+            }
+        }
+    }
+
+    /// Why a stamped message is refused.
+    #[tactic(auto, unfolding(mb_model::specs::KindChecks::stamped_refusal))]
+    fn stamped_refusal(&self, alloc: Global, arrival: &Arrival) -> Result<Option<Outcome>, NoMemory>
+        requires { IsArrival self.now.agreement.shape arrival.now }
+        ensures { (me : Identity V) (d : History) → Represents me self.now d → IfOk result (λ o. o ≡ stamped_refusal me d arrival.now.message) }
+    {
+        if let Some(outcome) = self.identifier_refusal(alloc, arrival)? {
+            return Ok(Some(outcome));
+        }
+        self.kind_refusal(alloc, &arrival.message)
+    }
+
+    /// Of an ENTER and of a JOIN the gate asks all that there is.
+    fn kind_refusal(&self, alloc: Global, message: &Stamped) -> Result<Option<Outcome>, NoMemory>
+        requires { FitsStamped self.now.agreement.shape message.now }
+        ensures { (me : Identity V) (d : History) → Represents me self.now d → IfOk result (λ o. o ≡ kind_refusal me d message.now) }
+    {
+        match message {
+            Stamped::Prepare(m) => self.vote_refusal(alloc, m.view, m.pos, &m.body),
+            Stamped::Commit(m) => self.vote_refusal(alloc, m.view, m.pos, &m.body),
+            Stamped::Checkpoint(m) => Ok(self.checkpoint_refusal(m.pos)),
+            Stamped::ViewChange(m) => self.change_refusal(alloc, m),
+            Stamped::NewView(m) => self.new_view_refusal(alloc, m),
+            Stamped::Open(m) => self.open_refusal(alloc, m),
+            Stamped::Enter(_) | Stamped::Join(_) => Ok(None),
+        }
+    }
+
+    /// A message that may not stand there closes its sender's gate at its counter.
+    pub(crate) fn closing(&mut self, outcome: Outcome, ui: &Ui)
+        requires { ui.now.host < host_count self.old.agreement.shape }
+        ensures { (me : Identity V) (x : Progress) → (done : Done) (m : StampedMessage) → StandsAt me self.old done x → FitsStamped self.old.agreement.shape m → ui.now ≡ ui_of m → stamped_refusal me x.history m ≡ Some outcome → StandsAt me self.new done (closing outcome ui.now x) }
+    {
+        if let Outcome::Illegal { .. } = outcome {
+            self.close_gate(ui.host, ui.counter);
+        }
+    }
+
+    // ---- one gate
+
+    /// The gate of a host takes a message that is next there.
+    pub fn gate_follows(&mut self, host: Host, mark: &Mark)
+        requires host { host < host_count self.old.agreement.shape }
+        requires kind { IsTrue (is_stamped_kind mark.now.kind) }
+        ensures { GateFollows host mark.now self.old self.new }
+    {
+        self.agreement.gates[usize::from(host)].follow(mark);
+    }
+
+    fn close_gate(&mut self, host: Host, counter: Counter)
+        requires { host < host_count self.old.agreement.shape }
+        ensures { GateCloses host counter self.old self.new }
+    {
+        self.agreement.gates[usize::from(host)].close(counter);
+    }
+
+    // ---- what is accepted
+
+    /// Accepts a message that passed the checks: its sender's gate takes it, and its kind does what it does.
+    fn accept(&mut self, alloc: Global, arrival: Arrival) -> Result<(), NoMemory>
+        requires arrives { IsArrival self.old.agreement.shape arrival }
+        requires passes { LetsPass self.old arrival.message }
+        ensures { (me : Identity V) (x : Progress) → (done : Done) → StandsAt me self.old done x → stamped_refusal me x.history arrival.message ≡ None → OnOk result (StandsAt me self.new done (accept me arrival.message x)) }
+    {
+        let Arrival {
+            message,
+            ui,
+            mark,
+            body,
+        } = arrival;
+        if let Stamped::Commit(m) = message {
+            self.accept_commit(m, body, &mark);
+            return Ok(());
+        }
+        self.accept_kind(alloc, message, body)?;
+        self.gate_follows(ui.host, &mark);
+        Ok(())
+    }
+
+    /// What a message of a kind other than COMMIT does, but for its sender's gate.
+    fn accept_kind(&mut self, alloc: Global, message: Stamped, body: Digest) -> Result<(), NoMemory>
+        requires fits { FitsStamped self.old.agreement.shape message }
+        requires body { body ≡ stamped_digest message }
+        requires passes { LetsPass self.old message }
+        ensures { (me : Identity V) (d : History) → Represents me self.old d → IsNoCommit message → stamped_refusal me d message ≡ None → OnOk result (AwaitsGate me self.old self.new message d) }
+    {
+        match message {
+            Stamped::Prepare(m) => {
+                self.accept_prepare(m, body);
+                Ok(())
+            }
+            Stamped::Commit(_) => Ok(()),
+            Stamped::Checkpoint(m) => self.accept_checkpoint(alloc, m),
+            Stamped::ViewChange(m) => self.accept_change(m),
+            Stamped::NewView(m) => self.accept_new_view(alloc, m, body),
+            Stamped::Enter(m) => {
+                self.accept_enter(m);
+                Ok(())
+            }
+            Stamped::Open(m) => self.accept_open(alloc, m),
+            Stamped::Join(m) => {
+                self.accept_join(m);
+                Ok(())
+            }
+        }
+    }
+}

@@ -1,0 +1,50 @@
+//! The state of a host: all that its step reads and writes.
+
+ghost use Rattle.std.specs.Prelude.{◌≡◌, ◌<◌, [], IfOk};
+ghost use Rattle.mb_base.specs.Shapes.{host_count};
+ghost use Rattle.mb_model.specs.Histories.{Identity, History};
+ghost use Rattle.mb_model.specs.Stable.{low_of};
+ghost use Rattle.mb_replica.specs.Represents.{Represents, Serves, IsHost, IsAtRest};
+
+use crate::agreement::Agreement;
+use mb_base::{Host, Key, NoMemory, Pos, Shape};
+use mb_keeper::Keeper;
+use mb_service::Service;
+use std::alloc::Global;
+
+/// What a host agrees on with others, and what it executes with.
+#[derive(Drop)]
+pub struct ReplicaState<V: Service> {
+    pub agreement: Agreement,
+    pub keeper: Keeper<V>,
+}
+
+impl<V: Service + Drop> ReplicaState<V> {
+    /// That of a host that nothing has happened to. Its number is below the number of hosts.
+    pub fn make(
+        alloc: Global,
+        shape: Shape,
+        host: Host,
+        secret: &Key,
+        service: V,
+    ) -> Result<ReplicaState<V>, NoMemory>
+        requires { host < host_count shape }
+        ensures stands { (me : Identity V) → Serves V.is_state V.after V.answer V.part_of V.restored me → me.initial ≡ service → IfOk result (λ r. IsHost me r → Represents me r []) }
+        ensures host { IfOk result (λ r. (r.agreement.shape ≡ shape) × (r.agreement.host ≡ host) × (r.agreement.usig.secret ≡ secret.now)) }
+        ensures rests { IfOk result (λ r. IsAtRest V.is_state V.after V.answer V.part_of V.restored r) }
+    {
+        service.known();
+        Ok(ReplicaState {
+            agreement: Agreement::make(alloc, shape, host, secret)?,
+            keeper: Keeper::make(alloc, shape, service)?,
+        })
+    }
+
+    /// The stable position.
+    pub fn low(&self) -> Pos
+        ensures low_is { result ≡ self.now.agreement.stable.pos }
+        ensures reads { (me : Identity V) (d : History) → Represents me self.now d → result ≡ low_of me d }
+    {
+        self.agreement.stable.pos
+    }
+}

@@ -1,0 +1,113 @@
+//! STATE: its parts are held, and with all of them the state is installed.
+
+ghost use Rattle.std.specs.Prelude.{◌≡◌, true};
+ghost use Rattle.mb_replica.specs.Answers.{is_taken};
+
+use crate::given::Answer;
+use crate::sending::Done;
+use crate::state::ReplicaState;
+use mb_base::{NoMemory, Pos};
+use mb_keeper::Fetched;
+use mb_msg::{Outcome, StateMsg};
+use mb_service::Service;
+use std::alloc::Global;
+
+impl<V: Service + Drop> ReplicaState<V> {
+    ghost use Rattle.mb_msg.specs.Fits.{FitsState};
+    ghost use Rattle.mb_msg.specs.declared.message.Message.TheVariants as message;
+    ghost use Rattle.mb_model.specs.PlainChecks.{is_wanted};
+    ghost use Rattle.mb_model.specs.Sending.{Progress};
+    ghost use Rattle.mb_model.specs.Given.{give_state};
+    ghost use Rattle.std.specs.Prelude.{length, ◌≡◌, ◌<◌, IfOk};
+    ghost use Rattle.mb_base.specs.Shapes.{client_count};
+    ghost use Rattle.mb_cache.specs.Tables.{last_of};
+    ghost use Rattle.mb_replica.specs.Represents.{Serves, StandsAt, IsInStep, Answers, Represents};
+    ghost use Rattle.mb_replica.specs.Between.{WritesNormal};
+    ghost use Rattle.mb_replica.specs.Installing.{Settles, WritesInstalled, DoesInstall};
+    ghost use Rattle.mb_model.specs.Histories.{Identity, History};
+
+    /// A STATE that is not wanted is idle. Each asks for the parts that are missing still.
+    pub(crate) fn give_state(
+        &mut self,
+        alloc: Global,
+        m: &StateMsg,
+        done: &mut Done,
+    ) -> Result<Answer, NoMemory>
+        requires fits { FitsState self.old.agreement.shape m.now }
+        requires standing { IsInStep V.is_state V.after V.answer V.part_of V.restored self.old done.old }
+        ensures { (me : Identity V) (x : Progress) → Serves V.is_state V.after V.answer V.part_of V.restored me → StandsAt me self.old done.old x → IfOk result (λ a. Answers me (message.State m.now) a (give_state me m.now x) × StandsAt me self.new done.new (give_state me m.now x).left) }
+    {
+        if !self.is_wanted(m.pos) {
+            return Ok(answered(Outcome::Idle));
+        }
+        Ok(answered(self.answer_state(alloc, m, done)?))
+    }
+
+    fn answer_state(
+        &mut self,
+        alloc: Global,
+        m: &StateMsg,
+        done: &mut Done,
+    ) -> Result<Outcome, NoMemory>
+        requires fits { FitsState self.old.agreement.shape m.now }
+        requires stable { m.now.pos ≡ self.old.agreement.stable.pos }
+        requires behind { self.old.agreement.exec < self.old.agreement.stable.pos }
+        requires standing { IsInStep V.is_state V.after V.answer V.part_of V.restored self.old done.old }
+        ensures { (me : Identity V) (x : Progress) → Serves V.is_state V.after V.answer V.part_of V.restored me → StandsAt me self.old done.old x → IfOk result (λ o. (o ≡ (give_state me m.now x).outcome) × StandsAt me self.new done.new (give_state me m.now x).left) }
+    {
+        let certified = self.agreement.stable.state;
+        match self.keeper.take_state(alloc, &certified, m)? {
+            Fetched::WrongDigest { part } => Ok(Outcome::WrongDigest { part }),
+            Fetched::Nothing => Ok(Outcome::Idle),
+            Fetched::BadState { part, at } => Ok(Outcome::BadState { part, at }),
+            Fetched::Parts => Ok(Outcome::Took),
+            Fetched::State => {
+                self.install(done);
+                Ok(Outcome::Took)
+            }
+        }
+    }
+
+    /// All up to the stable position counts as executed, and pending requests that are not fresh any more go.
+    fn install(&mut self, done: &mut Done)
+        requires { length self.old.keeper.served.table ≡ client_count self.old.agreement.shape }
+        ensures writes { WritesInstalled self.old self.new }
+        ensures settles { Settles self.old.agreement.normal self.new.agreement.normal (λ c. (last_of self.old.keeper.served.table c).seq) (client_count self.old.agreement.shape) }
+        ensures done { DoesInstall self.old.agreement.stable.pos done.old done.new }
+    {
+        let low = self.low();
+        self.settle_all();
+        self.agreement.exec = low;
+        done.installed = Some(low);
+    }
+
+    /// The pending request of each client goes where it is not above its last executed one.
+    fn settle_all(&mut self)
+        requires { length self.old.keeper.served.table ≡ client_count self.old.agreement.shape }
+        ensures writes { WritesNormal self.old self.new }
+        ensures settles { Settles self.old.agreement.normal self.new.agreement.normal (λ c. (last_of self.old.keeper.served.table c).seq) (client_count self.old.agreement.shape) }
+    {
+        for client in 0..self.agreement.shape.clients() {
+            let last = self.keeper.last_seq(client);
+            self.agreement.normal.settle(client, last);
+        }
+    }
+
+    /// For the stable position, while this host is behind.
+    fn is_wanted(&self, pos: Pos) -> bool
+        ensures { (me : Identity V) (d : History) → Represents me self.now d → result ≡ is_wanted me d pos }
+    {
+        pos == self.low() && self.is_behind()
+    }
+}
+
+/// What follows a STATE: the rules where it was taken, and a FETCH of the parts that are missing still.
+fn answered(outcome: Outcome) -> Answer
+    ensures { result ≡ record { outcome = outcome; rules_follow = is_taken outcome; asks = true } }
+{
+    Answer {
+        outcome,
+        rules_follow: outcome == Outcome::Took,
+        asks: true,
+    }
+}

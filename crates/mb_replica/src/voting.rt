@@ -1,0 +1,129 @@
+//! PREPARE and COMMIT: why a vote is refused, and how slots and votes are counted.
+
+ghost use Rattle.std.specs.Prelude.{◌≡◌};
+ghost use Rattle.mb_msg.specs.Bodies.{whole_body};
+
+use crate::state::ReplicaState;
+use mb_base::{Digest, Host, NoMemory, Pos, Ui, View};
+use mb_msg::{Batch, Body, Outcome};
+use mb_normal::Vote;
+use mb_plan::are_tagged;
+use mb_service::Service;
+use std::alloc::Global;
+
+impl<V: Service + Drop> ReplicaState<V> {
+    ghost use Rattle.std.specs.Prelude.{◌≡◌, IfOk, ◌<◌};
+    ghost use Rattle.mb_parts.specs.Fits.{FitsBatch};
+    ghost use Rattle.mb_msg.specs.declared.event.Outcome.TheVariants as outcome;
+    ghost use Rattle.mb_msg.specs.Bodies.{FitsBody};
+    ghost use Rattle.mb_model.specs.Histories.{Identity, History, view_of};
+    ghost use Rattle.mb_model.specs.Stable.{low_of};
+    ghost use Rattle.mb_model.specs.Positions.{exec_of};
+    ghost use Rattle.mb_model.specs.KindChecks.{vote_refusal, body_refusal, has_bad_tag};
+    ghost use Rattle.mb_base.specs.Shapes.{host_count};
+    ghost use Rattle.mb_standing.specs.Positions.{CountsVote, PutsSlot};
+    ghost use Rattle.mb_replica.specs.Represents.{Represents};
+    ghost use Rattle.mb_replica.specs.Between.{WritesNormal};
+
+    // ---- view, window and body
+
+    /// A vote of an earlier view says nothing here.
+    #[tactic(auto, unfolding(mb_model::specs::KindChecks::vote_refusal))]
+    pub(crate) fn vote_refusal(
+        &self,
+        alloc: Global,
+        view: View,
+        pos: Pos,
+        body: &Body<Batch>,
+    ) -> Result<Option<Outcome>, NoMemory>
+        requires { FitsBody (FitsBatch self.now.agreement.shape) body.now }
+        ensures { (me : Identity V) (d : History) → Represents me self.now d → IfOk result (λ o. o ≡ vote_refusal me d view pos body.now) }
+    {
+        let here = self.view();
+        if view > here {
+            return Ok(Some(Outcome::LaterView { view: here }));
+        }
+        if view < here {
+            return Ok(None);
+        }
+        if self.is_beyond(pos) {
+            return Ok(Some(self.beyond_window()));
+        }
+        self.body_refusal(alloc, pos, body)
+    }
+
+    pub(crate) fn beyond_window(&self) -> Outcome
+        ensures { (me : Identity V) (d : History) → Represents me self.now d → result ≡ outcome.BeyondWindow (low_of me d) }
+    {
+        Outcome::BeyondWindow { low: self.low() }
+    }
+
+    /// A batch that came as its digest is of use only where its position is executed.
+    fn body_refusal(
+        &self,
+        alloc: Global,
+        pos: Pos,
+        body: &Body<Batch>,
+    ) -> Result<Option<Outcome>, NoMemory>
+        requires { FitsBody (FitsBatch self.now.agreement.shape) body.now }
+        ensures { (me : Identity V) (d : History) → Represents me self.now d → IfOk result (λ o. o ≡ body_refusal me d pos body.now) }
+    {
+        match body {
+            Body::Whole(batch) => { Ok(self.has_bad_tag(alloc, batch)?.then_some(Outcome::BadTag)) }
+            Body::Bare(_) => Ok((pos > self.agreement.exec).then_some(self.need_body())),
+        }
+    }
+
+    fn need_body(&self) -> Outcome
+        ensures { (me : Identity V) (d : History) → Represents me self.now d → result ≡ outcome.NeedBody (view_of me d) (exec_of d) }
+    {
+        Outcome::NeedBody {
+            view: self.view(),
+            exec: self.agreement.exec,
+        }
+    }
+
+    /// The tag of one of its requests is not that of the client's key.
+    fn has_bad_tag(&self, alloc: Global, batch: &Batch) -> Result<bool, NoMemory>
+        requires { FitsBatch self.now.agreement.shape batch.now }
+        ensures { (me : Identity V) (d : History) → Represents me self.now d → IfOk result (λ o. o ≡ has_bad_tag me batch.now) }
+    {
+        Ok(!are_tagged(alloc, &self.agreement.usig, batch.requests.as_slice())?)
+    }
+
+    // ---- counting
+
+    /// Counts the vote of a host for a position of the window. The first one stays.
+    pub fn count_vote(&mut self, pos: Pos, host: Host, counter: u64, batch: Digest)
+        requires { host < host_count self.old.agreement.shape }
+        ensures counts { CountsVote self.old.agreement.normal self.new.agreement.normal pos host (record { counter = counter; request = batch }) }
+        ensures writes { WritesNormal self.old self.new }
+    {
+        let vote = Vote {
+            counter,
+            request: batch,
+        };
+        let _first = self.agreement.normal.vote(pos, host, vote);
+    }
+
+    /// Puts the slot of a position of the window, which this identifier ordered. The first one stays.
+    pub fn put_slot(&mut self, pos: Pos, ui: &Ui, digest: Digest, batch: Option<Batch>)
+        ensures puts { PutsSlot self.old.agreement.normal self.new.agreement.normal pos (record { counter = ui.now.counter; cert = ui.now.cert; digest = digest; batch = batch }) }
+        ensures writes { WritesNormal self.old self.new }
+    {
+        let _first = self
+            .agreement
+            .normal
+            .slot(pos, ui.counter, ui.cert, digest, batch);
+    }
+}
+
+/// The batch of a body, where it came whole.
+pub(crate) fn whole_batch(body: Body<Batch>) -> Option<Batch>
+    ensures { result ≡ whole_body body }
+{
+    match body {
+        Body::Whole(batch) => Some(batch),
+        Body::Bare(_) => None,
+    }
+}
