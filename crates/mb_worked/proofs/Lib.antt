@@ -12,15 +12,6 @@ pub mod TwelveRequestsData
 pub mod TwelveRequests
 mod ComingBack
 mod ChangingView
-pub mod Worlds
-mod FaultyWorlds
 mod FloorsThatDiffer
-mod ForgedTags
 mod Corners
 mod LimitsOfHosts
-mod BadWorlds
-mod InsideOfMessages
-mod Apart
-mod WholeRun
-mod RunFacts
-mod TwoRequests

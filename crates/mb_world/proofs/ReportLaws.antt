@@ -1,35 +1,17 @@
--- The lines of a report.
-use Rattle.std.proofs.Common.{◌≡◌, ℕ, List, [], ◌∷◌, length, map, Option, Some, None, refl, ap, ◌∙◌}
-use Rattle.std.specs.Option.{option_map}
+-- The report of a world, of its lines.
+use Rattle.std.proofs.Common.{◌≡◌, ℕ, List, length, map, refl, ap, ◌∙◌}
 use Rattle.std.specs.List.{range_with_len}
-use Rattle.mb_base.specs.Shapes.{Bytes, host_count, client_count}
+use Rattle.mb_base.specs.Shapes.{host_count, client_count}
 use Rattle.mb_msg.specs.declared.event.Slot.{Slot}
-use Rattle.mb_msg.specs.declared.normal.Reply.{Reply}
-use Rattle.mb_client.specs.Represents.{newest, result_of}
 use Rattle.mb_sched.specs.declared.report.RefusedLine.{RefusedLine}
 use Rattle.mb_sched.specs.declared.report.HostLine.{HostLine}
 use Rattle.mb_sched.specs.declared.report.ClientLine.{ClientLine}
-use Rattle.mb_sched.specs.declared.report.LastResult.{LastResult}
 use Rattle.mb_theory.specs.World.{World as WorldState, System}
 use Rattle.mb_service.specs.declared.service.Service.{Ghosts}
+use Rattle.mb_parties.specs.Lines.{host_line, client_line}
 use Rattle.mb_world.specs.declared.world.World.{World}
-use Rattle.mb_world.specs.Reports.{last_result, host_line, client_line, report_of}
+use Rattle.mb_world.specs.Reports.{report_of}
 use Rattle.mb_world.specs.Tables.{RepresentsWorld}
-use Rattle.mb_world.proofs.ListLaws.{some_is}
-
--- ---- the last accepted result
-
-pub none_accepted : (replies : List Reply) → None ≡ option_map result_of (newest replies) → None ≡ last_result replies
-none_accepted [] e = refl
-none_accepted (r ∷ replies) e = absurd cc
-
-pub last_accepted : (replies : List Reply) (seq pos : ℕ) (answer : Bytes) → Some (seq, pos, answer) ≡ option_map result_of (newest replies) → Some (record { seq = seq; pos = pos; result = answer }) ≡ last_result replies
-last_accepted [] seq pos answer e = absurd cc
-last_accepted (r ∷ replies) seq pos answer e =
-    let line : ℕ × ℕ × Bytes → Option LastResult = λ t. Some (record { seq = t.0; pos = t.1; result = t.2 }) in
-    ap line (some_is (seq, pos, answer) (result_of r) e)
-
--- ---- all lines
 
 pub report_is : {V : Type 0} {g : Ghosts V} (y : System V) (w : World V g) (x : WorldState) → RepresentsWorld y w x → length w.members.items ≡ host_count w.shape → length w.askers.items ≡ client_count w.shape
     → (messages : ℕ) (line : List Slot) (refused : List RefusedLine) (hosts : List HostLine) (clients : List ClientLine)

@@ -2,54 +2,42 @@
 use Rattle.std.proofs.Common.{◌≡◌, ℕ, suc, ◌+◌, true, false, List, [], ◌∷◌, ◌++◌, length, map, Option, Some, None, Result, Ok, Err, IfOk, OnOk, IfSome, take, refl, sym, ap, subst, inl, inr, ◌∙◌, arith}
 use Rattle.std.specs.Prelude.{reverse, filter_map, fold, slice_get}
 use Rattle.std.specs.Option.{option_to_list}
-use Rattle.std.specs.List.{AllByRecursion}
-use Rattle.mb_base.specs.Spelling.{IsBytes}
 use Rattle.std.proofs.lemmas.List.{append-nil}
-use Rattle.std.proofs.lemmas.Bool.{cases_eq, cases_Bool}
+use Rattle.std.proofs.lemmas.Bool.{cases_Bool}
 use Rattle.std.proofs.lemmas.Option.{same_Some}
 use Rattle.mb_base.specs.Shapes.{Bytes}
 use Rattle.mb_base.specs.declared.shape.Shape.{Shape}
-use Rattle.mb_parts.specs.declared.request.Request.{Request}
-use Rattle.mb_msg.specs.declared.message.Message.{Message}
-use Rattle.mb_msg.specs.declared.message.Message.TheVariants as message
 use Rattle.mb_msg.specs.declared.event.Event.TheVariants as event
-use Rattle.mb_msg.specs.declared.event.Outcome.{Outcome}
-use Rattle.mb_msg.specs.declared.event.Outcome.TheVariants as outcome
-use Rattle.mb_msg.specs.declared.normal.Reply.{Reply}
-use Rattle.mb_msg.specs.Spelling.{spelling}
 use Rattle.mb_model.specs.Clients.{Asker}
-use Rattle.mb_model.specs.Histories.{History, stamped as all_stamped}
-use Rattle.mb_model.specs.Sending.{Letter, Progress}
 use Rattle.mb_model.specs.Given.{Answer}
 use Rattle.mb_sched.specs.declared.schedule.Schedule.{Schedule}
 use Rattle.mb_sched.specs.Limits.{is_faulty, is_faulty_client}
 use Rattle.mb_core.specs.declared.replica.Replica.{Replica}
 use Rattle.mb_replica.specs.declared.told.Outgoing.{Outgoing}
 use Rattle.mb_replica.specs.declared.told.Told.{Told}
-use Rattle.mb_replica.specs.Told.{KnowsBytes, as_outgoing}
+use Rattle.mb_replica.specs.Told.{KnowsBytes}
 use Rattle.mb_replica.specs.Represents.{IsTold}
 use Rattle.mb_theory.specs.Refusals.{refusals, refusal_in}
-use Rattle.mb_theory.specs.World.{World as WorldState, System, self_of, nothing_happened, Made, Lost, FaultyStamp, update, extended, with_tagged, answered, lost_or, heard, numbered, arrives, made, stamps, steps, partway, client_reads, takes_reply, Unread, give_host, give_client}
+use Rattle.mb_theory.specs.World.{World as WorldState, System, self_of, Made, Lost, FaultyStamp, update, extended, with_tagged, answered, lost_or, heard, numbered, arrives, made, stamps, steps, partway, client_reads, give_host, give_client}
 use Rattle.mb_theory.specs.World.{Seen as AnswerState}
 use Rattle.mb_theory.specs.WorldSteps.{with_message}
+use Rattle.mb_theory.specs.FaultyHosts.{stamp_as}
 use Rattle.mb_msg.specs.Reading.{message_of}
-use Rattle.mb_forged.specs.declared.ledger.Ledger.{Ledger}
 use Rattle.mb_forged.specs.Ledgers.{Keeps, KeepsWorld}
 use Rattle.mb_forged.specs.Checks.{MadeMore}
 use Rattle.mb_world.specs.declared.seen.Seen.{Seen}
 use Rattle.mb_service.specs.declared.service.Service.{Ghosts}
 use Rattle.mb_world.specs.declared.world.World.{World}
-use Rattle.mb_world.specs.Hosts.{IsSystem}
-use Rattle.mb_world.specs.declared.members.Member.TheVariants as member
-use Rattle.mb_world.specs.Members.{AllRest, IsCorrectHost, RepresentsMembers}
-use Rattle.mb_world.specs.Askers.{RepresentsAskers}
+use Rattle.mb_parties.specs.Hosts.{IsSystem}
+use Rattle.mb_parties.specs.declared.members.Member.TheVariants as member
+use Rattle.mb_parties.specs.Members.{AllRest, IsCorrectHost, RepresentsMembers}
+use Rattle.mb_parties.specs.Askers.{RepresentsAskers}
 use Rattle.mb_world.specs.Answers.{as_answer}
-use Rattle.mb_world.specs.Replies.{reply_or}
-use Rattle.mb_world.specs.Marks.{IsBodyAt, lengthened, made_mark, mark_at}
-use Rattle.mb_world.specs.Stamps.{FitsWhereStamped, bare_in, bares_of}
+use Rattle.mb_parties.specs.Marks.{IsBodyAt, lengthened, made_mark, mark_at}
+use Rattle.mb_parties.specs.Stamps.{FitsWhereStamped, bare_in, bares_of}
 use Rattle.mb_world.specs.Tables.{RepresentsRest, RepresentsWorld, Leaves}
-use Rattle.mb_world.proofs.ListLaws.{update_here, update_there}
-use Rattle.mb_world.proofs.MarkLaws.{GoesOn, goes_same, goes_still, longer_stamps, tagged_more, still_marked, marks_sent}
+use Rattle.mb_parties.proofs.MarkLaws.{GoesOn, goes_same, goes_still, longer_stamps, still_marked, marks_sent}
+use Rattle.mb_parties.proofs.KeepLaws.{keeps_same, correct_stamps, faulty_stamps_more, sent_bytes, went_partway}
 
 -- ---- what stays
 
@@ -168,63 +156,23 @@ module _ {V : Type 0} {g : Ghosts V} (y : System V) where
     plus_one : (n : ℕ) → n + 1 ≡ suc n
     plus_one n = omega arith
 
--- ---- the ledger
+-- ---- one more stamp
 
--- It speaks of the size of its own system.
-pub keeps_then : (s : Shape) (l n : Ledger) (f g : ℕ → List Bytes) (a b : List Request) (t u : List Message) → Keeps s l f a t → (Keeps l.shape l f a t → Keeps l.shape n g b u) → Keeps s n g b u
-keeps_then s l n f g a b t u k step =
-    subst (λ (z : Shape). Keeps z n g b u) k.shape (step (subst (λ (z : Shape). Keeps z l f a t) (sym k.shape) k))
-
--- the same, where a call made it so
-pub keeps_ok : {T E : Type 0} (r : Result T E) (s : Shape) (l n : Ledger) (f g : ℕ → List Bytes) (a b : List Request) (t u : List Message) → Keeps s l f a t → (Keeps l.shape l f a t → OnOk r (Keeps l.shape n g b u)) → OnOk r (Keeps s n g b u)
-keeps_ok r s l n f g a b t u k step =
-    subst (λ (z : Shape). OnOk r (Keeps z n g b u)) k.shape (step (subst (λ (z : Shape). Keeps z l f a t) (sym k.shape) k))
-
-pub keeps_same : (s : Shape) (l : Ledger) (f g : ℕ → List Bytes) (a : List Request) (t : List Message) → ((h : ℕ) → f h ≡ g h) → Keeps s l f a t → Keeps s l g a t
-keeps_same s l f g a t same k = record { shape = k.shape; bytes = λ h lt. subst (AllByRecursion IsBytes) (same h) (k.bytes h lt); stamps = λ h lt. k.stamps h lt ∙ ap Some (same h); fits = k.fits; asked = k.asked; tagged = k.tagged }
-
--- the stamps of all, where a correct host has a longer history
-pub correct_stamps : (s : Schedule) (x : WorldState) (h : ℕ) (d : History) (more : List Bytes) → is_faulty s h ≡ false → bares_of d ≡ more ++ bares_of (x.histories h)
-    → (g : ℕ) → update (stamps s x) h (more ++ stamps s x h) g ≡ stamps s (record x { histories = update x.histories h d }) g
-correct_stamps s x h d more correct longer g = elim (cases_eq g h) [
-  | inl same ↦ rw (same, update_here (stamps s x) h (more ++ stamps s x h), correct, update_here x.histories h d) (sym longer)
-  | inr other ↦ rw (update_there (stamps s x) h g (more ++ stamps s x h) other, update_there x.histories h g d other) refl
-]
-
--- where a faulty one stamped once more
-pub faulty_stamps_more : (s : Schedule) (x : WorldState) (h : ℕ) (f : FaultyStamp) → is_faulty s h ≡ true
-    → (g : ℕ) → update (stamps s x) h (f.bare ∷ stamps s x h) g ≡ stamps s (record x { faulty_stamps = update x.faulty_stamps h (f ∷ x.faulty_stamps h) }) g
-faulty_stamps_more s x h f faulty g = elim (cases_eq g h) [
-  | inl same ↦ rw (same, update_here (stamps s x) h (f.bare ∷ stamps s x h), faulty, update_here x.faulty_stamps h (f ∷ x.faulty_stamps h)) refl
-  | inr other ↦ rw (update_there (stamps s x) h g (f.bare ∷ stamps s x h) other, update_there x.faulty_stamps h g (f ∷ x.faulty_stamps h) other) refl
-]
-
--- Before the first event nothing was stamped.
-nothing_stamped : (s : Schedule) (h : ℕ) → [] ≡ stamps s nothing_happened h
-unfolding all_stamped
-nothing_stamped s h = elim (cases_Bool (is_faulty s h)) [ inl faulty ↦ rw faulty refl | inr correct ↦ rw correct refl ]
-
-pub nothing_kept : (s : Schedule) (l : Ledger) → Keeps s.shape l (λ h. []) [] [] → KeepsWorld s l nothing_happened
-nothing_kept s l k = keeps_same s.shape l (λ h. []) (stamps s nothing_happened) [] [] (nothing_stamped s) k
+module _ {V : Type 0} {g : Ghosts V} (y : System V) where
+  pub stamped_one : (v w : World V g) (x : WorldState) (h : ℕ) (k : FaultyStamp) (a : Seen) → RepresentsWorld y v x → IsFixed v w → is_faulty y.schedule h ≡ true
+      → RepresentsMembers y w.members.items x.histories (update x.faulty_stamps h (k ∷ x.faulty_stamps h)) → w.askers ≡ v.askers
+      → Keeps y.schedule.shape w.ledger (update (stamps y.schedule x) h (k.bare ∷ stamps y.schedule x h)) x.asked x.tagged
+      → w.pool.items ≡ v.pool.items ++ k.message ∷ [] → w.line ≡ v.line → w.refused ≡ v.refused → w.events ≡ v.events + 1 → as_answer a ≡ Made (length v.pool.items + 1) 1
+      → Leaves y w (as_answer a) x (stamp_as y.schedule h k.bare k.message x)
+  stamped_one v w x h k a old fixed faulty members askers ledger pool line refused events answer =
+      let s : Schedule = y.schedule in
+      let z : WorldState = record x { faulty_stamps = update x.faulty_stamps h (k ∷ x.faulty_stamps h) } in
+      made_one y v w x z k.message a old.rest fixed
+      (record { stamps = longer_stamps (stamps s x) (stamps s z) h (k.bare ∷ []) (faulty_stamps_more s x h k faulty); asked = ([], refl); tagged = ([], refl) }) members (rw askers old.rest.askers)
+      (keeps_same s.shape w.ledger (update (stamps s x) h (k.bare ∷ stamps s x h)) (stamps s z) x.asked x.tagged (faulty_stamps_more s x h k faulty) ledger)
+      refl refl refl pool line refused events answer
 
 -- ---- a host's step
-
-sent_bytes : (letters : List Letter) → map (λ (m : Outgoing). m.bytes) (map as_outgoing letters) ≡ map (λ (letter : Letter). spelling letter.says) letters
-sent_bytes [] = refl
-sent_bytes (l ∷ ls) = ap (λ (bs : List Bytes). spelling l.says ∷ bs) (sent_bytes ls)
-
--- The world where a host has got so far in its step goes on from the one before.
-went_partway : (s : Schedule) (x : WorldState) (h : ℕ) (left : Progress) → is_faulty s h ≡ false → bares_of left.history ≡ reverse (filter_map bare_in left.sent) ++ bares_of (x.histories h) → GoesOn s x (partway s h left x)
-went_partway s x h left correct longer =
-    let more : List Bytes = reverse (filter_map bare_in left.sent) in
-    record {
-      made = record {
-        stamps = longer_stamps (stamps s x) (stamps s (record x { histories = update x.histories h left.history })) h more (correct_stamps s x h left.history more correct longer);
-        asked = ([], refl);
-        tagged = tagged_more left.sent x.tagged;
-      };
-      pool = (map (λ (letter : Letter). spelling letter.says) left.sent, refl);
-    }
 
 -- the tables once a step's messages and batches are kept
 pub partway_stands : {V : Type 0} {g : Ghosts V} (y : System V) (v w : World V g) (x : WorldState) (h : ℕ) (told : Told) (a : Answer) → RepresentsMembers y v.members.items (update x.histories h a.left.history) x.faulty_stamps → RepresentsRest y.schedule v x
@@ -256,47 +204,6 @@ partway_stands y v w x h told a members old is fixed fit marks same_members same
     }
 
 -- ---- a client reads
-
-pub reads_reply : (s : Schedule) (c : ℕ) (read : Result Message ℕ) (r : Reply) (x : WorldState) → Ok r ≡ reply_or read → client_reads s c read x ≡ takes_reply s c r x
-reads_reply s c (Err at) r x e = absurd cc
-reads_reply s c (Ok (message.Reply q)) r x e = let same : r ≡ q = cc in rw same refl
-reads_reply s c (Ok (message.Request q)) r x e = absurd cc
-reads_reply s c (Ok (message.Prepare q)) r x e = absurd cc
-reads_reply s c (Ok (message.Commit q)) r x e = absurd cc
-reads_reply s c (Ok (message.Checkpoint q)) r x e = absurd cc
-reads_reply s c (Ok (message.ReqViewChange q)) r x e = absurd cc
-reads_reply s c (Ok (message.ViewChange q)) r x e = absurd cc
-reads_reply s c (Ok (message.NewView q)) r x e = absurd cc
-reads_reply s c (Ok (message.Enter q)) r x e = absurd cc
-reads_reply s c (Ok (message.Open q)) r x e = absurd cc
-reads_reply s c (Ok (message.Join q)) r x e = absurd cc
-reads_reply s c (Ok (message.Resend q)) r x e = absurd cc
-reads_reply s c (Ok (message.Log q)) r x e = absurd cc
-reads_reply s c (Ok (message.Fetch q)) r x e = absurd cc
-reads_reply s c (Ok (message.State q)) r x e = absurd cc
-reads_reply s c (Ok (message.Stop q)) r x e = absurd cc
-
-told_of : (o q : Outcome) (x : WorldState) → o ≡ q → answered (Unread q) x ≡ answered (Unread o) x
-told_of o q x same = rw same refl
-
-pub reads_other : (s : Schedule) (c : ℕ) (read : Result Message ℕ) (o : Outcome) (x : WorldState) → Err o ≡ reply_or read → client_reads s c read x ≡ answered (Unread o) x
-reads_other s c (Err at) o x e = told_of o (outcome.Malformed at) x (cc)
-reads_other s c (Ok (message.Reply q)) o x e = absurd cc
-reads_other s c (Ok (message.Request q)) o x e = told_of o outcome.Idle x (cc)
-reads_other s c (Ok (message.Prepare q)) o x e = told_of o outcome.Idle x (cc)
-reads_other s c (Ok (message.Commit q)) o x e = told_of o outcome.Idle x (cc)
-reads_other s c (Ok (message.Checkpoint q)) o x e = told_of o outcome.Idle x (cc)
-reads_other s c (Ok (message.ReqViewChange q)) o x e = told_of o outcome.Idle x (cc)
-reads_other s c (Ok (message.ViewChange q)) o x e = told_of o outcome.Idle x (cc)
-reads_other s c (Ok (message.NewView q)) o x e = told_of o outcome.Idle x (cc)
-reads_other s c (Ok (message.Enter q)) o x e = told_of o outcome.Idle x (cc)
-reads_other s c (Ok (message.Open q)) o x e = told_of o outcome.Idle x (cc)
-reads_other s c (Ok (message.Join q)) o x e = told_of o outcome.Idle x (cc)
-reads_other s c (Ok (message.Resend q)) o x e = told_of o outcome.Idle x (cc)
-reads_other s c (Ok (message.Log q)) o x e = told_of o outcome.Idle x (cc)
-reads_other s c (Ok (message.Fetch q)) o x e = told_of o outcome.Idle x (cc)
-reads_other s c (Ok (message.State q)) o x e = told_of o outcome.Idle x (cc)
-reads_other s c (Ok (message.Stop q)) o x e = told_of o outcome.Idle x (cc)
 
 module _ {V : Type 0} {g : Ghosts V} (y : System V) where
   -- the tables where a client has another side

@@ -1,11 +1,4 @@
-pub mod Hosts
-pub mod Members
-pub mod Askers
 pub mod Answers
-pub mod Marks
 pub mod Tables
 pub mod Contents
-pub mod Stamps
-pub mod Stamping
 pub mod Reports
-pub mod Replies

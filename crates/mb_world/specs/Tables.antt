@@ -10,10 +10,10 @@ use Rattle.mb_service.specs.declared.service.Service.{Ghosts}
 use Rattle.mb_world.specs.declared.seen.WorldStop.{WorldStop}
 use Rattle.mb_world.specs.declared.seen.WorldStop.TheVariants as stop
 use Rattle.mb_world.specs.declared.world.World.{World}
-use Rattle.mb_world.specs.Askers.{RepresentsAskers}
-use Rattle.mb_world.specs.Hosts.{IsSystem}
-use Rattle.mb_world.specs.Marks.{AreMarks}
-use Rattle.mb_world.specs.Members.{RepresentsMembers}
+use Rattle.mb_parties.specs.Askers.{RepresentsAskers}
+use Rattle.mb_parties.specs.Hosts.{IsSystem}
+use Rattle.mb_parties.specs.Marks.{AreMarks}
+use Rattle.mb_parties.specs.Members.{RepresentsMembers}
 
 -- all but the hosts
 pub record RepresentsRest {V : Type 0} {g : Ghosts V} (s : Schedule) (w : World V g) (x : WorldState) : Type 0 where

@@ -4,13 +4,12 @@ ghost use Rattle.std.specs.Prelude.{◌≡◌, not};
 ghost use Rattle.mb_theory.specs.WorldEvents.{culprit};
 ghost use Rattle.mb_world.specs.Contents.{stamping_host};
 
-use crate::marks::mark_of;
-use crate::members::Member;
 use crate::seen::WorldStop;
 use crate::world::World;
 use mb_base::{Counter, Digest, Host, Items, MESSAGE_LIMIT, NoMemory, View};
 use mb_forged::{Checker, ForgedClaim, change_with, checkpoint_with, commit_for, prepare_with};
 use mb_msg::{Batch, Message, Stamped, Undecoded, decode};
+use mb_parties::{Member, mark_of};
 use mb_parts::{MAX_BATCH, Part, Request};
 use mb_sched::{Name, WorldEvent};
 use mb_service::Service;

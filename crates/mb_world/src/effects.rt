@@ -1,17 +1,12 @@
 //! What is given to hosts and clients, and what a host's step leaves in the world.
 
-ghost use Rattle.std.specs.Prelude.{◌≡◌, ◌++◌, map, fold, OnOk};
-ghost use Rattle.mb_theory.specs.World.{extended};
-
-use crate::marks::{mark_of, note_made};
-use crate::members::step_at;
 use crate::refusals::note_refusal;
 use crate::seen::Seen;
-use crate::stamps::note_step;
 use crate::world::World;
 use mb_base::{Client, Digest, Duplicate, Host, Items, NoMemory};
-use mb_msg::{Event, Slot};
-use mb_replica::{Outgoing, Told};
+use mb_msg::Event;
+use mb_parties::{add_messages, extend_line, mark_of, note_made, note_step, step_at};
+use mb_replica::Told;
 use mb_sched::Name;
 use mb_service::Service;
 use std::alloc::Global;
@@ -27,9 +22,9 @@ impl<V: Service + Drop> World<V> {
     ghost use Rattle.mb_theory.specs.World.{World as WorldState, System, lost_or, steps, stepped, numbered, answered, update, give_host, give_client, signal};
     ghost use Rattle.mb_theory.specs.WorldSteps.{with_message, happens};
     ghost use Rattle.mb_theory.specs.Stops.{stop_of};
-    ghost use Rattle.mb_world.specs.Hosts.{IsSystem};
-    ghost use Rattle.mb_world.specs.Members.{AllRun, RepresentsMembers};
-    ghost use Rattle.mb_world.specs.Stamps.{FitsWhereStamped, bare_in, bares_of};
+    ghost use Rattle.mb_parties.specs.Hosts.{IsSystem};
+    ghost use Rattle.mb_parties.specs.Members.{AllRun, RepresentsMembers};
+    ghost use Rattle.mb_parties.specs.Stamps.{FitsWhereStamped, bare_in, bares_of};
     ghost use Rattle.mb_world.specs.Answers.{as_answer};
     ghost use Rattle.mb_world.specs.Tables.{RepresentsRest, RepresentsWorld, HasWorld, Leaves};
 
@@ -252,33 +247,4 @@ impl<V: Service + Drop> World<V> {
             Name::Client(client) => self.give_client(alloc, client, bytes.as_slice()),
         }
     }
-}
-
-/// Appends what a host sent, in the order in which it was made.
-fn add_messages(pool: &mut Vec<Items<u8>>, sent: Items<Outgoing>) -> Result<(), NoMemory>
-    ensures { OnOk result (pool.new.items ≡ pool.old.items ++ map (λ m. m.bytes) sent) }
-{
-    for message in sent.into_vec() {
-        pool.push(message.bytes)?;
-    }
-    Ok(())
-}
-
-/// Appends what a host is the first to execute, in the order in which it was executed.
-fn extend_line(line: &mut Vec<Slot>, executed: Items<Slot>) -> Result<(), NoMemory>
-    ensures { OnOk result (line.new.items ≡ fold extended line.old.items executed) }
-{
-    for slot in executed.into_vec() {
-        extend_by_one(line, slot)?;
-    }
-    Ok(())
-}
-
-fn extend_by_one(line: &mut Vec<Slot>, slot: Slot) -> Result<(), NoMemory>
-    ensures { OnOk result (line.new.items ≡ extended line.old.items slot) }
-{
-    if slot.pos == line.len() as u64 + 1 {
-        line.push(slot)?;
-    }
-    Ok(())
 }

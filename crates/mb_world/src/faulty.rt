@@ -3,14 +3,13 @@
 ghost use Rattle.std.specs.Prelude.{◌≡◌};
 
 use crate::clients::add_message;
-use crate::members::{Member, Stamp};
 use crate::seen::Seen;
-use crate::stamping::{stamp_bytes, stamp_content};
 use crate::world::World;
 use mb_base::{Client, Duplicate, Host, Items, NoMemory, Pos, Seq, View};
 use mb_msg::{
     Message, Reply, ReqViewChange, Request, Stamped, encode, signed_reply, signed_request,
 };
+use mb_parties::{Member, Stamp, stamp_bytes, stamp_content};
 use mb_service::Service;
 use mb_usig::Usig;
 use std::alloc::Global;
@@ -27,7 +26,7 @@ impl<V: Service + Drop> World<V> {
     ghost use Rattle.mb_theory.specs.World.{World as WorldState, System, made, request_of};
     ghost use Rattle.mb_theory.specs.FaultyHosts.{reply_of_host, wish_of_host, stamp_content, stamp_bytes};
     ghost use Rattle.mb_forged.specs.Contents.{unstamped};
-    ghost use Rattle.mb_world.specs.Members.{AllRun};
+    ghost use Rattle.mb_parties.specs.Members.{AllRun};
     ghost use Rattle.mb_world.specs.Answers.{as_answer};
     ghost use Rattle.mb_world.specs.Tables.{RepresentsWorld, Leaves};
 

@@ -12,6 +12,8 @@
 //!
 //! An event is done in two steps. `allow` only reads: it answers the stop that stands in the way, or what a faulty host is to stamp. Then the event
 //! happens. So a stop leaves the world as it was, and nothing is read twice. No event copies the pool, or goes through it.
+//!
+//! The hosts, the clients and the marks, and what one step does to each table alone, are in `mb_parties`.
 #![tactic(auto)]
 
 mod allowed;
@@ -20,16 +22,10 @@ mod effects;
 mod faulty;
 mod lines;
 mod marks;
-mod members;
 mod refusals;
 mod replies;
 mod seen;
-mod stamping;
-mod stamps;
 mod world;
 
 pub use seen::{Seen, WorldStop};
 pub use world::World;
-
-#[cfg(test)]
-mod tests;

@@ -1,20 +1,18 @@
 //! All hosts, all clients and all that was ever made: the events of a schedule, one after the other.
 
-ghost use Rattle.std.specs.Prelude.{◌≡◌, ℕ, false, length};
+ghost use Rattle.std.specs.Prelude.{◌≡◌, false, length};
 ghost use Rattle.mb_base.specs.Shapes.{client_count, host_count};
-ghost use Rattle.mb_world.specs.Members.{AllRun, AreOf, StampedWithin};
-ghost use Rattle.mb_world.specs.Askers.{AskedWithin, AreOfShape};
+ghost use Rattle.mb_parties.specs.Members.{AllRun, AreOf, StampedWithin};
+ghost use Rattle.mb_parties.specs.Askers.{AskedWithin, AreOfShape};
 
 use crate::allowed::{culprit_of, stamping_host};
-use crate::clients::{askers, pens};
-use crate::marks::Mark;
-use crate::members::{Member, new_members};
 use crate::seen::{Seen, WorldStop};
 use mb_base::{Client, Host, Items, Key, NoMemory, Shape};
 use mb_client::Asker;
 use mb_core::Replica;
 use mb_forged::Ledger;
 use mb_msg::{Event, Slot, Stamped};
+use mb_parties::{Mark, Member, askers, new_members, pens};
 use mb_sched::{RefusedLine, WorldEvent};
 use mb_service::Service;
 use mb_usig::{Pen, Usig};
@@ -67,8 +65,8 @@ impl<V: Service + Drop> World<V> {
     ghost use Rattle.mb_theory.specs.WorldSteps.{happens};
     ghost use Rattle.mb_theory.specs.Stops.{stop_of};
     ghost use Rattle.mb_client.specs.Represents.{Represents};
-    ghost use Rattle.mb_world.specs.Hosts.{IsSystem, AreServices};
-    ghost use Rattle.mb_world.specs.Members.{AllRun, IsHost};
+    ghost use Rattle.mb_parties.specs.Hosts.{IsSystem, AreServices};
+    ghost use Rattle.mb_parties.specs.Members.{AllRun, IsHost};
     ghost use Rattle.mb_world.specs.Answers.{as_answer, Tells};
     ghost use Rattle.mb_world.specs.Contents.{IsAllowed, stamping_host};
     ghost use Rattle.mb_theory.specs.WorldEvents.{culprit};

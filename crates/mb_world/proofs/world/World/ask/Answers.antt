@@ -7,8 +7,9 @@ use Rattle.mb_msg.specs.Spelling.{spelling}
 use Rattle.mb_model.specs.Clients.{asks}
 use Rattle.mb_theory.specs.World.{World as WorldState, stamps, update, request_of}
 use Rattle.mb_forged.specs.Ledgers.{Keeps}
-use Rattle.mb_world.proofs.MemberLaws.{within_more}
-use Rattle.mb_world.proofs.WorldLaws.{if_both, made_one, keeps_then}
+use Rattle.mb_parties.proofs.MemberLaws.{within_more}
+use Rattle.mb_parties.proofs.KeepLaws.{keeps_then}
+use Rattle.mb_world.proofs.WorldLaws.{if_both, made_one}
 use Rattle.mb_world.proofs.world.World.ask.Goals as goal
 
 pub encode-requires : goal.encode-requires

@@ -4,7 +4,7 @@ use Rattle.mb_parts.specs.Counted.{counted}
 use Rattle.mb_parts.specs.Fits.{FitsRequest}
 use Rattle.mb_parts.specs.Spelling.{request_bytes}
 use Rattle.mb_steps.proofs.StepPlanBases.{all_append}
-use Rattle.mb_world.proofs.BatchLaws.{kind_told, long_told, left_on, taken_on, all_fit, used_more}
+use Rattle.mb_parties.proofs.BatchLaws.{kind_told, long_told, left_on, taken_on, all_fit, used_more}
 use Rattle.mb_world.proofs.world.World.batch_of.Goals as goal
 
 pub returns-in_default-clause-stops : goal.returns-in_default-clause-stops

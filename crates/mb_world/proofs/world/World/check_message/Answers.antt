@@ -1,7 +1,7 @@
 use Rattle.std.proofs.Common.{◌≡◌, Some, sym, ap, ◌∙◌}
 use Rattle.mb_theory.specs.World.{numbered}
 use Rattle.mb_theory.specs.WorldEvents.{is_faulty_name}
-use Rattle.mb_world.specs.declared.marks.Mark.{Mark}
+use Rattle.mb_parties.specs.declared.marks.Mark.{Mark}
 use Rattle.mb_world.proofs.WorldLaws.{known_at}
 use Rattle.mb_world.proofs.AllowedLaws.{found_at, found_absent}
 use Rattle.mb_world.proofs.world.World.check_message.Goals as goal

@@ -4,8 +4,9 @@ use Rattle.mb_msg.specs.Reading.{message_of}
 use Rattle.mb_model.specs.Clients.{Taken, takes}
 use Rattle.mb_theory.specs.World.{World as WorldState, OfClient, heard, answered, update}
 use Rattle.mb_world.specs.Answers.{as_answer}
-use Rattle.mb_world.specs.Replies.{reply_or}
-use Rattle.mb_world.proofs.WorldLaws.{reads_reply, reads_other, side_stands, also_heard, leaves_from, leaves_at, if_ok_more}
+use Rattle.mb_parties.specs.Replies.{reply_or}
+use Rattle.mb_parties.proofs.ReadLaws.{reads_reply, reads_other}
+use Rattle.mb_world.proofs.WorldLaws.{side_stands, also_heard, leaves_from, leaves_at, if_ok_more}
 use Rattle.mb_world.proofs.world.World.client_reads.Goals as goal
 
 pub returns-in-Ok-clause-stands : goal.returns-in-Ok-clause-stands

@@ -1,9 +1,9 @@
 use Rattle.std.proofs.Common.{◌≡◌, ◌∙◌, List, Some, None, sym, ap}
 use Rattle.mb_base.specs.Shapes.{Bytes}
 use Rattle.mb_theory.specs.World.{give_host, numbered}
-use Rattle.mb_world.specs.declared.marks.Mark.{Mark}
+use Rattle.mb_parties.specs.declared.marks.Mark.{Mark}
 use Rattle.mb_world.proofs.StopLaws.{given_there}
-use Rattle.mb_world.proofs.MarkLaws.{given_clean}
+use Rattle.mb_world.proofs.GivenLaws.{given_clean}
 use Rattle.mb_world.proofs.WorldLaws.{known_at, message_there}
 use Rattle.mb_world.proofs.world.World.give.Goals as goal
 

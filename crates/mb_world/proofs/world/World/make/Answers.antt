@@ -3,8 +3,8 @@ use Rattle.mb_base.specs.declared.shape.Shape.{Shape}
 use Rattle.mb_forged.specs.Ledgers.{Keeps}
 use Rattle.mb_theory.specs.Refusals.{refusals}
 use Rattle.mb_theory.specs.World.{nothing_happened}
-use Rattle.mb_world.proofs.MarkLaws.{none_marked}
-use Rattle.mb_world.proofs.WorldLaws.{nothing_kept}
+use Rattle.mb_parties.proofs.MarkLaws.{none_marked}
+use Rattle.mb_parties.proofs.KeepLaws.{nothing_kept}
 use Rattle.mb_world.proofs.world.World.make.Goals as goal
 
 pub returns-clause-stands : goal.returns-clause-stands

@@ -1,0 +1,16 @@
+pub mod ListLaws
+pub mod LeftLaws
+pub mod MemberLaws
+pub mod AskerLaws
+pub mod MarkLaws
+pub mod KeepLaws
+pub mod NoteLaws
+pub mod StampLaws
+pub mod StampedLaws
+pub mod BatchLaws
+pub mod ChangeLaws
+pub mod SizeLaws
+pub mod ReadLaws
+pub mod ReplyLaws
+pub mod ReplyRows
+pub mod LineLaws

@@ -1,0 +1,228 @@
+-- Worlds with faulty hosts, computed on the definitions: what hosts and clients refuse, what stands in the way of an event, what is forged.
+use Rattle.std.proofs.Common.{◌≡◌, ℕ, Bool, true, false, List, [], ◌∷◌, ◌++◌, length, map, refl, arith, Option, Some, None}
+use Rattle.std.specs.Prelude.{replicate, take, drop}
+use Rattle.mb_base.specs.Shapes.{Bytes}
+use Rattle.mb_base.specs.declared.shape.Shape.{Shape}
+use Rattle.mb_usig.specs.Tags.{certificate, request_tag}
+use Rattle.mb_parts.specs.declared.request.Request.{Request}
+use Rattle.mb_parts.specs.declared.batch.Batch.{Batch}
+use Rattle.mb_parts.specs.Bares.{batch_digest, bare_bytes}
+use Rattle.mb_parts.specs.Bares as bare
+use Rattle.mb_msg.specs.declared.message.Body.TheVariants as body
+use Rattle.mb_msg.specs.declared.message.Message.TheVariants as message
+use Rattle.mb_msg.specs.Spelling.{spelling, shown_kind}
+use Rattle.mb_model.specs.Verified.{verifies}
+use Rattle.mb_model.specs.UsableLogs.{log_fault}
+use Rattle.mb_msg.specs.declared.event.Slot.{Slot}
+use Rattle.mb_msg.specs.declared.event.Outcome.TheVariants as outcome
+use Rattle.mb_model.specs.Clients as client
+use Rattle.mb_model.specs.Histories.{closed_at}
+use Rattle.mb_model.specs.Positions.{exec_of}
+use Rattle.mb_sched.specs.declared.report.RefusedLine.{RefusedLine}
+use Rattle.mb_sched.specs.declared.report.Word.{Word}
+use Rattle.mb_sched.specs.declared.report.Word.TheVariants as word
+use Rattle.mb_sched.specs.declared.schedule.Name.TheVariants as name
+use Rattle.mb_sched.specs.declared.schedule.WorldEvent.{WorldEvent}
+use Rattle.mb_sched.specs.declared.schedule.WorldEvent.TheVariants.{Ask, Give, Take, Raw, Nudge, Sign, TagReply, TagWish, StampPrepare, StampCommit, StampChange, StampAs, StampRaw}
+use Rattle.mb_theory.specs.World.{Seen, OfClient, Unread, Lost, World, System}
+use Rattle.mb_theory.specs.FaultyHosts.{log_after}
+use Rattle.mb_theory.specs.WorldSteps.{world}
+use Rattle.mb_theory.specs.Stops.{WorldStop, NotFaulty, NoSuchMessage, WrongKind, Forged, ForgedTag}
+use Rattle.mb_theory.specs.Refusals.{refusals}
+use Rattle.mb_theory.proofs.WorldsOnLiterals.{worlds_on_literals}
+use Rattle.mb_worked_worlds.proofs.Worlds.{one_client, operation, system_of, all_correct, of_faulty_primary, kind_byte, stop_at}
+
+-- ---- two PREPAREs for one position
+
+abbrev two_clients : Shape
+two_clients = record { f = 1; k = 4; clients = 2; faults_in = (omega arith, omega arith); interval_in = (omega arith, omega arith); clients_in = (omega arith, omega arith) }
+
+abbrev two_prepares : System Bytes
+two_prepares = system_of (record {
+  shape = two_clients;
+  secret = replicate 32 0;
+  faulty_hosts = true ∷ false ∷ false ∷ [];
+  faulty_clients = false ∷ false ∷ [];
+  events = Ask 0 operation ∷ Ask 1 operation ∷ StampPrepare 0 0 1 (1 ∷ []) ∷ StampPrepare 0 0 1 (2 ∷ []) ∷ Give 3 1 ∷ Give 4 1 ∷ Give 4 2 ∷ Give 5 2 ∷ Give 4 2 ∷ Give 4 2 ∷ [];
+})
+
+abbrev told : ℕ → Word → List ℕ → RefusedLine
+told event word numbers = record { event = event; name = word; numbers = numbers }
+
+-- The gate takes one of them, and is closed at the other.
+two_prepares_refused : refusals (world two_prepares 10).seen
+    ≡ told 6 word.Illegal (6 ∷ []) ∷ told 7 word.Ahead (1 ∷ []) ∷ told 9 word.Illegal (6 ∷ []) ∷ told 10 word.Convicted (2 ∷ []) ∷ []
+unfolding worlds_on_literals
+two_prepares_refused = refl
+
+two_prepares_line : map (λ x. x.pos ∷ map (λ p. p.request.client) x.requests) (world two_prepares 10).line ≡ (1 ∷ 0 ∷ []) ∷ []
+unfolding worlds_on_literals
+two_prepares_line = refl
+
+-- Both correct hosts have closed their gates for h0 at its second message, and none for each other: of the hosts in turn, the counters.
+two_prepares_convict : map (λ g. map (closed_at ((world two_prepares 10).histories g)) (0 ∷ 1 ∷ 2 ∷ [])) (1 ∷ 2 ∷ []) ≡ (Some 2 ∷ None ∷ None ∷ []) ∷ (Some 2 ∷ None ∷ None ∷ []) ∷ []
+unfolding worlds_on_literals
+two_prepares_convict = refl
+
+-- ---- two requests in one batch, of which one was served before
+
+abbrev one_again : System Bytes
+one_again = system_of (record {
+  shape = two_clients;
+  secret = replicate 32 0;
+  faulty_hosts = true ∷ false ∷ false ∷ [];
+  faulty_clients = false ∷ false ∷ [];
+  events = Ask 0 operation ∷ Ask 1 operation ∷ StampPrepare 0 0 1 (1 ∷ []) ∷ StampPrepare 0 0 2 (1 ∷ 2 ∷ []) ∷ Give 3 1 ∷ Give 4 1 ∷ [];
+})
+
+-- of a slot the position, and of its requests the client and whether it is fresh
+abbrev of_slot : Slot → ℕ × List (ℕ × Bool)
+of_slot x = (x.pos, map (λ p. (p.request.client, p.fresh)) x.requests)
+
+one_again_line : map of_slot (world one_again 6).line ≡ (1, (0, true) ∷ []) ∷ (2, (0, false) ∷ (1, true) ∷ []) ∷ []
+unfolding worlds_on_literals
+one_again_line = refl
+
+one_again_made : map kind_byte (world one_again 6).pool ≡ 1 ∷ 1 ∷ 2 ∷ 2 ∷ 3 ∷ 4 ∷ 3 ∷ 4 ∷ []
+unfolding worlds_on_literals
+one_again_made = refl
+
+-- ---- a view that was invented
+
+abbrev five_hosts : Shape
+five_hosts = record { f = 2; k = 4; clients = 1; faults_in = (omega arith, omega arith); interval_in = (omega arith, omega arith); clients_in = (omega arith, omega arith) }
+
+abbrev invented_view : System Bytes
+invented_view = system_of (record {
+  shape = five_hosts;
+  secret = replicate 32 0;
+  faulty_hosts = false ∷ false ∷ false ∷ true ∷ true ∷ [];
+  faulty_clients = false ∷ [];
+  events = Ask 0 operation ∷ StampChange 3 3 0 ∷ StampPrepare 3 3 1 (1 ∷ []) ∷ StampChange 3 5 0 ∷ Give 2 0 ∷ Give 3 0 ∷ Give 4 0 ∷ [];
+})
+
+invented_view_refused : refusals (world invented_view 7).seen ≡ told 6 word.Illegal (6 ∷ []) ∷ told 7 word.Convicted (2 ∷ []) ∷ []
+unfolding worlds_on_literals
+invented_view_refused = refl
+
+-- The log that it shows is not usable, by its second entry.
+invented_view_unusable : log_fault five_hosts (replicate 32 0) (verifies (replicate 32 0)) 3 5 3 (log_after invented_view.schedule (world invented_view 3) 3 0) ≡ Some (1, 5)
+unfolding worlds_on_literals
+invented_view_unusable = refl
+
+-- ---- what is no message
+
+abbrev short_request : Bytes
+short_request = 1 ∷ 0 ∷ 0 ∷ 0 ∷ 0 ∷ 0 ∷ 0 ∷ 0 ∷ 0 ∷ 1 ∷ 0 ∷ 3 ∷ 2 ∷ 1 ∷ 97 ∷ replicate 31 0
+
+abbrev no_messages : System Bytes
+no_messages = all_correct (map (Raw (name.Host 1)) ([] ∷ (255 ∷ []) ∷ (1 ∷ 0 ∷ []) ∷ short_request ∷ (short_request ++ 0 ∷ []) ∷ []))
+
+no_messages_refused : refusals (world no_messages 5).seen
+    ≡ told 1 word.Malformed (0 ∷ []) ∷ told 2 word.Malformed (0 ∷ []) ∷ told 3 word.Malformed (2 ∷ []) ∷ told 4 word.Malformed (15 ∷ []) ∷ told 5 word.BadTag [] ∷ []
+unfolding worlds_on_literals
+no_messages_refused = refl
+
+-- ---- replies: of each host the first one counts, and f+1 have to agree
+
+abbrev of_faulty_last : List WorldEvent → System Bytes
+of_faulty_last events = system_of (record { shape = one_client; secret = replicate 32 0; faulty_hosts = false ∷ false ∷ true ∷ []; faulty_clients = false ∷ []; events = events })
+
+-- a reply of h0 with another tag
+abbrev bad_reply : Bytes
+bad_reply = spelling (message.Reply (record { host = 0; client = 0; seq = 1; pos = 1; result = []; tag = replicate 32 0 }))
+
+-- 4 is the reply of h1, 5 that of h0, and 6 one of the faulty h2 with another result
+abbrev replies : System Bytes
+replies = of_faulty_last (Ask 0 operation ∷ Give 1 0 ∷ Give 2 1 ∷ Give 3 0 ∷ TagReply 2 0 1 1 (5 ∷ []) ∷ Take 5 0 ∷ Take 5 0 ∷ Take 6 0 ∷ Take 4 0 ∷ Take 5 0 ∷ Raw (name.Client 0) bad_reply ∷ Raw (name.Client 0) [] ∷ Take 1 0 ∷ Give 1 2 ∷ [])
+
+abbrev last_seen : ℕ → List Seen → List Seen
+last_seen n seen = take n seen
+
+replies_seen : last_seen 9 (world replies 14).seen
+    ≡ Lost ∷ Unread outcome.Idle ∷ Unread (outcome.Malformed 0) ∷ OfClient client.BadTag ∷ OfClient (client.OtherSeq 1) ∷ OfClient (client.Accepted 1) ∷ OfClient (client.Waiting 1) ∷ OfClient (client.Waiting 1) ∷ OfClient (client.Waiting 1) ∷ []
+unfolding worlds_on_literals
+replies_seen = refl
+
+-- ---- what was missed is asked for: RESEND, LOG, and the COMMIT and REPLY that follow
+
+abbrev missed : System Bytes
+missed = all_correct (Ask 0 operation ∷ Give 1 0 ∷ Nudge 1 ∷ Give 3 0 ∷ Give 4 1 ∷ [])
+
+missed_told : map kind_byte (world missed 5).pool ∷ (exec_of ((world missed 5).histories 1) ∷ []) ∷ [] ≡ (1 ∷ 2 ∷ 12 ∷ 13 ∷ 3 ∷ 4 ∷ []) ∷ (1 ∷ []) ∷ []
+unfolding worlds_on_literals
+missed_told = refl
+
+-- ---- what stands in the way
+
+abbrev stop_of_first : System Bytes → Option WorldStop
+stop_of_first system = stop_at system 0
+
+correct_does_not : map (λ e. stop_of_first (all_correct (e ∷ []))) (StampRaw 0 [] ∷ TagWish 0 1 ∷ StampCommit 1 0 ∷ Sign 0 1 [] ∷ [])
+    ≡ Some (NotFaulty (name.Host 0)) ∷ Some (NotFaulty (name.Host 0)) ∷ Some (NotFaulty (name.Host 1)) ∷ Some (NotFaulty (name.Client 0)) ∷ []
+unfolding worlds_on_literals
+correct_does_not = refl
+
+-- And nothing comes of it.
+abbrev made_and_seen : World → List ℕ
+made_and_seen w = length w.pool ∷ length w.seen ∷ []
+
+correct_made_nothing : made_and_seen (world (all_correct (StampRaw 0 [] ∷ Sign 0 1 [] ∷ [])) 2) ≡ 0 ∷ 0 ∷ []
+unfolding worlds_on_literals
+correct_made_nothing = refl
+
+no_such_message : map (λ e. stop_at (of_faulty_primary (Ask 0 operation ∷ e ∷ [])) 1) (Give 0 1 ∷ Give 2 1 ∷ Take 2 0 ∷ StampCommit 0 0 ∷ StampAs 0 7 ∷ StampPrepare 0 0 1 (1 ∷ 7 ∷ 0 ∷ []) ∷ Give 1 1 ∷ [])
+    ≡ Some (NoSuchMessage 0) ∷ Some (NoSuchMessage 2) ∷ Some (NoSuchMessage 2) ∷ Some (NoSuchMessage 0) ∷ Some (NoSuchMessage 7) ∷ Some (NoSuchMessage 7) ∷ None ∷ []
+unfolding worlds_on_literals
+no_such_message = refl
+
+-- A REQUEST is no PREPARE and not stamped, and a PREPARE is no REQUEST.
+wrong_kind : map (λ e. stop_at (of_faulty_primary (Ask 0 operation ∷ StampPrepare 0 0 1 (1 ∷ []) ∷ e ∷ [])) 2) (StampCommit 0 1 ∷ StampAs 0 1 ∷ StampPrepare 0 0 2 (2 ∷ []) ∷ StampPrepare 0 0 2 (1 ∷ 2 ∷ []) ∷ StampCommit 0 2 ∷ StampAs 0 2 ∷ [])
+    ≡ Some (WrongKind 1) ∷ Some (WrongKind 1) ∷ Some (WrongKind 2) ∷ Some (WrongKind 2) ∷ None ∷ None ∷ []
+unfolding worlds_on_literals
+wrong_kind = refl
+
+-- ---- what is forged
+
+abbrev request : Request
+request = record { client = 0; seq = 1; op = operation; tag = request_tag (replicate 32 0) 0 1 operation }
+
+abbrev batch : Batch
+batch = record { requests = request ∷ [] }
+
+-- a PREPARE of h0 at its first counter, made with a trusted counter that is not the one of h0
+abbrev forged_prepare : Bytes
+forged_prepare = spelling (message.Prepare (record {
+  view = 0;
+  pos = 1;
+  body = body.Whole batch;
+  ui = record { host = 0; counter = 1; cert = certificate (replicate 32 0) 0 1 (bare_bytes (bare.Prepare 0 1 (batch_digest batch))) };
+}))
+
+forged : stop_at (all_correct (Ask 0 operation ∷ Raw (name.Host 1) forged_prepare ∷ [])) 1 ≡ Some (Forged 2 0 1)
+unfolding worlds_on_literals
+forged = refl
+
+-- once h0 stamped it, it is none
+not_forged : stop_at (all_correct (Ask 0 operation ∷ Give 1 0 ∷ Raw (name.Host 1) forged_prepare ∷ [])) 2 ≡ None
+unfolding worlds_on_literals
+not_forged = refl
+
+-- To a faulty host all may be given. A request that its correct client did not ask is forged by its tag, and one with another tag is not.
+unasked : map (λ e. stop_of_first (of_faulty_primary (e ∷ []))) (Raw (name.Host 0) forged_prepare ∷ Raw (name.Host 1) (spelling (message.Request request)) ∷ Raw (name.Host 1) (short_request ++ 0 ∷ []) ∷ [])
+    ≡ None ∷ Some (ForgedTag 1) ∷ None ∷ []
+unfolding worlds_on_literals
+unasked = refl
+
+-- ---- stamps: the message of bytes is these and an identifier; in a VIEW_CHANGE what is no message is left out
+
+abbrev odd_stamps : System Bytes
+odd_stamps = of_faulty_primary (Ask 0 operation ∷ StampPrepare 0 0 1 (1 ∷ []) ∷ StampRaw 0 (9 ∷ []) ∷ [])
+
+odd_lengths : map length (drop 2 (world odd_stamps 3).pool) ≡ 42 ∷ []
+unfolding worlds_on_literals
+odd_lengths = refl
+
+odd_shown : map (λ c. map shown_kind (log_after odd_stamps.schedule (world odd_stamps 3) 0 c).entries) (0 ∷ 1 ∷ []) ≡ (2 ∷ []) ∷ [] ∷ []
+unfolding worlds_on_literals
+odd_shown = refl

@@ -1,0 +1,9 @@
+pub mod Worlds
+mod FaultyWorlds
+mod ForgedTags
+mod BadWorlds
+mod InsideOfMessages
+mod Apart
+mod WholeRun
+mod RunFacts
+mod TwoRequests
