@@ -1,7 +1,10 @@
+ghost use Rattle.std.specs.Prelude.{◌≡◌, OnOk};
+
 use super::*;
-use mb_base::{Digest, Items, Pos, Shape};
+use mb_base::{Client, Digest, Items, Pos, Seq, Shape};
 use mb_kv::Kv;
-use mb_msg::StateMsg;
+use mb_msg::{Request, StateMsg};
+use mb_parts::MAX_POS;
 use sha2::{Digest as _, Sha256};
 use std::alloc::Global;
 use std::process::Abort;
@@ -81,5 +84,68 @@ fn the_state_of_another_is_installed(rt: HostRuntime) -> Result<(), Fail> {
     assert!(rt; usize::from(m.first) + m.parts.len() <= 65);
     assert!(rt; keeper.take_state(alloc, &certified, &m)? == Fetched::State);
     assert!(rt; keeper.missing() == Some(0));
+    Ok(())
+}
+
+/// Executes a request of a client that the keeper has, at a position that there is. The snapshots stay as they are.
+fn execute(
+    rt: &impl Abort,
+    alloc: Global,
+    keeper: &mut Keeper<Kv>,
+    pos: Pos,
+    client: Client,
+    seq: Seq,
+    op: &[u8],
+) -> Result<(), Fail>
+    ensures { OnOk result (keeper.new.snapshots ≡ keeper.old.snapshots) }
+{
+    let request = Request {
+        client,
+        seq,
+        op: bytes(alloc, op)?,
+        tag: [0; 32],
+    };
+    assert!(rt; client < keeper.table.clients());
+    assert!(rt; pos >= 1);
+    assert!(rt; pos <= MAX_POS);
+    assert!(rt; keeper.execute(alloc, pos, &request)?);
+    Ok(())
+}
+
+/// Each of four clients asks for this in its request of that number, from a position on.
+fn execute_of_each(
+    rt: &impl Abort,
+    alloc: Global,
+    keeper: &mut Keeper<Kv>,
+    first: Pos,
+    seq: Seq,
+    op: &[u8],
+) -> Result<(), Fail>
+    ensures { OnOk result (keeper.new.snapshots ≡ keeper.old.snapshots) }
+{
+    execute(rt, alloc, keeper, first, 0, seq, op)?;
+    execute(rt, alloc, keeper, first.saturating_add(1), 1, seq, op)?;
+    execute(rt, alloc, keeper, first.saturating_add(2), 2, seq, op)?;
+    execute(rt, alloc, keeper, first.saturating_add(3), 3, seq, op)
+}
+
+/// All parts of the service are those of no pair but that of the key a, number 10, and the last is the client table.
+#[test]
+fn equal_parts_of_states_are_held_once(rt: HostRuntime) -> Result<(), Fail> {
+    let alloc = rt.alloc();
+    let mut keeper = Keeper::make(alloc, Shape::new(1, 4, 4)?, Kv::new(alloc))?;
+    execute_of_each(&rt, alloc, &mut keeper, 1, 1, b"\x01\x01a\x00\x011")?;
+    keeper.keep_snapshot(alloc, 4)?;
+    assert_eq!(rt; keeper.shelf.parts_held(), 3);
+    execute_of_each(&rt, alloc, &mut keeper, 5, 2, b"\x01\x01a\x00\x012")?;
+    keeper.keep_snapshot(alloc, 8)?;
+    assert_eq!(rt; keeper.shelf.parts_held(), 5);
+    keeper.raise(8);
+    assert_eq!(rt; keeper.shelf.parts_held(), 3);
+    assert!(rt; keeper.shelf.part(4, 0).is_none());
+    let held: [(u8, &[u8]); 2] = [(0, b"\x00\x00"), (10, b"\x00\x01\x01a\x00\x012")];
+    for (number, text) in held {
+        assert_eq!(rt; keeper.shelf.part(8, number), Some(text));
+    }
     Ok(())
 }

@@ -33,7 +33,18 @@ fn parts_of(rt: &HostRuntime, kv: &Kv) -> Result<Vec<Items<u8>>, Fail> {
 
 #[test]
 fn each_operation_has_its_result(rt: HostRuntime) -> Result<(), Fail> {
-    let rows: [(&[u8], &[u8]); 27] = [
+    let rows: [(&[u8], &[u8]); 36] = [
+        // one key from an empty service to an empty one, and two that are no operations
+        (b"\x02\x01a", b"\x02"),
+        (b"\x01\x01a\x00\x011", b"\x00"),
+        (b"\x02\x01a", b"\x01\x00\x011"),
+        (b"\x04\x01a\x00\x011\x00\x012", b"\x00"),
+        (b"\x04\x01a\x00\x011\x00\x012", b"\x03\x00\x012"),
+        (b"\x03\x01a", b"\x00"),
+        (b"\x02\x01a", b"\x02"),
+        (b"\x09", b"\x05"),
+        (b"", b"\x05"),
+        // each kind, with keys that are and are not there
         (b"\x01\x01a\x00\x011", b"\x00"),
         (b"\x02\x01a", b"\x01\x00\x011"),
         (b"\x01\x01a\x00\x0222", b"\x00"),
@@ -207,6 +218,23 @@ fn damaged_parts_have_their_place(rt: HostRuntime) -> Result<(), Fail> {
             [0].as_slice()
         );
     }
+    Ok(())
+}
+
+/// The first part is empty, the others are those of no keys.
+#[test]
+fn an_empty_first_part_is_a_fault(rt: HostRuntime) -> Result<(), Fail> {
+    let mut kv = Kv::new(rt.alloc());
+    let mut parts = parts_of(&rt, &kv)?;
+    assert_eq!(rt; parts.len(), 64);
+    for part in &parts[1..] {
+        assert_eq!(rt; part.as_slice(), [0, 0].as_slice());
+    }
+    parts[0] = Items::new(rt.alloc());
+    assert_eq!(rt;
+        kv.restore(rt.alloc(), parts.as_slice()),
+        Err(Restore::BadSnapshot { part: 0, at: 0 })
+    );
     Ok(())
 }
 

@@ -53,4 +53,6 @@ pub use shown::{BadProof, usable};
 pub use tags::{are_tagged, is_tagged};
 
 #[cfg(test)]
+mod shown_tests;
+#[cfg(test)]
 mod tests;

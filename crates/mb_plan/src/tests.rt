@@ -1,4 +1,5 @@
-ghost use Rattle.mb_msg.specs.Fits.{FitsNewView, FitsNewViewBody};
+ghost use Rattle.std.specs.Prelude.{◌↔◌, IsTrue};
+ghost use Rattle.mb_msg.specs.Fits.{FitsMember};
 
 use crate::{BadProof, NewViewFault, Plan, PlanFault, check_new_view, plan_of, usable};
 use mb_base::{Counter, Digest, Host, Items, Key, NoMemory, Pos, Shape, Ui, View};
@@ -7,12 +8,14 @@ use mb_msg::{
     EvidenceMember, Join, Message, NewView, NewViewBody, Open, OpenBody, Prepare, Request, Shown,
     StableCert, StableMember, ViewChange, fields_fit,
 };
+use mb_parts::Part;
 use mb_usig::Usig;
 use std::alloc::{AllocError, Global};
 use std::process::Abort;
+use std::slice;
 use std::test::Fail;
 
-const SECRET: Key = [0; 32];
+pub(crate) const SECRET: Key = [0; 32];
 
 // What follows was made with Python's hmac and hashlib, under a secret of 32 zero bytes: the tags of PUT a = 1 of client 0 and of GET a of client
 // 1, the certificates of the PREPARE and the COMMIT of a batch of both at position 1, and those of a view change: h1 and h2 leave for view 1, h1
@@ -20,10 +23,10 @@ const SECRET: Key = [0; 32];
 // counter 12, and of its COMMIT of a PREPARE whose certificate is 32 zero bytes. The last three are the digest of the batch, and the certificates of
 // PREPARE and COMMIT where the tag of GET a is 32 zero bytes.
 
-const PUT_TAG: &Digest =
+pub(crate) const PUT_TAG: &Digest =
     b"\xd2\x24\xd1\x88\x48\xa0\xe1\x21\xed\xcd\xd7\xd7\x32\x4c\xb2\xe3\xd8\x65\x0e\x93\x68\xef\xe6\x9d\x21\x4a\xda\xd8\xc1\xcd\xa3\xab";
 
-const GET_TAG: &Digest =
+pub(crate) const GET_TAG: &Digest =
     b"\x80\xea\x0d\xaa\x57\xd4\x30\x33\xa4\xdf\x74\xa9\x17\x70\xdc\x59\xc1\xc0\x80\x68\x63\x09\xa2\x3e\x64\xc4\xa9\xc0\xa0\xeb\xe2\xfa";
 
 const PREPARE: &Digest =
@@ -41,7 +44,7 @@ const CHANGE_1: &Digest =
 const CHANGE_2: &Digest =
     b"\x5f\xcf\x9b\xc0\xbb\xba\xdc\x22\x31\x9e\x5e\x53\x96\x97\x14\x80\xeb\x1c\x14\x6f\x23\x1d\x26\xb0\x04\xba\xce\x93\x16\xf6\x86\x88";
 
-const PLAN: &Digest =
+pub(crate) const PLAN: &Digest =
     b"\x38\x3d\x41\x74\x1b\xb9\x4c\x24\x27\xcd\x9c\x23\xd5\xf0\xbe\x36\x21\xa8\xdc\x3a\xae\xb3\x2d\xb6\x5f\xa8\x07\x98\xc3\x33\xc6\x1c";
 
 const NEW_VIEW_BODY: &Digest =
@@ -68,7 +71,7 @@ const LATE_COMMIT: &Digest =
 const BASELESS_COMMIT: &Digest =
     b"\x6f\xa0\xde\x9d\xfd\xc2\x9b\xa4\x75\xcf\x17\x7b\xbd\x4a\x5c\x82\x2a\x8d\x19\xea\x40\x16\x09\x79\x91\xb3\x69\x77\xa4\xb3\x6c\xf9";
 
-const ASKED: &Digest =
+pub(crate) const ASKED: &Digest =
     b"\x1b\x8f\xfe\xb3\xd0\x7e\xfc\xfc\xf1\x21\xbe\x5f\x9d\x36\xff\x35\xee\xa9\x9f\xae\xcd\xe2\xdc\x79\x23\x70\x99\xaf\xce\xb0\x26\xe0";
 
 const UNTAGGED_PREPARE: &Digest =
@@ -77,7 +80,7 @@ const UNTAGGED_PREPARE: &Digest =
 const UNTAGGED_COMMIT: &Digest =
     b"\x5a\x8f\xc0\x07\x77\x26\x27\x8e\xbc\x0a\xd4\x30\xad\x61\x15\x7f\x19\x4b\x2e\xdb\x9a\x23\x32\x4b\xcd\xd8\x9f\xa9\x8c\x38\xd1\x34";
 
-fn ui(host: Host, counter: Counter, cert: &Digest) -> Ui {
+pub(crate) fn ui(host: Host, counter: Counter, cert: &Digest) -> Ui {
     Ui {
         host,
         counter,
@@ -85,13 +88,13 @@ fn ui(host: Host, counter: Counter, cert: &Digest) -> Ui {
     }
 }
 
-/// PUT a = 1 of client 0, and GET a of client 1 with this tag.
-fn asked_with(alloc: Global, get_tag: &Digest) -> Result<Batch, Fail> {
+/// PUT a = 1 of client 0 and GET a of client 1, with these tags.
+pub(crate) fn asked_with(alloc: Global, put_tag: &Digest, get_tag: &Digest) -> Result<Batch, Fail> {
     let put = Request {
         client: 0,
         seq: 1,
         op: Items::from_vec(vec![in alloc; 1, 1, 97, 0, 1, 49]?),
-        tag: *PUT_TAG,
+        tag: *put_tag,
     };
     let get = Request {
         client: 1,
@@ -106,11 +109,11 @@ fn asked_with(alloc: Global, get_tag: &Digest) -> Result<Batch, Fail> {
 }
 
 fn asked(alloc: Global) -> Result<Batch, Fail> {
-    asked_with(alloc, GET_TAG)
+    asked_with(alloc, PUT_TAG, GET_TAG)
 }
 
 /// Nothing is stable yet.
-fn at_zero(alloc: Global) -> StableCert {
+pub(crate) fn at_zero(alloc: Global) -> StableCert {
     StableCert {
         pos: 0,
         state: [0; 32],
@@ -230,6 +233,22 @@ fn checkpoints(alloc: Global, count: u8) -> Result<Items<Shown>, Fail> {
     Ok(entries)
 }
 
+/// What a VIEW_CHANGE is found to be; None where it isn't one or a field has no allowed value.
+pub(crate) fn found_of(
+    alloc: Global,
+    shape: Shape,
+    message: &Message,
+) -> Option<Result<(), BadProof>> {
+    if !fields_fit(&shape, message) {
+        return None;
+    }
+    let Message::ViewChange(change) = message else {
+        return None;
+    };
+    let usig = Usig::new(shape, 0, &SECRET);
+    Some(usable(alloc, &shape, &usig, change))
+}
+
 /// What a VIEW_CHANGE from its host's start is found to be; None where a field has no allowed value.
 fn found(
     alloc: Global,
@@ -249,17 +268,10 @@ fn found(
         body,
         ui: ui(host, counter, &[0; 32]),
     });
-    if !fields_fit(&shape, &message) {
-        return None;
-    }
-    let Message::ViewChange(change) = &message else {
-        return None;
-    };
-    let usig = Usig::new(shape, 0, &SECRET);
-    Some(usable(alloc, &shape, &usig, change))
+    found_of(alloc, shape, &message)
 }
 
-fn at(index: u16, reason: u8) -> Option<Result<(), BadProof>> {
+pub(crate) fn at(index: u16, reason: u8) -> Option<Result<(), BadProof>> {
     Some(Err(BadProof::At { index, reason }))
 }
 
@@ -306,7 +318,7 @@ fn logs_have_whole_votes_right_tags_and_an_end(rt: HostRuntime) -> Result<(), Fa
     let three = Shape::new(1, 4, 2)?;
     let short = only(alloc, commit_with(Body::Bare(*ASKED), PREPARE, COMMIT))?;
     assert!(rt; found(alloc, three, 1, 1, 2, short) == at(0, 6));
-    let batch = Body::Whole(asked_with(alloc, &[0; 32])?);
+    let batch = Body::Whole(asked_with(alloc, PUT_TAG, &[0; 32])?);
     let untagged = only(alloc, commit_with(batch, UNTAGGED_PREPARE, UNTAGGED_COMMIT))?;
     assert!(rt; found(alloc, three, 1, 1, 2, untagged) == at(0, 8));
     for (count, reason) in [(25, 9), (24, 3)] {
@@ -369,8 +381,6 @@ fn followed(
 fn new_views_follow_or_have_a_first_fault(rt: HostRuntime) -> Result<(), Fail> {
     let alloc = rt.alloc();
     let three = Shape::new(1, 4, 2)?;
-    let none: [ViewChange; 0] = [];
-    assert!(rt; plan_of(alloc, &three, &none) == Err(PlanFault::Few));
     let rows: [(
         View,
         Pos,
@@ -400,6 +410,18 @@ fn new_views_follow_or_have_a_first_fault(rt: HostRuntime) -> Result<(), Fail> {
     ];
     for (view, end, last, answer) in rows {
         assert!(rt; followed(alloc, three, view, end, both_leave(alloc, last)?) == answer);
+    }
+    Ok(())
+}
+
+#[test]
+fn no_log_and_one_log_are_too_few(rt: HostRuntime) -> Result<(), Fail> {
+    let alloc = rt.alloc();
+    let three = Shape::new(1, 4, 2)?;
+    let none: [ViewChange; 0] = [];
+    assert!(rt; plan_of(alloc, &three, &none) == Err(PlanFault::Few));
+    for change in both_leave(alloc, CHANGE_2)?.as_slice() {
+        assert!(rt; plan_left(alloc, &three, slice::from_ref(change)) == Err(PlanFault::Few));
     }
     Ok(())
 }
@@ -442,7 +464,7 @@ const PLANS: [&str; 17] = [
     "0 00 C517 C628 C739      2 00 O014                004",
 ];
 
-fn digit(text: &[u8], index: usize) -> u8 {
+pub(crate) fn digit(text: &[u8], index: usize) -> u8 {
     match text.get(index) {
         Some(byte) => byte.saturating_sub(b'0'),
         None => 0,
@@ -596,54 +618,55 @@ fn is_told(plan: &Plan, told: &[u8]) -> bool {
     is_base && are_numbered(plan.batches.as_slice(), part(told, 2))
 }
 
-/// A NEW_VIEW of the two logs of a row.
-fn announcing(alloc: Global, row: &[u8]) -> Result<Message, Fail> {
-    let mut changes = Items::new(alloc);
-    changes.push(change(alloc, part(row, 0))?)?;
-    changes.push(change(alloc, part(row, 25))?)?;
-    Ok(Message::NewView(NewView {
-        view: 2,
-        base: 0,
-        end: 0,
-        plan: *PLAN,
-        body: Body::Whole(NewViewBody { changes }),
-        ui: ui(2, 3, NEW_VIEW),
-    }))
-}
-
-fn plan_of_body(alloc: Global, shape: &Shape, body: &NewViewBody) -> Result<Plan, PlanFault>
-    requires { FitsNewViewBody shape.now body.now }
+/// Whether it is whole, and each field of it has an allowed value.
+fn is_whole(shape: &Shape, change: &ViewChange) -> bool
+    ensures { IsTrue result ↔ FitsMember shape.now change.now }
 {
-    plan_of(alloc, shape, body.changes.as_slice())
-}
-
-fn plan_of_new_view(alloc: Global, shape: &Shape, new_view: &NewView) -> Result<Plan, PlanFault>
-    requires { FitsNewView shape.now new_view.now }
-{
-    match &new_view.body {
-        Body::Whole(body) => plan_of_body(alloc, shape, body),
-        Body::Bare(_) => Err(PlanFault::Few),
+    match &change.body {
+        Body::Whole(_) => change.fits(shape),
+        Body::Bare(_) => false,
     }
 }
 
-/// The plan that a NEW_VIEW's members leave; `Few` too where it isn't one or a field has no allowed value.
-fn plan_left(alloc: Global, shape: &Shape, message: &Message) -> Result<Plan, PlanFault> {
-    if !fields_fit(shape, message) {
-        return Err(PlanFault::Few);
-    }
-    match message {
-        Message::NewView(new_view) => plan_of_new_view(alloc, shape, new_view),
+/// The plan that one or two VIEW_CHANGEs leave; `Few` too where one is not whole or a field has no allowed value.
+pub(crate) fn plan_left(
+    alloc: Global,
+    shape: &Shape,
+    changes: &[ViewChange],
+) -> Result<Plan, PlanFault> {
+    match changes {
+        [one] if is_whole(shape, one) => plan_of(alloc, shape, changes),
+        [one, other] if is_whole(shape, one) && is_whole(shape, other) => {
+            plan_of(alloc, shape, changes)
+        }
         _ => Err(PlanFault::Few),
     }
 }
 
-/// Whether the logs of a row leave its plan.
-fn leave_plan(alloc: Global, shape: &Shape, row: &[u8]) -> Result<bool, Fail> {
-    let message = announcing(alloc, row)?;
-    match plan_left(alloc, shape, &message) {
+/// Whether the logs at these bytes of a row leave its plan.
+fn leave_plan(
+    alloc: Global,
+    shape: &Shape,
+    row: &[u8],
+    logs: (usize, usize),
+) -> Result<bool, Fail> {
+    let mut changes = Items::new(alloc);
+    changes.push(change(alloc, part(row, logs.0))?)?;
+    changes.push(change(alloc, part(row, logs.1))?)?;
+    match plan_left(alloc, shape, changes.as_slice()) {
         Ok(plan) => Ok(is_told(&plan, part(row, 50))),
         Err(_) => Ok(false),
     }
+}
+
+/// What h1 and h2 leave to view 1.
+fn left_to_1(alloc: Global) -> Result<Plan, Fail> {
+    let mut batches = Items::new(alloc);
+    batches.push(asked(alloc)?)?;
+    Ok(Plan {
+        base: at_zero(alloc),
+        batches,
+    })
 }
 
 #[test]
@@ -651,7 +674,18 @@ fn logs_leave_a_plan(rt: HostRuntime) -> Result<(), Fail> {
     let alloc = rt.alloc();
     let three = Shape::new(1, 4, 2)?;
     for row in PLANS {
-        assert!(rt; leave_plan(alloc, &three, row.as_bytes())?, "{row}");
+        assert!(rt;
+            leave_plan(alloc, &three, row.as_bytes(), (0, 25))?,
+            "{row}"
+        );
+        assert!(rt;
+            leave_plan(alloc, &three, row.as_bytes(), (25, 0))?,
+            "{row}, in the other order"
+        );
     }
+    let mut both = both_leave(alloc, CHANGE_2)?.into_vec();
+    assert!(rt; plan_left(alloc, &three, both.as_slice())? == left_to_1(alloc)?);
+    both.reverse();
+    assert!(rt; plan_left(alloc, &three, both.as_slice())? == left_to_1(alloc)?);
     Ok(())
 }
