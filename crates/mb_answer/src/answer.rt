@@ -44,6 +44,7 @@ pub struct Answer {
     pub text: Vec<u8>,
 }
 
+/// The source has more bytes than the longest text.
 pub fn too_long(alloc: Global) -> Result<Answer, NoMemory>
     ensures { IfOk result (λ a. (a.status ≡ 2) × (a.text.items ≡ too_long_text)) }
 {
@@ -53,6 +54,7 @@ pub fn too_long(alloc: Global) -> Result<Answer, NoMemory>
     })
 }
 
+/// The first bad line of a text, by its number from 1.
 pub fn bad_line(alloc: Global, number: u64) -> Result<Answer, NoMemory>
     ensures { IfOk result (λ a. (a.status ≡ 2) × (a.text.items ≡ bad_line_text number)) }
 {
@@ -63,6 +65,7 @@ pub fn bad_line(alloc: Global, number: u64) -> Result<Answer, NoMemory>
     })
 }
 
+/// The event, by its number from 1, that would deliver a certificate which its host never gave at that counter.
 pub fn forged(alloc: Global, event: u64, host: Host, counter: Counter) -> Result<Answer, NoMemory>
     ensures { IfOk result (λ a. (a.status ≡ 3) × (a.text.items ≡ forged_text event host counter)) }
 {
@@ -73,6 +76,7 @@ pub fn forged(alloc: Global, event: u64, host: Host, counter: Counter) -> Result
     })
 }
 
+/// The event, by its number from 1, that would deliver a tag which nobody made.
 pub fn forged_tag(alloc: Global, event: u64) -> Result<Answer, NoMemory>
     ensures { IfOk result (λ a. (a.status ≡ 3) × (a.text.items ≡ forged_tag_text event)) }
 {

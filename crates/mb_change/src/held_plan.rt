@@ -57,6 +57,7 @@ impl HeldPlan {
         self.view
     }
 
+    /// The plan itself: its base, and the batches behind it.
     pub fn plan(&self) -> &Plan
         ensures plan { result.now ≡ self.now.1 }
         ensures hashed { CanHash result.now }

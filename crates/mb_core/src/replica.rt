@@ -113,6 +113,7 @@ impl<V: Service + Drop> Replica<V> {
 
     // ---- what is seen of a host
 
+    /// The size of the system: hosts, clients and the interval of checkpoints.
     pub fn shape(&self) -> Shape
         ensures { result ≡ self.now.state.agreement.shape }
     {

@@ -25,6 +25,7 @@ impl<V: Service + Drop> ReplicaState<V> {
         self.agreement.gates[usize::from(self.agreement.host)].at()
     }
 
+    /// The view in which this host stands, open or not.
     pub fn view(&self) -> View
         ensures { (me : Identity V) (d : History) → Represents me self.now d → result ≡ view_of me d }
     {

@@ -132,7 +132,7 @@ fn main(rt: HostRuntime) -> io::Result<ExitCode> {
         Some(Subject::Messages) => print_speeds(&rt)?,
         Some(Subject::Tables) => print_tables(&rt)?,
         None => {
-            println!(rt; "usage: mb_speed measure")?;
+            println!(rt; "usage: mb_speed measure | tables < NEW_VIEW")?;
             return Ok(ExitCode::from(USAGE));
         }
     }
