@@ -1,7 +1,5 @@
 -- What stands in a message that is no LOG: what stands in the stamped one that it is, and its own certificate behind that.
-use Rattle.std.proofs.Common.{◌≡◌, false, ◌++◌, Bool, Option, Result, refl, sym, subst}
-use Rattle.std.specs.Prelude.{option_map, IfOk}
-use Rattle.std.specs.List.{list_any}
+use Rattle.std.proofs.Common.{◌≡◌, false, ◌++◌, refl}
 use Rattle.mb_base.specs.declared.shape.Shape.{Shape}
 use Rattle.mb_parts.specs.declared.request.Request.{Request}
 use Rattle.mb_msg.specs.declared.normal.Prepare.{Prepare}
@@ -14,16 +12,13 @@ use Rattle.mb_msg.specs.declared.change.Open.{Open}
 use Rattle.mb_msg.specs.declared.transfer.Log.{Log}
 use Rattle.mb_msg.specs.declared.message.Message.{Message}
 use Rattle.mb_msg.specs.declared.message.Message.TheVariants as message
-use Rattle.mb_msg.specs.declared.stamped.Stamped.{Stamped}
-use Rattle.mb_msg.specs.declared.stamped.Stamped.TheVariants as stamped
-use Rattle.mb_msg.specs.Stamps.{as_message, as_stamped}
+use Rattle.mb_msg.specs.Stamps.{as_stamped}
 use Rattle.mb_model.specs.Compared.{inside_some}
 use Rattle.mb_sched.specs.declared.schedule.Schedule.{Schedule}
 use Rattle.mb_theory.specs.World.{World}
-use Rattle.mb_theory.specs.Inside.{claims_in_stamped, stamped_claims, claims_in, requests_in, stamped_requests}
-use Rattle.mb_theory.specs.Forged.{forged_claim, has_forged_tag, is_forged_request}
-use Rattle.mb_forged.specs.declared.checker.ForgedClaim.{ForgedClaim}
-use Rattle.mb_forged.specs.Checks.{first_forged, own_claim, told}
+use Rattle.mb_theory.specs.Inside.{claims_in_stamped, stamped_claims, claims_in, requests_in}
+use Rattle.mb_theory.specs.Forged.{has_forged_tag}
+use Rattle.mb_forged.specs.Checks.{own_claim}
 
 pub own_behind : (s : Shape) (m : Message) → ((x : Log) → m ≡ message.Log x → ⊥) → inside_some (claims_in_stamped s) (as_stamped m) ++ own_claim m ≡ claims_in s m
 unfolding claims_in stamped_claims
@@ -66,36 +61,3 @@ no_tag s w (message.Log m) a b c d e f g h i = absurd (d m refl)
 no_tag s w (message.Fetch m) a b c d e f g h i = refl
 no_tag s w (message.State m) a b c d e f g h i = refl
 no_tag s w (message.Stop m) a b c d e f g h i = refl
-
--- ---- a stamped message
-
-pub stamped_whole : (s : Shape) (m : Stamped) → claims_in s (as_message m) ≡ stamped_claims s m
-unfolding claims_in
-stamped_whole s (stamped.Prepare m) = refl
-stamped_whole s (stamped.Commit m) = refl
-stamped_whole s (stamped.Checkpoint m) = refl
-stamped_whole s (stamped.ViewChange m) = refl
-stamped_whole s (stamped.NewView m) = refl
-stamped_whole s (stamped.Enter m) = refl
-stamped_whole s (stamped.Open m) = refl
-stamped_whole s (stamped.Join m) = refl
-
-pub stamped_tags : (s : Schedule) (w : World) (m : Stamped) → has_forged_tag s w (as_message m) ≡ list_any (is_forged_request s w) (stamped_requests m)
-unfolding has_forged_tag requests_in
-stamped_tags s w (stamped.Prepare m) = refl
-stamped_tags s w (stamped.Commit m) = refl
-stamped_tags s w (stamped.Checkpoint m) = refl
-stamped_tags s w (stamped.ViewChange m) = refl
-stamped_tags s w (stamped.NewView m) = refl
-stamped_tags s w (stamped.Enter m) = refl
-stamped_tags s w (stamped.Open m) = refl
-stamped_tags s w (stamped.Join m) = refl
-
--- The first of its certificates that is forged is told.
-pub told_whole : {E : Type 0} (s : Schedule) (w : World) (m : Stamped) (r : Result (Option ForgedClaim) E) → IfOk r (λ o. o ≡ first_forged s w (stamped_claims s.shape m)) → IfOk r (λ o. o ≡ option_map told (forged_claim s w (as_message m)))
-unfolding forged_claim
-told_whole s w m r is = subst (λ l. IfOk r (λ o. o ≡ first_forged s w l)) (sym (stamped_whole s.shape m)) is
-
--- So is whether a tag is.
-pub tags_whole : {E : Type 0} (s : Schedule) (w : World) (m : Stamped) (r : Result Bool E) → IfOk r (λ b. b ≡ list_any (is_forged_request s w) (stamped_requests m)) → IfOk r (λ b. b ≡ has_forged_tag s w (as_message m))
-tags_whole s w m r is = subst (λ x. IfOk r (λ b. b ≡ x)) (sym (stamped_tags s w m)) is

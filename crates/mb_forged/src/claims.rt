@@ -7,7 +7,7 @@ ghost use Rattle.mb_parts.specs.Fits.{FitsStable, FitsFloorCert, FitsFloors, Fit
 ghost use Rattle.mb_parts.specs.Spelling.{batch_bytes};
 ghost use Rattle.mb_msg.specs.Bodies.{FitsBody, body_digest, inside_whole};
 ghost use Rattle.mb_msg.specs.AsStamped.{stamped_digest};
-ghost use Rattle.mb_msg.specs.Stamps.{as_message, as_stamped, ui_of as uis, ui_of_shown, bare_of as says, bare_of_shown};
+ghost use Rattle.mb_msg.specs.Stamps.{as_stamped, ui_of as uis, ui_of_shown, bare_of as says, bare_of_shown};
 ghost use Rattle.mb_msg.specs.Fits.{FitsFields, FitsStamped, FitsShown, FitsCommit, FitsOpen, FitsJoin, FitsChangeBody, FitsViewChange, FitsNewViewBody, FitsLog};
 ghost use Rattle.mb_model.specs.Compared.{inside_some};
 ghost use Rattle.mb_sched.specs.declared.schedule.Schedule.{Schedule};
@@ -433,18 +433,6 @@ impl<'a> Checker<'a> {
             Message::Log(m) => self.in_log(alloc, m),
             Message::Commit(m) => self.in_commit(alloc, m),
             _ => self.in_other(alloc, message),
-        }
-    }
-
-    /// The first forged certificate of a stamped message, in the order of its bytes. The digest of its body may be known.
-    pub fn forged_in(&self, alloc: Global, m: &Stamped, known: &Option<Digest>) -> Found
-        requires fits { FitsStamped self.now.shape.now m.now }
-        requires known { IfSome known.now (λ k. k ≡ stamped_digest m.now) }
-        ensures { (s : Schedule) (w : World) → AsksIn s w self.now → IfOk result (λ o. o ≡ option_map told (forged_claim s w (as_message m.now))) }
-    {
-        match known {
-            Some(body) => self.in_stamped_of(alloc, m, body),
-            None => self.in_stamped(alloc, m),
         }
     }
 

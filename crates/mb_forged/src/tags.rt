@@ -5,7 +5,6 @@ ghost use Rattle.std.specs.List.{list_any, flat_map, AllByRecursion};
 ghost use Rattle.mb_parts.specs.Fits.{FitsRequest, FitsBatch};
 ghost use Rattle.mb_msg.specs.declared.message.Message.TheVariants as kind;
 ghost use Rattle.mb_msg.specs.Bodies.{FitsBody, inside_whole};
-ghost use Rattle.mb_msg.specs.Stamps.{as_message};
 ghost use Rattle.mb_msg.specs.Fits.{Fits, FitsStamped, FitsShown, FitsOpenParts, FitsViewChange, FitsNewViewBody};
 ghost use Rattle.mb_sched.specs.declared.schedule.Schedule.{Schedule};
 ghost use Rattle.mb_theory.specs.World.{World};
@@ -196,14 +195,6 @@ impl<'a> Checker<'a> {
     }
 
     // ---- in any message
-
-    /// Whether a stamped message has a forged tag: of a request in it.
-    pub fn has_forged_tag_in(&self, alloc: Global, m: &Stamped) -> Found
-        requires { FitsStamped self.now.shape.now m.now }
-        ensures { (s : Schedule) (w : World) → AsksIn s w self.now → IfOk result (λ b. b ≡ has_forged_tag s w (as_message m.now)) }
-    {
-        self.forged_in_stamped(alloc, m)
-    }
 
     /// Whether a message has a forged tag: of a request in it, or its own. It fits.
     pub fn has_forged_tag(&self, alloc: Global, message: &Message) -> Found

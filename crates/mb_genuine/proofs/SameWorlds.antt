@@ -16,6 +16,15 @@ use Rattle.mb_theory.specs.FaultyHosts.{request_at, misfit}
 use Rattle.mb_make.specs.Draws.{Generator, draw}
 use Rattle.mb_make.specs.Soaks.{with_events, generator_after, event_drawn, events_drawn}
 
+pub at_front : {A : Type 0} (l m : List A) (j : ℕ) → j < length l → slice_get (l ++ m) j ≡ slice_get l j
+at_front [] m j lt = absurd (omega (arith, lt))
+at_front (x ∷ l) m zero lt = refl
+at_front (x ∷ l) m (suc j) lt = at_front l m j (omega (arith, lt))
+
+pub at_end : {A : Type 0} (l : List A) (x : A) → slice_get (l ++ x ∷ []) (length l) ≡ Some x
+at_end [] x = refl
+at_end (y ∷ l) x = at_end l x
+
 module _ {S : Type 0} (system : System S) where
   abbrev On : List WorldEvent → System S
   On es = with_events system es
@@ -23,7 +32,7 @@ module _ {S : Type 0} (system : System S) where
   -- ---- one event
 
   module _ (es fs : List WorldEvent) where
-    misfit_same : (w : World) (used : ℕ) (ns : List ℕ) → misfit (On es).schedule w used ns ≡ misfit (On fs).schedule w used ns
+    pub misfit_same : (w : World) (used : ℕ) (ns : List ℕ) → misfit (On es).schedule w used ns ≡ misfit (On fs).schedule w used ns
     unfolding misfit
     misfit_same w used [] = refl
     misfit_same w used (n ∷ ns) = go (λ more. misfit_same w more ns) (request_at (On es).schedule w n) refl where
@@ -115,15 +124,6 @@ module _ {S : Type 0} (system : System S) where
     unfolding events_drawn
     drawn_count zero = refl
     drawn_count (suc n) = omega (arith, length-append (drawn n) (event_drawn (On (drawn n)) seed n ∷ []), drawn_count n)
-
-    at_front : {A : Type 0} (l m : List A) (j : ℕ) → j < length l → slice_get (l ++ m) j ≡ slice_get l j
-    at_front [] m j lt = absurd (omega (arith, lt))
-    at_front (x ∷ l) m zero lt = refl
-    at_front (x ∷ l) m (suc j) lt = at_front l m j (omega (arith, lt))
-
-    at_end : {A : Type 0} (l : List A) (x : A) → slice_get (l ++ x ∷ []) (length l) ≡ Some x
-    at_end [] x = refl
-    at_end (y ∷ l) x = at_end l x
 
     -- The first events stay as more are drawn.
     drawn_stay : (k n j : ℕ) → k ≤ n → j < k → slice_get (drawn k) j ≡ slice_get (drawn n) j

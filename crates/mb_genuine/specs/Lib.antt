@@ -1,2 +1,4 @@
 pub mod NoneForged
+pub mod Reached
+pub mod SentUnforged
 pub mod Soaked

@@ -1,8 +1,17 @@
-//! Where all that happens is made of messages of the system itself, nothing is forged; and so no event of a soak is stopped. It holds no code.
+//! Where nothing forged is delivered, no correct host sends anything forged. Where all that happens is made of messages of the system itself, nothing at all is
+//! forged; so no event of a soak is stopped. It holds no code.
 #![tactic(auto)]
 
 ghost use Rattle.mb_genuine.specs.NoneForged.{NoneIsForged};
+ghost use Rattle.mb_genuine.specs.SentUnforged.{SentIsUnforged};
 ghost use Rattle.mb_genuine.specs.Soaked.{SoaksAreUnstopped};
+
+/// Over any service, in each world that is reached, to which events lead that nothing stopped: where an event comes to a correct host and nothing stops it,
+/// nothing is forged, behind the event, in whatever is read of a message that the host then sends. So it is whoever is faulty, whatever they stamp and
+/// invent, and without a premise about digests.
+pub fn hosts_send_nothing_forged<V>()
+    ensures { SentIsUnforged V }
+{}
 
 /// Over any service, in each world that nothing stopped, where no raw bytes came in and faulty hosts stamped no other than PREPAREs of
 /// requests: whatever is read of a message that was made, neither a certificate nor a tag in it is forged. So it is whoever is faulty, and without a

@@ -16,16 +16,17 @@ use Rattle.mb_msg.specs.Spelling.{spelling}
 use Rattle.mb_msg.specs.Stamps.{as_stamped, bare_of}
 use Rattle.mb_msg.proofs.Messages.{message_again}
 use Rattle.mb_model.specs.Sending.{Letter}
+use Rattle.mb_model.proofs.Members.{In, contained}
 use Rattle.mb_model.proofs.ShapesFit.{shape_fits}
 use Rattle.mb_sched.specs.declared.schedule.Schedule.{Schedule}
 use Rattle.mb_theory.specs.World.{World as WorldState, update, numbered, read, stamps, is_tagged_message, with_tagged}
 use Rattle.mb_theory.proofs.Lists.{get_more}
-use Rattle.mb_forged.specs.Checks.{MadeMore}
+use Rattle.mb_forged.specs.Checks.{IsClean, MadeMore}
 use Rattle.mb_forged.proofs.CleanLaws.{clean_stays}
 use Rattle.mb_replica.specs.declared.told.Said.{Said}
 use Rattle.mb_replica.specs.Told.{KnowsBytes, as_outgoing, said_of}
 use Rattle.mb_parties.specs.declared.marks.Mark.{Mark}
-use Rattle.mb_parties.specs.Marks.{IsBodyAt, IsCleanAt, IsMarkAt, AreMarks, MarkedMore, lengthened, made_mark, mark_at, unmarked}
+use Rattle.mb_parties.specs.Marks.{IsBodyAt, IsCleanAt, IsMarkAt, AreMarks, AreSentClean, MarkedMore, lengthened, sent_mark, mark_at, unmarked}
 use Rattle.mb_parties.specs.Stamps.{FitsWhereStamped, IsReadable}
 use Rattle.mb_parties.proofs.ListLaws.{update_here, update_there}
 
@@ -117,8 +118,8 @@ marked_more s x old new number more is are = λ n. record {
 -- ---- what a correct host sent
 
 -- Of what it sent, as bytes with what was stamped.
-abbrev made_marks : List Letter → List Mark
-made_marks letters = map made_mark (map as_outgoing letters)
+abbrev sent_marks : List Letter → List Mark
+sent_marks letters = map sent_mark (map as_outgoing letters)
 
 -- A mark in front of so many is as it was, and one behind them that of what was sent.
 abbrev Either : List Mark → List Mark → ℕ → ℕ → Mark → Type 0
@@ -157,29 +158,29 @@ module _ (s : Schedule) where
       ap stamped_digest (same_Some st other (sym is ∙ (ap as_stamped (same_message m read fits reads) ∙ stamped)))
 
   -- what is said of one letter
-  one_said : (x : WorldState) (n : ℕ) (l : Letter) → IsReadable s.shape l → numbered x.pool n ≡ Some (spelling l.says) → IsMarkAt s x n (made_mark (as_outgoing l))
-  one_said x n l readable made = record { clean = λ e. absurd cc; body = body_said (as_stamped l.says) refl } where
+  one_said : (x : WorldState) (n : ℕ) (l : Letter) → IsReadable s.shape l → ((m : Message) → read s (spelling l.says) ≡ Some m → IsClean s x m) → numbered x.pool n ≡ Some (spelling l.says) → IsMarkAt s x n (sent_mark (as_outgoing l))
+  one_said x n l readable clean made = record { clean = λ e. record { bytes = spelling l.says; made = made; clean = clean }; body = body_said (as_stamped l.says) refl } where
     body_said : (o : Option Stamped) → as_stamped l.says ≡ o → IfSome (option_map (λ (t : Said). t.body) (option_map said_of o)) (IsBodyAt s x n)
     body_said None e = tt
     body_said (Some st) e = record { bytes = spelling l.says; made = made; knows = knows_sent l.says readable st e }
 
-  letters_said : (x : WorldState) (count : ℕ) (letters : List Letter) → FitsWhereStamped s.shape letters
-      → ((k : ℕ) (b : Bytes) → slice_get (map (λ (l : Letter). spelling l.says) letters) k ≡ Some b → numbered x.pool (count + k) ≡ Some b) → (k : ℕ) → IsMarkAt s x (count + k) (mark_at (made_marks letters) k)
-  letters_said x count [] fit there k = rw (none_at k) (nothing_said s x (count + k))
-  letters_said x count (l ∷ letters) fit there zero = one_said x (count + 0) l fit.0 (there 0 (spelling l.says) refl)
-  letters_said x count (l ∷ letters) fit there (suc k) =
+  letters_said : (x : WorldState) (count : ℕ) (letters : List Letter) → FitsWhereStamped s.shape letters → ((l : Letter) (m : Message) → In letters l → read s (spelling l.says) ≡ Some m → IsClean s x m)
+      → ((k : ℕ) (b : Bytes) → slice_get (map (λ (l : Letter). spelling l.says) letters) k ≡ Some b → numbered x.pool (count + k) ≡ Some b) → (k : ℕ) → IsMarkAt s x (count + k) (mark_at (sent_marks letters) k)
+  letters_said x count [] fit clean there k = rw (none_at k) (nothing_said s x (count + k))
+  letters_said x count (l ∷ letters) fit clean there zero = one_said x (count + 0) l fit.0 (λ m reads. clean l m (inl refl) reads) (there 0 (spelling l.says) refl)
+  letters_said x count (l ∷ letters) fit clean there (suc k) =
       let step : (count + 1) + k ≡ count + suc k = omega arith in
-      subst (λ (n : ℕ). IsMarkAt s x n (mark_at (made_marks letters) k)) step
-      (letters_said x (count + 1) letters fit.1 (λ i b at. subst (λ (n : ℕ). numbered x.pool n ≡ Some b) (omega arith) (there (suc i) b at)) k)
+      subst (λ (n : ℕ). IsMarkAt s x n (mark_at (sent_marks letters) k)) step
+      (letters_said x (count + 1) letters fit.1 (λ o m i reads. clean o m (inr i) reads) (λ i b at. subst (λ (n : ℕ). numbered x.pool n ≡ Some b) (omega arith) (there (suc i) b at)) k)
 
   -- The marks behind a step.
-  pub marks_sent : (x z : WorldState) (marks new : List Mark) (letters : List Letter) (count : ℕ) → AreMarks s x marks → GoesOn s x z → FitsWhereStamped s.shape letters → z.pool ≡ x.pool ++ map (λ (l : Letter). spelling l.says) letters
-      → count ≡ length x.pool + 1 → new ≡ take count (lengthened marks count) ++ made_marks letters → AreMarks s z new
-  marks_sent x z marks new letters count are on fit pool many is = λ n.
+  pub marks_sent : (x z : WorldState) (marks new : List Mark) (letters : List Letter) (count : ℕ) → AreMarks s x marks → GoesOn s x z → FitsWhereStamped s.shape letters → AreSentClean s z letters → z.pool ≡ x.pool ++ map (λ (l : Letter). spelling l.says) letters
+      → count ≡ length x.pool + 1 → new ≡ take count (lengthened marks count) ++ sent_marks letters → AreMarks s z new
+  marks_sent x z marks new letters count are on fit clean pool many is = λ n.
       let still = still_marked s x z marks on are in
-      rw is (elim (one_of marks (made_marks letters) count (count - length marks) n (omega arith)) [
+      rw is (elim (one_of marks (sent_marks letters) count (count - length marks) n (omega arith)) [
         | inl same ↦ rw same (still n)
-        | inr (k, (at, same)) ↦ rw (same, at) (letters_said z count letters fit (λ i b there. in_pool i b there) k)
+        | inr (k, (at, same)) ↦ rw (same, at) (letters_said z count letters fit (λ l m i reads. clean l m (contained letters l i) reads) (λ i b there. in_pool i b there) k)
       ]) where
         in_pool : (i : ℕ) (b : Bytes) → slice_get (map (λ (l : Letter). spelling l.says) letters) i ≡ Some b → numbered z.pool (count + i) ≡ Some b
         in_pool i b there =

@@ -10,7 +10,7 @@
 //! | `clients` | all clients before the first event, what each signs with, its next request, and whether a reply counts |
 //! | `replies` | the client that the bytes of a message are to, exactly where they are a REPLY |
 //! | `stamps` | the ledger behind a correct host's step: what it stamped, and the tags that it made |
-//! | `marks` | what is known of the message of a number, behind a look through it and behind a step |
+//! | `marks` | what is known of the message of a number, once a correct host sent it or it was looked through |
 //! | `additions` | the messages that were made and the one list of executed batches, behind a step |
 //! | `refusals`, `lines` | the line of a refused event, and the lines of a report on hosts and clients |
 #![tactic(auto)]
@@ -28,7 +28,7 @@ mod stamps;
 pub use additions::{add_messages, extend_line};
 pub use clients::{ask_of, askers, pens, reply_in, take_of};
 pub use lines::{client_lines, host_lines, refused_lines};
-pub use marks::{Mark, mark_of, note_clean, note_made};
+pub use marks::{Mark, mark_of, note_clean, note_sent};
 pub use members::{FaultyHost, Member, Stamp, new_members, step_at};
 pub use refusals::{outcome_line, refused_line};
 pub use replies::client_of_reply;

@@ -1,7 +1,7 @@
-//! What is known of each message, by its number: whether it was looked through and nothing in it is forged, and the digest of its body.
+//! What is known of each message, by its number: that nothing in it is forged, and the digest of its body.
 
 ghost use Rattle.std.specs.Prelude.{◌≡◌, ◌++◌, ℕ, map, take, OnOk};
-ghost use Rattle.mb_parties.specs.Marks.{MarkedMore, lengthened, made_mark, mark_at};
+ghost use Rattle.mb_parties.specs.Marks.{MarkedMore, lengthened, sent_mark, mark_at};
 
 use mb_base::{Digest, NoMemory};
 use mb_replica::Outgoing;
@@ -9,7 +9,7 @@ use mb_replica::Outgoing;
 /// What is known of the message of a number.
 #[derive(Clone, Copy)]
 pub struct Mark {
-    /// It was looked through, and nothing in it is forged.
+    /// It is known that nothing in it is forged: a correct host sent it, or it was looked through.
     pub clean: bool,
     /// The digest of its body, where a correct host stamped it.
     pub body: Option<Digest>,
@@ -54,25 +54,25 @@ pub fn note_clean(marks: &mut Vec<Mark>, count: usize, number: u64) -> Result<()
     Ok(())
 }
 
-/// Behind the numbers below `count` these messages were made, in this order: of each the digest of its body is known, where it is stamped. An error
-/// comes where memory runs out, and only there.
-pub fn note_made(marks: &mut Vec<Mark>, count: usize, sent: &[Outgoing]) -> Result<(), NoMemory>
-    ensures { OnOk result (marks.new.items ≡ take count (lengthened marks.old.items count) ++ map made_mark sent.now) }
+/// Behind the numbers below `count` a correct host sent these messages, in this order: nothing in them is forged, and of each the digest of its body is
+/// known, where it is stamped. An error comes where memory runs out, and only there.
+pub fn note_sent(marks: &mut Vec<Mark>, count: usize, sent: &[Outgoing]) -> Result<(), NoMemory>
+    ensures { OnOk result (marks.new.items ≡ take count (lengthened marks.old.items count) ++ map sent_mark sent.now) }
 {
     lengthen(marks, count)?;
     marks.truncate(count);
     for outgoing in sent {
-        marks.push(made_mark(outgoing))?;
+        marks.push(sent_mark(outgoing))?;
     }
     Ok(())
 }
 
-/// What is known of a message that a correct host just sent.
-fn made_mark(outgoing: &Outgoing) -> Mark
-    ensures { result ≡ made_mark outgoing.now }
+/// What is known of a message that a correct host just sent. Nothing in it is forged, so nobody looks it through.
+fn sent_mark(outgoing: &Outgoing) -> Mark
+    ensures { result ≡ sent_mark outgoing.now }
 {
     Mark {
-        clean: false,
+        clean: true,
         body: match &outgoing.said {
             Some(said) => Some(said.body),
             None => None,

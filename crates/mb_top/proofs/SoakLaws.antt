@@ -11,7 +11,9 @@ use Rattle.mb_theory.specs.Headline.{Promises}
 use Rattle.mb_make.specs.Draws.{Generator, Represents, HasDrawn, draw}
 use Rattle.mb_make.specs.declared.maker.Maker.{Maker}
 use Rattle.mb_make.specs.Soaks.{generator_after, event_drawn, played, IsSoaked}
+use Rattle.mb_genuine.specs.Reached.{IsReached}
 use Rattle.mb_genuine.specs.Soaked.{IsSoak}
+use Rattle.mb_genuine.proofs.Reached.{reached_at}
 use Rattle.mb_genuine.proofs.Soaked.{soaks_are_unstopped}
 use Rattle.mb_top.specs.declared.command.Command.{Command}
 use Rattle.mb_top.specs.declared.command.Command.TheVariants.{Soak}
@@ -54,6 +56,10 @@ module _ (seed n : ℕ) (few : n ≤ 100000) where
 
     pub unstopped : stop_of (soak_of seed n) (world (soak_of seed n) k) event ≡ None
     unstopped = is_soak.unstopped k event lt at
+
+    -- the world before it
+    pub reached : IsReached (system_of (soak_of seed n)) (world (soak_of seed n) k)
+    reached = reached_at (system_of (soak_of seed n)) k (λ j e low there. is_soak.unstopped j e (omega (arith, low, lt)) there)
 
   -- where the generator stands behind one more, and the event that is played of what it drew
   pub drawn_next : (k pool : ℕ) (old new : Maker) (drawn e : WorldEvent) → pool ≡ length (world (soak_of seed n) k).pool → Represents old (generator k) → HasDrawn (draw pool) old new drawn

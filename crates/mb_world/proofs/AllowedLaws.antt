@@ -7,10 +7,6 @@ use Rattle.std.proofs.lemmas.List.{at_drop_more, at_drop_all}
 use Rattle.std.proofs.lemmas.Option.{same_Some, none-some}
 use Rattle.mb_base.specs.Shapes.{Bytes}
 use Rattle.mb_msg.specs.declared.message.Message.{Message}
-use Rattle.mb_msg.specs.declared.message.Message.TheVariants as message
-use Rattle.mb_msg.specs.declared.stamped.Stamped.{Stamped as StampedMessage}
-use Rattle.mb_msg.specs.declared.stamped.Stamped.TheVariants as stamped
-use Rattle.mb_msg.specs.Stamps.{as_message, as_stamped}
 use Rattle.mb_model.proofs.Options.{option_cases}
 use Rattle.mb_sched.specs.declared.schedule.Schedule.{Schedule}
 use Rattle.mb_theory.specs.World.{World as WorldState, numbered, read, message_at}
@@ -92,24 +88,3 @@ module _ (s : Schedule) (x : WorldState) where
 pub told_alone : {A : Type 0} (o : Option Stop) (r : Result A WorldStop) → Tells o r → Tells (option_or o None) r
 told_alone None r t = t
 told_alone (Some e) r t = t
-
--- ---- stamped messages
-
--- A stamped message is the message that it was read as.
-pub stamped_is : (m : Message) (x : StampedMessage) → as_stamped m ≡ Some x → m ≡ as_message x
-stamped_is (message.Prepare m) x e = ap as_message (same_Some (stamped.Prepare m) x e)
-stamped_is (message.Commit m) x e = ap as_message (same_Some (stamped.Commit m) x e)
-stamped_is (message.Checkpoint m) x e = ap as_message (same_Some (stamped.Checkpoint m) x e)
-stamped_is (message.ViewChange m) x e = ap as_message (same_Some (stamped.ViewChange m) x e)
-stamped_is (message.NewView m) x e = ap as_message (same_Some (stamped.NewView m) x e)
-stamped_is (message.Enter m) x e = ap as_message (same_Some (stamped.Enter m) x e)
-stamped_is (message.Open m) x e = ap as_message (same_Some (stamped.Open m) x e)
-stamped_is (message.Join m) x e = ap as_message (same_Some (stamped.Join m) x e)
-stamped_is (message.Request m) x e = absurd cc
-stamped_is (message.Reply m) x e = absurd cc
-stamped_is (message.ReqViewChange m) x e = absurd cc
-stamped_is (message.Resend m) x e = absurd cc
-stamped_is (message.Log m) x e = absurd cc
-stamped_is (message.Fetch m) x e = absurd cc
-stamped_is (message.State m) x e = absurd cc
-stamped_is (message.Stop m) x e = absurd cc

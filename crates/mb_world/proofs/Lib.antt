@@ -2,6 +2,7 @@ pub mod WorldLaws
 pub mod AnswerLaws
 pub mod StopLaws
 pub mod GivenLaws
+pub mod SentLaws
 pub mod RunLaws
 pub mod EventLaws
 pub mod AllowedLaws

@@ -28,4 +28,4 @@ module _ {V : Type 0} {g : Ghosts V} (v w : World V g) where
 
   pub still_has : (is_state : V → Type 0) (after : V → Bytes → V) (result : V → Bytes → Bytes) (part : V → ℕ → Bytes) (restored : List Bytes → Result V (ℕ × ℕ)) → HasWorld is_state after result part restored v → HasTables v w
       → HasWorld is_state after result part restored w
-  still_has is_state after result part restored old same = record { system = old.system; state = old.state; is = old.is; represents = still_stands old.system old.state old.represents same }
+  still_has is_state after result part restored old same = record { system = old.system; state = old.state; is = old.is; reached = old.reached; represents = still_stands old.system old.state old.represents same }

@@ -1,5 +1,5 @@
 -- What each event does to the tables of a world.
-use Rattle.std.proofs.Common.{◌≡◌, ℕ, suc, ◌+◌, true, false, List, [], ◌∷◌, ◌++◌, length, map, Option, Some, None, Result, Ok, Err, IfOk, OnOk, IfSome, take, refl, sym, ap, subst, inl, inr, ◌∙◌, arith}
+use Rattle.std.proofs.Common.{◌≡◌, ℕ, suc, ◌+◌, Bool, true, false, List, [], ◌∷◌, ◌++◌, length, map, Option, Some, None, Result, Ok, Err, IfOk, OnOk, IfSome, take, refl, sym, ap, subst, inl, inr, ◌∙◌, arith}
 use Rattle.std.specs.Prelude.{reverse, filter_map, fold, slice_get}
 use Rattle.std.specs.Option.{option_to_list}
 use Rattle.std.proofs.lemmas.List.{append-nil}
@@ -33,8 +33,9 @@ use Rattle.mb_parties.specs.declared.members.Member.TheVariants as member
 use Rattle.mb_parties.specs.Members.{AllRest, IsCorrectHost, RepresentsMembers}
 use Rattle.mb_parties.specs.Askers.{RepresentsAskers}
 use Rattle.mb_world.specs.Answers.{as_answer}
-use Rattle.mb_parties.specs.Marks.{IsBodyAt, lengthened, made_mark, mark_at}
+use Rattle.mb_parties.specs.Marks.{IsBodyAt, lengthened, sent_mark, mark_at}
 use Rattle.mb_parties.specs.Stamps.{FitsWhereStamped, bare_in, bares_of}
+use Rattle.mb_world.specs.Sent.{SendsClean, SentIsClean}
 use Rattle.mb_world.specs.Tables.{RepresentsRest, RepresentsWorld, Leaves}
 use Rattle.mb_parties.proofs.MarkLaws.{GoesOn, goes_same, goes_still, longer_stamps, still_marked, marks_sent}
 use Rattle.mb_parties.proofs.KeepLaws.{keeps_same, correct_stamps, faulty_stamps_more, sent_bytes, went_partway}
@@ -176,12 +177,12 @@ module _ {V : Type 0} {g : Ghosts V} (y : System V) where
 
 -- the tables once a step's messages and batches are kept
 pub partway_stands : {V : Type 0} {g : Ghosts V} (y : System V) (v w : World V g) (x : WorldState) (h : ℕ) (told : Told) (a : Answer) → RepresentsMembers y v.members.items (update x.histories h a.left.history) x.faulty_stamps → RepresentsRest y.schedule v x
-    → IsTold told a → IsHeld v w → FitsWhereStamped y.schedule.shape a.left.sent → w.marks.items ≡ take (length v.pool.items + 1) (lengthened v.marks.items (length v.pool.items + 1)) ++ map made_mark told.sent → w.members ≡ v.members → w.askers ≡ v.askers
+    → IsTold told a → IsHeld v w → FitsWhereStamped y.schedule.shape a.left.sent → w.marks.items ≡ take (length v.pool.items + 1) (lengthened v.marks.items (length v.pool.items + 1)) ++ map sent_mark told.sent → w.members ≡ v.members → w.askers ≡ v.askers
     → Keeps y.schedule.shape w.ledger (update (stamps y.schedule x) h (reverse (filter_map bare_in a.left.sent) ++ stamps y.schedule x h)) x.asked (fold with_tagged x.tagged a.left.sent)
     → w.pool.items ≡ v.pool.items ++ map (λ (m : Outgoing). m.bytes) told.sent → w.line.items ≡ fold extended v.line.items told.executed → w.refused ≡ v.refused → w.events ≡ v.events
-    → is_faulty y.schedule h ≡ false → bares_of a.left.history ≡ reverse (filter_map bare_in a.left.sent) ++ bares_of (x.histories h)
+    → is_faulty y.schedule h ≡ false → bares_of a.left.history ≡ reverse (filter_map bare_in a.left.sent) ++ bares_of (x.histories h) → SentIsClean y x h a
     → RepresentsWorld y w (partway y.schedule h a.left x)
-partway_stands y v w x h told a members old is fixed fit marks same_members same_askers ledger pool line refused events correct longer =
+partway_stands y v w x h told a members old is fixed fit marks same_members same_askers ledger pool line refused events correct longer clean =
     let s : Schedule = y.schedule in
     record {
       members = rw same_members members;
@@ -195,13 +196,17 @@ partway_stands y v w x h told a members old is fixed fit marks same_members same
         ledger = keeps_same s.shape w.ledger (update (stamps s x) h (reverse (filter_map bare_in a.left.sent) ++ stamps s x h)) (stamps s (record x { histories = update x.histories h a.left.history })) x.asked (fold with_tagged x.tagged a.left.sent)
             (correct_stamps s x h a.left.history (reverse (filter_map bare_in a.left.sent)) correct longer) ledger;
         pool = pool ∙ rw (old.pool, is.sent) (ap (λ (l : List Bytes). x.pool ++ l) (sent_bytes a.left.sent));
-        marks = marks_sent s x (partway s h a.left x) v.marks.items w.marks.items a.left.sent (length v.pool.items + 1) old.marks (went_partway s x h a.left correct longer) fit refl
-            (ap (λ (p : List Bytes). length p + 1) old.pool) (marks ∙ ap (λ (l : List Outgoing). take (length v.pool.items + 1) (lengthened v.marks.items (length v.pool.items + 1)) ++ map made_mark l) is.sent);
+        marks = marks_sent s x (partway s h a.left x) v.marks.items w.marks.items a.left.sent (length v.pool.items + 1) old.marks (went_partway s x h a.left correct longer) fit clean refl
+            (ap (λ (p : List Bytes). length p + 1) old.pool) (marks ∙ ap (λ (l : List Outgoing). take (length v.pool.items + 1) (lengthened v.marks.items (length v.pool.items + 1)) ++ map sent_mark l) is.sent);
         line = line ∙ rw (old.line, is.executed) refl;
         refused = rw refused old.refused;
         events = events ∙ old.events;
       };
     }
+
+not_both : (b : Bool) → b ≡ true → b ≡ false → ⊥
+not_both true e f = absurd cc
+not_both false e f = absurd cc
 
 -- ---- a client reads
 
@@ -218,13 +223,14 @@ module _ {V : Type 0} {g : Ghosts V} (y : System V) where
 
   -- Bytes are given to a host, whose step is that of any world in which it was given them.
   pub host_given : {E : Type 0} (v w : World V g) (x : WorldState) (h : ℕ) (bytes : Bytes) (r : Result Seen E) → RepresentsWorld y v x
-      → ((z : WorldState) → RepresentsWorld y v z → IfOk r (λ a. Leaves y w (as_answer a) z (lost_or (is_faulty y.schedule h) (steps y h (event.Given bytes)) z)))
+      → ((z : WorldState) → RepresentsWorld y v z → SendsClean y z h (event.Given bytes) → IfOk r (λ a. Leaves y w (as_answer a) z (lost_or (is_faulty y.schedule h) (steps y h (event.Given bytes)) z)))
+      → SendsClean y (arrives y.schedule h bytes x) h (event.Given bytes)
       → IfOk r (λ a. Leaves y w (as_answer a) x (give_host y h bytes x))
   unfolding give_host
-  host_given v w x h bytes r old all = elim (cases_Bool (is_faulty y.schedule h)) [
-    | inl faulty ↦ let there = all x old in rw faulty (rw faulty at there)
+  host_given v w x h bytes r old all clean = elim (cases_Bool (is_faulty y.schedule h)) [
+    | inl faulty ↦ let there = all x old (λ correct. absurd (not_both (is_faulty y.schedule h) faulty correct)) in rw faulty (rw faulty at there)
     | inr correct ↦
-        let there = all (arrives y.schedule h bytes x) (also_arrived y v x h bytes old) in
+        let there = all (arrives y.schedule h bytes x) (also_arrived y v x h bytes old) clean in
         let here = rw correct at there in
         rw correct (if_ok_more r _ _ here (λ a left. leaves_from y w (as_answer a) x (arrives y.schedule h bytes x) _ refl left))
   ]

@@ -1,4 +1,5 @@
 pub mod Answers
 pub mod Tables
+pub mod Sent
 pub mod Contents
 pub mod Reports

@@ -4,6 +4,7 @@ use Rattle.mb_base.specs.Shapes.{Bytes}
 use Rattle.mb_sched.specs.declared.schedule.Schedule.{Schedule}
 use Rattle.mb_theory.specs.Refusals.{refusals}
 use Rattle.mb_theory.specs.World.{World as WorldState, System, Seen as Answer}
+use Rattle.mb_genuine.specs.Reached.{IsReached}
 use Rattle.mb_forged.specs.Ledgers.{KeepsWorld}
 use Rattle.mb_forged.specs.Checks.{ArePens}
 use Rattle.mb_service.specs.declared.service.Service.{Ghosts}
@@ -34,11 +35,12 @@ pub record RepresentsWorld {V : Type 0} {g : Ghosts V} (y : System V) (w : World
   pub members : RepresentsMembers y w.members.items x.histories x.faulty_stamps
   pub rest : RepresentsRest y.schedule w x
 
--- There is a world of the definitions that it represents, of hosts with this service.
+-- There is a world of the definitions that it represents, of hosts with this service, to which events lead that nothing stopped.
 pub record HasWorld {V : Type 0} {g : Ghosts V} (is_state : V → Type 0) (after : V → Bytes → V) (result : V → Bytes → Bytes) (part : V → ℕ → Bytes) (restored : List Bytes → Result V (ℕ × ℕ)) (w : World V g) : Type 0 where
   pub system : System V
   pub state : WorldState
   pub is : IsSystem is_state after result part restored system
+  pub reached : IsReached system state
   pub represents : RepresentsWorld system w state
 
 -- the world after an event, with what it answered

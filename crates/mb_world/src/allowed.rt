@@ -6,7 +6,7 @@ ghost use Rattle.mb_world.specs.Contents.{stamping_host};
 
 use crate::seen::WorldStop;
 use crate::world::World;
-use mb_base::{Counter, Digest, Host, Items, MESSAGE_LIMIT, NoMemory, View};
+use mb_base::{Counter, Host, Items, MESSAGE_LIMIT, NoMemory, View};
 use mb_forged::{Checker, ForgedClaim, change_with, checkpoint_with, commit_for, prepare_with};
 use mb_msg::{Batch, Message, Stamped, Undecoded, decode};
 use mb_parties::{Member, mark_of};
@@ -54,9 +54,7 @@ impl<V: Service + Drop> World<V> {
     ghost use Rattle.mb_base.specs.Shapes.{host_count};
     ghost use Rattle.mb_parts.specs.Fits.{IsPosition, FitsBatch, FitsRequest};
     ghost use Rattle.mb_msg.specs.Fits.{Fits, FitsStamped};
-    ghost use Rattle.mb_msg.specs.Reading.{message_of};
-    ghost use Rattle.mb_msg.specs.Stamps.{as_message, as_stamped};
-    ghost use Rattle.mb_replica.specs.Told.{KnowsBody, KnowsBytes, KnowsMessage};
+    ghost use Rattle.mb_msg.specs.Stamps.{as_stamped};
     ghost use Rattle.mb_sched.specs.Limits.{EventFits, NameFits, is_faulty};
     ghost use Rattle.mb_theory.specs.World.{World as WorldState, System, numbered, read, message_at};
     ghost use Rattle.mb_theory.specs.WorldEvents.{is_faulty_name};
@@ -68,7 +66,7 @@ impl<V: Service + Drop> World<V> {
     ghost use Rattle.mb_world.specs.declared.seen.WorldStop.TheVariants as stop;
     ghost use Rattle.mb_world.specs.Answers.{Tells, TellsStop};
     ghost use Rattle.mb_world.specs.Contents.{Gives, Stamps, IsAllowed, found_in, rest_stop};
-    ghost use Rattle.mb_world.specs.Tables.{HasWorld, RepresentsWorld};
+    ghost use Rattle.mb_world.specs.Tables.{RepresentsWorld};
 
     /// Whether an event can be, and the content that it has a faulty host stamp, if any. Of several stops the first comes in this order:
     /// `NotFaulty`, `NoSuchMessage`, `WrongKind`, `Forged`, `ForgedTag`.
@@ -79,7 +77,6 @@ impl<V: Service + Drop> World<V> {
     ) -> Result<Option<Stamped>, WorldStop>
         requires fits { EventFits self.now.shape event.now }
         requires few { self.now.events < 2 ^ 64 - 1 }
-        requires has { HasWorld V.is_state V.after V.answer V.part_of V.restored self.now }
         ensures stops { (y : System V) (x : WorldState) → RepresentsWorld y self.now x → Tells (stop_of y.schedule x event.now) result }
         ensures content { (y : System V) (x : WorldState) → RepresentsWorld y self.now x → IfOk result (IsAllowed y.schedule x event.now) }
         ensures fits { IfOk result (λ o. IfSome o (FitsStamped self.now.shape)) }
@@ -98,7 +95,6 @@ impl<V: Service + Drop> World<V> {
     fn content_of(&self, alloc: Global, event: &WorldEvent) -> Result<Option<Stamped>, WorldStop>
         requires fits { EventFits self.now.shape event.now }
         requires few { self.now.events < 2 ^ 64 - 1 }
-        requires has { HasWorld V.is_state V.after V.answer V.part_of V.restored self.now }
         ensures stops { (y : System V) (x : WorldState) → RepresentsWorld y self.now x → name_stop y.schedule x event.now ≡ None → Tells (rest_stop y.schedule x event.now) result }
         ensures content { (y : System V) (x : WorldState) → RepresentsWorld y self.now x → name_stop y.schedule x event.now ≡ None → IfOk result (Stamps y.schedule x event.now) }
         ensures fits { IfOk result (λ o. IfSome o (FitsStamped self.now.shape)) }
@@ -115,12 +111,7 @@ impl<V: Service + Drop> World<V> {
                 Name::Client(*client),
                 *message,
             ),
-            WorldEvent::Raw { name, bytes } => self.check_bytes(
-                alloc,
-                *name,
-                bytes.as_slice(),
-                &None,
-            ),
+            WorldEvent::Raw { name, bytes } => self.check_bytes(alloc, *name, bytes.as_slice()),
             WorldEvent::StampPrepare {
                 view,
                 pos,
@@ -215,7 +206,6 @@ impl<V: Service + Drop> World<V> {
 
     fn read_bytes(&self, alloc: Global, bytes: &[u8]) -> Result<Option<Message>, NoMemory>
         ensures message { (y : System V) (x : WorldState) → RepresentsWorld y self.now x → IfOk result (λ o. o ≡ read y.schedule bytes.now) }
-        ensures reads { IfOk result (λ o. IfSome o (λ m. message_of self.now.shape bytes.now ≡ Ok m)) }
         ensures fits { IfOk result (λ o. IfSome o (Fits self.now.shape)) }
     {
         match decode(alloc, &self.shape, bytes) {
@@ -364,7 +354,6 @@ impl<V: Service + Drop> World<V> {
     ) -> Result<Option<Stamped>, WorldStop>
         requires name { NameFits self.now.shape name }
         requires few { self.now.events < 2 ^ 64 - 1 }
-        requires has { HasWorld V.is_state V.after V.answer V.part_of V.restored self.now }
         ensures stops { (y : System V) (x : WorldState) → RepresentsWorld y self.now x → Tells (found_in y.schedule x (option_and_then (read y.schedule) (to_correct y.schedule x (is_faulty_name y.schedule name) (numbered x.pool number)))) result }
         ensures none { IfOk result (λ o. o ≡ None) }
         ensures runs { (result ≡ Err stop.Halted) → ⊥ }
@@ -374,7 +363,7 @@ impl<V: Service + Drop> World<V> {
             return Ok(None);
         }
         match self.message(number) {
-            Some(bytes) => self.check_bytes(alloc, name, bytes.as_slice(), &mark.body),
+            Some(bytes) => self.check_bytes(alloc, name, bytes.as_slice()),
             None => Ok(None),
         }
     }
@@ -385,10 +374,8 @@ impl<V: Service + Drop> World<V> {
         alloc: Global,
         name: Name,
         bytes: &[u8],
-        known: &Option<Digest>,
     ) -> Result<Option<Stamped>, WorldStop>
         requires name { NameFits self.now.shape name }
-        requires known { KnowsBytes self.now.shape known.now bytes.now }
         requires few { self.now.events < 2 ^ 64 - 1 }
         ensures stops { (y : System V) (x : WorldState) → RepresentsWorld y self.now x → Tells (found_in y.schedule x (option_and_then (read y.schedule) (to_correct y.schedule x (is_faulty_name y.schedule name) (Some bytes.now)))) result }
         ensures none { IfOk result (λ o. o ≡ None) }
@@ -398,7 +385,7 @@ impl<V: Service + Drop> World<V> {
             return Ok(None);
         }
         match self.read_bytes(alloc, bytes)? {
-            Some(message) => self.check_read(alloc, message, known),
+            Some(message) => self.check_forged(alloc, &message),
             None => Ok(None),
         }
     }
@@ -417,46 +404,7 @@ impl<V: Service + Drop> World<V> {
         }
     }
 
-    fn check_read(
-        &self,
-        alloc: Global,
-        message: Message,
-        known: &Option<Digest>,
-    ) -> Result<Option<Stamped>, WorldStop>
-        requires fits { Fits self.now.shape message }
-        requires few { self.now.events < 2 ^ 64 - 1 }
-        requires known { KnowsMessage known.now message }
-        ensures stops { (y : System V) (x : WorldState) → RepresentsWorld y self.now x → Tells (found_in y.schedule x (Some message)) result }
-        ensures none { IfOk result (λ o. o ≡ None) }
-        ensures runs { (result ≡ Err stop.Halted) → ⊥ }
-    {
-        match message.into_stamped() {
-            Ok(stamped) => self.check_stamped(alloc, &stamped, known),
-            Err(message) => self.check_forged(alloc, &message),
-        }
-    }
-
-    /// What is forged in a stamped message.
-    fn check_stamped(
-        &self,
-        alloc: Global,
-        message: &Stamped,
-        known: &Option<Digest>,
-    ) -> Result<Option<Stamped>, WorldStop>
-        requires fits { FitsStamped self.now.shape message.now }
-        requires few { self.now.events < 2 ^ 64 - 1 }
-        requires known { KnowsBody known.now message.now }
-        ensures stops { (y : System V) (x : WorldState) → RepresentsWorld y self.now x → Tells (found_in y.schedule x (Some (as_message message.now))) result }
-        ensures none { IfOk result (λ o. o ≡ None) }
-        ensures runs { (result ≡ Err stop.Halted) → ⊥ }
-    {
-        let checker = self.checker();
-        let claim = checker.forged_in(alloc, message, known)?;
-        let tag = checker.has_forged_tag_in(alloc, message)?;
-        self.found(claim, tag)
-    }
-
-    /// What is forged in a message that is not stamped.
+    /// What is forged in a message.
     fn check_forged(&self, alloc: Global, message: &Message) -> Result<Option<Stamped>, WorldStop>
         requires fits { Fits self.now.shape message.now }
         requires few { self.now.events < 2 ^ 64 - 1 }

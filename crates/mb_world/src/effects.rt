@@ -5,7 +5,7 @@ use crate::seen::Seen;
 use crate::world::World;
 use mb_base::{Client, Digest, Duplicate, Host, Items, NoMemory};
 use mb_msg::Event;
-use mb_parties::{add_messages, extend_line, mark_of, note_made, note_step, step_at};
+use mb_parties::{add_messages, extend_line, mark_of, note_sent, note_step, step_at};
 use mb_replica::Told;
 use mb_sched::Name;
 use mb_service::Service;
@@ -19,13 +19,16 @@ impl<V: Service + Drop> World<V> {
     ghost use Rattle.mb_replica.specs.Represents.{IsTold};
     ghost use Rattle.mb_replica.specs.Told.{KnowsBytes, KnowsEvent};
     ghost use Rattle.mb_sched.specs.Limits.{is_faulty, NameFits};
-    ghost use Rattle.mb_theory.specs.World.{World as WorldState, System, lost_or, steps, stepped, numbered, answered, update, give_host, give_client, signal};
+    ghost use Rattle.mb_msg.specs.declared.event.Event.TheVariants.{Given};
+    ghost use Rattle.mb_theory.specs.World.{World as WorldState, System, arrives, lost_or, steps, stepped, numbered, answered, update, give_host, give_client, signal};
     ghost use Rattle.mb_theory.specs.WorldSteps.{with_message, happens};
     ghost use Rattle.mb_theory.specs.Stops.{stop_of};
     ghost use Rattle.mb_parties.specs.Hosts.{IsSystem};
     ghost use Rattle.mb_parties.specs.Members.{AllRun, RepresentsMembers};
     ghost use Rattle.mb_parties.specs.Stamps.{FitsWhereStamped, bare_in, bares_of};
     ghost use Rattle.mb_world.specs.Answers.{as_answer};
+    ghost use Rattle.mb_genuine.specs.Reached.{IsReached};
+    ghost use Rattle.mb_world.specs.Sent.{SendsClean, SentIsClean};
     ghost use Rattle.mb_world.specs.Tables.{RepresentsRest, RepresentsWorld, HasWorld, Leaves};
 
     // ---- answers
@@ -61,7 +64,7 @@ impl<V: Service + Drop> World<V> {
         requires runs { AllRun self.old.members.items }
         requires has { HasWorld V.is_state V.after V.answer V.part_of V.restored self.old }
         requires halted { self.old.halted ≡ true }
-        ensures stands { (y : System V) (x : WorldState) → IsSystem V.is_state V.after V.answer V.part_of V.restored y → RepresentsWorld y self.old x
+        ensures stands { (y : System V) (x : WorldState) → IsSystem V.is_state V.after V.answer V.part_of V.restored y → RepresentsWorld y self.old x → SendsClean y x host event.now
             → IfOk result (λ a. Leaves y self.new (as_answer a) x (lost_or (is_faulty y.schedule host) (steps y host event.now) x)) }
         ensures runs { OnOk result (AllRun self.new.members.items) }
         ensures halted { self.new.halted ≡ self.old.halted }
@@ -80,7 +83,7 @@ impl<V: Service + Drop> World<V> {
         requires few { self.old.events < 2 ^ 64 - 1 }
         requires halted { self.old.halted ≡ true }
         ensures stands { (y : System V) (x : WorldState) (a : Answer) → RepresentsMembers y self.old.members.items (update x.histories host a.left.history) x.faulty_stamps → RepresentsRest y.schedule self.old x
-            → IsTold told a → FitsWhereStamped y.schedule.shape a.left.sent → is_faulty y.schedule host ≡ false → bares_of a.left.history ≡ reverse (filter_map bare_in a.left.sent) ++ bares_of (x.histories host)
+            → IsTold told a → FitsWhereStamped y.schedule.shape a.left.sent → is_faulty y.schedule host ≡ false → bares_of a.left.history ≡ reverse (filter_map bare_in a.left.sent) ++ bares_of (x.histories host) → SentIsClean y x host a
             → IfOk result (λ r. Leaves y self.new (as_answer r) x (stepped y.schedule host a x)) }
         ensures members { self.new.members ≡ self.old.members }
         ensures halted { self.new.halted ≡ self.old.halted }
@@ -95,7 +98,7 @@ impl<V: Service + Drop> World<V> {
         } = told;
         note_step(alloc, &mut self.ledger, host, sent.as_slice())?;
         let count = self.pool.len() + 1;
-        note_made(&mut self.marks, count, sent.as_slice())?;
+        note_sent(&mut self.marks, count, sent.as_slice())?;
         add_messages(&mut self.pool, sent)?;
         extend_line(&mut self.line, executed)?;
         self.note(alloc, Seen::Host(outcome))
@@ -113,7 +116,7 @@ impl<V: Service + Drop> World<V> {
         requires runs { AllRun self.old.members.items }
         requires has { HasWorld V.is_state V.after V.answer V.part_of V.restored self.old }
         requires halted { self.old.halted ≡ true }
-        ensures stands { (y : System V) (x : WorldState) → IsSystem V.is_state V.after V.answer V.part_of V.restored y → RepresentsWorld y self.old x
+        ensures stands { (y : System V) (x : WorldState) → IsSystem V.is_state V.after V.answer V.part_of V.restored y → RepresentsWorld y self.old x → SendsClean y x host event.now
             → IfOk result (λ a. Leaves y self.new (as_answer a) x (signal y host event.now x)) }
         ensures runs { OnOk result (AllRun self.new.members.items) }
         ensures halted { self.new.halted ≡ self.old.halted }
@@ -137,7 +140,7 @@ impl<V: Service + Drop> World<V> {
         requires runs { AllRun self.old.members.items }
         requires has { HasWorld V.is_state V.after V.answer V.part_of V.restored self.old }
         requires halted { self.old.halted ≡ true }
-        ensures stands { (y : System V) (x : WorldState) → IsSystem V.is_state V.after V.answer V.part_of V.restored y → RepresentsWorld y self.old x
+        ensures stands { (y : System V) (x : WorldState) → IsSystem V.is_state V.after V.answer V.part_of V.restored y → RepresentsWorld y self.old x → SendsClean y (arrives y.schedule host bytes x) host (Given bytes)
             → IfOk result (λ a. Leaves y self.new (as_answer a) x (give_host y host bytes x)) }
         ensures runs { OnOk result (AllRun self.new.members.items) }
         ensures halted { self.new.halted ≡ self.old.halted }
@@ -155,7 +158,7 @@ impl<V: Service + Drop> World<V> {
         requires has { HasWorld V.is_state V.after V.answer V.part_of V.restored self.old }
         requires halted { self.old.halted ≡ true }
         requires allowed { (y : System V) (x : WorldState) → RepresentsWorld y self.old x → stop_of y.schedule x (Give number host) ≡ None }
-        ensures stands { (y : System V) (x : WorldState) → IsSystem V.is_state V.after V.answer V.part_of V.restored y → RepresentsWorld y self.old x
+        ensures stands { (y : System V) (x : WorldState) → IsSystem V.is_state V.after V.answer V.part_of V.restored y → IsReached y x → RepresentsWorld y self.old x
             → IfOk result (λ a. Leaves y self.new (as_answer a) x (with_message (give_host y host) (numbered x.pool number) x)) }
         ensures runs { OnOk result (AllRun self.new.members.items) }
         ensures halted { self.new.halted ≡ self.old.halted }
@@ -232,7 +235,8 @@ impl<V: Service + Drop> World<V> {
         requires runs { AllRun self.old.members.items }
         requires has { HasWorld V.is_state V.after V.answer V.part_of V.restored self.old }
         requires halted { self.old.halted ≡ true }
-        ensures stands { (y : System V) (x : WorldState) → IsSystem V.is_state V.after V.answer V.part_of V.restored y → RepresentsWorld y self.old x
+        requires allowed { (y : System V) (x : WorldState) → RepresentsWorld y self.old x → stop_of y.schedule x (Raw name bytes.now) ≡ None }
+        ensures stands { (y : System V) (x : WorldState) → IsSystem V.is_state V.after V.answer V.part_of V.restored y → IsReached y x → RepresentsWorld y self.old x
             → IfOk result (λ a. Leaves y self.new (as_answer a) x (happens y x (Raw name bytes.now))) }
         ensures runs { OnOk result (AllRun self.new.members.items) }
         ensures halted { self.new.halted ≡ self.old.halted }

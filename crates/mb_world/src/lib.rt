@@ -6,7 +6,7 @@
 //! | `askers` | each client's side |
 //! | `ledger` | what was stamped, asked and tagged, by one look-up each |
 //! | `pool` | the message of a number |
-//! | `marks` | whether the message of a number was looked through and nothing in it is forged, and the digest of its body, where a correct host stamped it |
+//! | `marks` | what is known of the message of a number: that nothing in it is forged, and the digest of its body, where a correct host stamped it |
 //! | `line` | the one list of executed batches |
 //! | `refused` | the events that a host or a client refused |
 //!

@@ -1,4 +1,4 @@
-//! The messages in which nothing is forged: each is looked through until it is found so.
+//! The messages in which nothing is forged: what correct hosts sent, and what was looked through and found so.
 
 use crate::world::World;
 use mb_base::NoMemory;

@@ -70,6 +70,7 @@ impl<V: Service + Drop> World<V> {
     ghost use Rattle.mb_world.specs.Answers.{as_answer, Tells};
     ghost use Rattle.mb_world.specs.Contents.{IsAllowed, stamping_host};
     ghost use Rattle.mb_theory.specs.WorldEvents.{culprit};
+    ghost use Rattle.mb_genuine.specs.Reached.{IsReached};
     ghost use Rattle.mb_world.specs.Tables.{RepresentsWorld, HasWorld, Leaves, WorldHalts};
 
     /// The world before the first event. The lists have a member for each host, each client and each host.
@@ -108,12 +109,13 @@ impl<V: Service + Drop> World<V> {
         })
     }
 
-    /// One event. Of several stops the first comes in this order: `Halted`, `NotFaulty`, `NoSuchMessage`, `WrongKind`, `Forged`, `ForgedTag`.
+    /// One event, of a world that is reached: one to which events lead, none of which was stopped. Of several stops the first comes in this order:
+    /// `Halted`, `NotFaulty`, `NoSuchMessage`, `WrongKind`, `Forged`, `ForgedTag`.
     pub fn world_step(&mut self, alloc: Global, event: &WorldEvent) -> Result<Seen, WorldStop>
         requires fits { EventFits self.old.shape event.now }
         requires few { self.old.events < 2 ^ 64 - 1 }
         requires has { self.old.halted ≡ false → HasWorld V.is_state V.after V.answer V.part_of V.restored self.old }
-        ensures stands { (y : System V) (x : WorldState) → IsSystem V.is_state V.after V.answer V.part_of V.restored y → RepresentsWorld y self.old x
+        ensures stands { (y : System V) (x : WorldState) → IsSystem V.is_state V.after V.answer V.part_of V.restored y → IsReached y x → RepresentsWorld y self.old x
             → IfOk result (λ a. Leaves y self.new (as_answer a) x (happens y x event.now)) }
         ensures stops { (y : System V) (x : WorldState) → RepresentsWorld y self.old x → Tells (stop_of y.schedule x event.now) result }
         ensures has { IfOk result (λ a. HasWorld V.is_state V.after V.answer V.part_of V.restored self.new) }
@@ -153,7 +155,7 @@ impl<V: Service + Drop> World<V> {
         requires halted { self.old.halted ≡ true }
         requires content { IfSome content (FitsStamped self.old.shape) }
         requires allowed { (y : System V) (x : WorldState) → RepresentsWorld y self.old x → IsAllowed y.schedule x event.now content }
-        ensures stands { (y : System V) (x : WorldState) → IsSystem V.is_state V.after V.answer V.part_of V.restored y → RepresentsWorld y self.old x
+        ensures stands { (y : System V) (x : WorldState) → IsSystem V.is_state V.after V.answer V.part_of V.restored y → IsReached y x → RepresentsWorld y self.old x
             → IfOk result (λ a. Leaves y self.new (as_answer a) x (happens y x event.now)) }
         ensures runs { OnOk result (AllRun self.new.members.items) }
         ensures halted { self.new.halted ≡ self.old.halted }
@@ -178,7 +180,7 @@ impl<V: Service + Drop> World<V> {
         requires halted { self.old.halted ≡ true }
         requires free { culprit event.now ≡ None }
         requires there { (y : System V) (x : WorldState) → RepresentsWorld y self.old x → stop_of y.schedule x event.now ≡ None }
-        ensures stands { (y : System V) (x : WorldState) → IsSystem V.is_state V.after V.answer V.part_of V.restored y → RepresentsWorld y self.old x
+        ensures stands { (y : System V) (x : WorldState) → IsSystem V.is_state V.after V.answer V.part_of V.restored y → IsReached y x → RepresentsWorld y self.old x
             → IfOk result (λ a. Leaves y self.new (as_answer a) x (happens y x event.now)) }
         ensures runs { OnOk result (AllRun self.new.members.items) }
         ensures halted { self.new.halted ≡ self.old.halted }

@@ -2,6 +2,7 @@ use Rattle.std.proofs.Common.{◌≡◌, ◌∙◌, ◌+◌, length, Some, refl,
 use Rattle.std.specs.List.{slice_get}
 use Rattle.std.proofs.lemmas.Option.{slice_get_read}
 use Rattle.mb_theory.specs.WorldSteps.{world as any_world}
+use Rattle.mb_genuine.proofs.Reached.{reached_at}
 use Rattle.mb_top.specs.declared.replay.RunStop.{RunStop}
 use Rattle.mb_top.specs.Systems.{system_of, world}
 use Rattle.mb_top.specs.Runs.{run_stop_of, StopsAt}
@@ -31,6 +32,7 @@ world_step-requires-clause-has c = λ runs. record {
   system = system_of c.args.schedule.now;
   state = world c.args.schedule.now c.loop-event.event-index;
   is = is_system c.args.schedule.now;
+  reached = reached_at (system_of c.args.schedule.now) c.loop-event.event-index c.loop-event.invariant.unstopped;
   represents = c.loop-event.invariant.stands;
 }
 
@@ -53,7 +55,7 @@ loop-event-preserved c =
     let at : slice_get s.events k ≡ Some c.event-item.result = rw (← now.items) (slice_get_read _ _ k c.event-item.result refl c.loop-event-test.true c.event-item.is) in
     record {
       items = now.items;
-      stands = rw (world_more s k c.event-item.result at) (c.in-Ok.ensures.stands (system_of s) (world s k) (is_system s) now.stands).stands;
+      stands = rw (world_more s k c.event-item.result at) (c.in-Ok.ensures.stands (system_of s) (world s k) (is_system s) (reached_at (system_of s) k now.unstopped) now.stands).stands;
       unstopped = unstopped_more s k c.event-item.result at now.unstopped (c.in-Ok.ensures.stops (system_of s) (world s k) now.stands);
       runs = c.in-Ok.ensures.halts.1;
       shape = c.in-Ok.ensures.shape ∙ now.shape;

@@ -8,7 +8,7 @@ use Rattle.mb_top.specs.Systems.{system_of, world}
 use Rattle.mb_top.specs.Soaks.{soak_of}
 use Rattle.mb_top.proofs.KvService.{is_system}
 use Rattle.mb_top.proofs.RunLaws.{world_more}
-use Rattle.mb_top.proofs.SoakLaws.{event, at, fits, unstopped, drawn_next, some_made, only_memory}
+use Rattle.mb_top.proofs.SoakLaws.{event, at, fits, unstopped, reached, drawn_next, some_made, only_memory}
 use Rattle.mb_top.proofs.soak.soaked.Goals as goal
 
 pub loop-init : goal.loop-init
@@ -43,6 +43,7 @@ world_step-requires-clause-has c = λ runs. record {
   system = system_of (soak_of c.args.seed c.args.events);
   state = world (soak_of c.args.seed c.args.events) c.loop.counter;
   is = is_system (soak_of c.args.seed c.args.events);
+  reached = reached c.args.seed c.args.events c.requires c.loop.counter c.loop-test.true;
   represents = c.loop.invariant.stands;
 }
 
@@ -64,7 +65,7 @@ loop-preserved c =
     let k = c.loop.counter in
     let is = drawn_next c.args.seed c.args.events c.requires k c.pool.result c.loop.maker c.draw.new.self c.in_ok-drawn.drawn c.played-event.result
     (c.pool.ensures.count (system_of s) (world s k) now.stands) now.generator c.in_ok-drawn.ensures.drawn (c.played-event.ensures (system_of s) (world s k) now.stands) in
-    let next = (c.in-Ok.ensures.stands (system_of s) (world s k) (is_system s) now.stands).stands in
+    let next = (c.in-Ok.ensures.stands (system_of s) (world s k) (is_system s) (reached c.args.seed c.args.events c.requires k c.loop-test.true) now.stands).stands in
     let more = world_more s k (event c.args.seed c.args.events c.requires k c.loop-test.true) (at c.args.seed c.args.events c.requires k c.loop-test.true) in
     record {
       stands = rw (more, ← is.0) next;

@@ -1,17 +1,6 @@
-use Rattle.std.proofs.Common.{◌≡◌, Some, sym, ap, ◌∙◌}
-use Rattle.mb_theory.specs.World.{numbered}
 use Rattle.mb_theory.specs.WorldEvents.{is_faulty_name}
-use Rattle.mb_parties.specs.declared.marks.Mark.{Mark}
-use Rattle.mb_world.proofs.WorldLaws.{known_at}
 use Rattle.mb_world.proofs.AllowedLaws.{found_at, found_absent}
 use Rattle.mb_world.proofs.world.World.check_message.Goals as goal
-
-pub check_bytes-requires-clause-known : goal.check_bytes-requires-clause-known
-check_bytes-requires-clause-known g c =
-    let has = c.requires.has in
-    let there : numbered c.args.self.now.pool.items c.args.number ≡ Some c.as_slice-in-Some.result.now = sym c.in-Some.ensures ∙ ap Some (sym c.as_slice-in-Some.ensures) in
-    let said = known_at has.system c.args.self.now has.state has.represents c.args.number c.as_slice-in-Some.result.now there in
-    rw (ap (λ (k : Mark). k.body) c.mark_of-mark.ensures, c.as_slice.ensures.value) said
 
 pub returns-in-Some-clause-stops : goal.returns-in-Some-clause-stops
 returns-in-Some-clause-stops g c = λ y x h.

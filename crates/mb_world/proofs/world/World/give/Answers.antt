@@ -1,9 +1,11 @@
-use Rattle.std.proofs.Common.{◌≡◌, ◌∙◌, List, Some, None, sym, ap}
-use Rattle.mb_base.specs.Shapes.{Bytes}
+use Rattle.std.proofs.Common.{◌≡◌, ◌<◌, ◌∙◌, List, Some, None, sym, ap, subst}
+use Rattle.mb_base.specs.declared.shape.Shape.{Shape}
+use Rattle.mb_base.specs.Shapes.{Bytes, host_count}
 use Rattle.mb_theory.specs.World.{give_host, numbered}
 use Rattle.mb_parties.specs.declared.marks.Mark.{Mark}
 use Rattle.mb_world.proofs.StopLaws.{given_there}
 use Rattle.mb_world.proofs.GivenLaws.{given_clean}
+use Rattle.mb_world.proofs.SentLaws.{message_sends}
 use Rattle.mb_world.proofs.WorldLaws.{known_at, message_there}
 use Rattle.mb_world.proofs.world.World.give.Goals as goal
 
@@ -20,19 +22,20 @@ give_host-requires-clause-known g c =
 pub give_host-requires-clause-has : goal.give_host-requires-clause-has
 give_host-requires-clause-has g c =
     let has = c.requires.has in
-    record { system = has.system; state = has.state; is = has.is; represents = c.in_ok-mark_clean-in-Some.ensures.stands has.system has.state has.represents }
+    record { system = has.system; state = has.state; is = has.is; reached = has.reached; represents = c.in_ok-mark_clean-in-Some.ensures.stands has.system has.state has.represents }
 
 pub returns-in_ok-mark_clean-in-Some-clause-stands : goal.returns-in_ok-mark_clean-in-Some-clause-stands
-returns-in_ok-mark_clean-in-Some-clause-stands g c = λ y x is h.
+returns-in_ok-mark_clean-in-Some-clause-stands g c = λ y x is reached h.
     let n = c.args.number in
     let read = c.in-Some.ensures in
     let copied = c.in_ok-bytes-in-Some.ensures in
     let there : numbered x.pool n ≡ Some c.in_ok-bytes-in-Some.bytes =
     ap (λ (p : List Bytes). numbered p n) (sym h.rest.pool) ∙ (sym read ∙ ap Some (sym copied)) in
-    message_there y c.give_host.new.self x (give_host y c.args.host) (numbered x.pool n) c.in_ok-bytes-in-Some.bytes c.give_host.result there (c.give_host.ensures.stands y x is (c.in_ok-mark_clean-in-Some.ensures.stands y x h))
+    message_there y c.give_host.new.self x (give_host y c.args.host) (numbered x.pool n) c.in_ok-bytes-in-Some.bytes c.give_host.result there (c.give_host.ensures.stands y x is (c.in_ok-mark_clean-in-Some.ensures.stands y x h)
+    (message_sends y x reached c.args.host (subst (λ (z : Shape). c.args.host < host_count z) h.rest.shape c.requires.host) n c.in_ok-bytes-in-Some.bytes (c.requires.allowed y x h) there))
 
 pub returns-in-None-clause-stands : goal.returns-in-None-clause-stands
-returns-in-None-clause-stands g c = λ y x is h.
+returns-in-None-clause-stands g c = λ y x is reached h.
     let none : None ≡ numbered x.pool c.args.number = c.in-None.ensures ∙ ap (λ (p : List Bytes). numbered p c.args.number) h.rest.pool in
     let gone = rw (← none) at (given_there y.schedule x c.args.number c.args.host (c.requires.allowed y x h)) in
     absurd cc

@@ -37,7 +37,7 @@ invariant_of-self g c =
     }
 
 pub returns-in-Some-clause-stands : goal.returns-in-Some-clause-stands
-returns-in-Some-clause-stands g c = λ y x is h.
+returns-in-Some-clause-stands g c = λ y x is h clean.
     let v = c.args.self.now in
     let host = c.args.host in
     let there : host < host_count y.schedule.shape = subst (λ (z : Shape). host < host_count z) h.rest.shape c.requires.host in
@@ -45,10 +45,10 @@ returns-in-Some-clause-stands g c = λ y x is h.
     rw told.correct
     (c.stepped.ensures.stands y x (answer_at y host c.args.event.now x.histories) told.members
     (rest_of y.schedule v _ x x h.rest (record { shape = refl; usig = refl; pens = refl; hosts = refl; clients = refl; marks = refl }) (goes_still y.schedule x) h.rest.askers h.rest.ledger h.rest.pool h.rest.line h.rest.refused h.rest.events)
-    told.step told.fit told.correct (stamped_is_sent (self_of y host) (x.histories host) c.args.event.now))
+    told.step told.fit told.correct (stamped_is_sent (self_of y host) (x.histories host) c.args.event.now) (clean told.correct))
 
 pub returns-in-None-clause-stands : goal.returns-in-None-clause-stands
-returns-in-None-clause-stands g c = λ y x is h.
+returns-in-None-clause-stands g c = λ y x is h clean.
     let v = c.args.self.now in
     let host = c.args.host in
     let there : host < host_count y.schedule.shape = subst (λ (z : Shape). host < host_count z) h.rest.shape c.requires.host in

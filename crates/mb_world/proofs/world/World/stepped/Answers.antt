@@ -9,11 +9,11 @@ use Rattle.mb_world.proofs.WorldLaws.{partway_stands, leaves_from, if_ok_more}
 use Rattle.mb_world.proofs.world.World.stepped.Goals as goal
 
 pub returns-clause-stands : goal.returns-clause-stands
-returns-clause-stands g c = λ y x a members rest is fit correct longer.
+returns-clause-stands g c = λ y x a members rest is fit correct longer clean.
     let v = c.args.self.now in
     let s = y.schedule in
     let h = c.args.host in
-    let made = rw (c.len-count.ensures ∙ c.args.self.now.pool.ok.0, c.as_slice-2.ensures) at c.in_ok-note_made.ensures in
+    let made = rw (c.len-count.ensures ∙ c.args.self.now.pool.ok.0, c.as_slice-2.ensures) at c.in_ok-note_sent.ensures in
     rw (← is.outcome)
     (if_ok_more c.note.result _ _
     (c.note.ensures.stands y (partway s h a.left x)
@@ -21,5 +21,5 @@ returns-clause-stands g c = λ y x a members rest is fit correct longer.
     (keeps_then s.shape v.ledger _ (stamps s x) (update (stamps s x) h (reverse (filter_map bare_in a.left.sent) ++ stamps s x h)) x.asked x.asked x.tagged (fold with_tagged x.tagged a.left.sent) rest.ledger
     (λ k. c.in_ok-note_step.ensures.keeps (stamps s x) x.asked x.tagged a.left.sent k
     (record { sent = c.as_slice.ensures ∙ is.sent; fit = subst (λ (z : Shape). FitsWhereStamped z a.left.sent) (sym rest.ledger.shape) fit })))
-    c.in_ok-add_messages.ensures c.in_ok-extend_line.ensures refl refl correct longer))
+    c.in_ok-add_messages.ensures c.in_ok-extend_line.ensures refl refl correct longer clean))
     (λ r left. leaves_from y _ (as_answer r) x (partway s h a.left x) _ refl left))
