@@ -89,6 +89,16 @@ impl Body<Batch> {
             Body::Bare(digest) => *digest,
         }
     }
+
+    /// A whole batch keeps its digest, so that it need not be hashed again.
+    pub(crate) fn keep_digest(&mut self)
+        requires { FitsBody CanDigest self.old }
+        ensures { self.new ≡ self.old }
+    {
+        if let Body::Whole(batch) = self {
+            batch.keep_digest();
+        }
+    }
 }
 
 /// What the certificate of a PREPARE covers. `digest` is that of its batch.

@@ -32,7 +32,7 @@ pub use marks::mark_of;
 pub use mb_base::MESSAGE_LIMIT;
 pub use mb_parts::{
     Batch, Evidence, EvidenceMember, Floor, FloorCert, FloorMember, MAX_POS, MAX_VIEW, Mark, Phase,
-    Request, StableCert, StableMember, TEXT_LIMIT, Undecoded,
+    Request, Requests, StableCert, StableMember, TEXT_LIMIT, Undecoded,
 };
 pub use message::{Body, Message};
 pub use normal::{BareCheckpoint, Checkpoint, Commit, Floors, Prepare, Reply, Stop};

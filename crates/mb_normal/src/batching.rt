@@ -3,7 +3,7 @@
 use crate::filling::Filling;
 use crate::normal::Normal;
 use mb_base::NoMemory;
-use mb_msg::Batch;
+use mb_msg::{Batch, Requests};
 use std::alloc::Global;
 
 impl Normal {
@@ -22,12 +22,12 @@ impl Normal {
         for client in 0..self.shape.clients() {
             if !filling.add(alloc, self.unordered_of(client))? {
                 return Ok(Batch {
-                    requests: filling.requests,
+                    requests: Requests::from_items(filling.requests),
                 });
             }
         }
         Ok(Batch {
-            requests: filling.requests,
+            requests: Requests::from_items(filling.requests),
         })
     }
 }

@@ -4,7 +4,7 @@ ghost use Rattle.std.specs.Prelude.{◌≡◌, []};
 
 use crate::{Due, Normal, Refused, Vote};
 use mb_base::{Client, Host, Items, Pos, Seq, Shape, Ui};
-use mb_msg::{Batch, Body, Checkpoint, Request};
+use mb_msg::{Batch, Body, Checkpoint, Request, Requests};
 use mb_parts::{Floor, Phase};
 use std::alloc::Global;
 use std::process::Abort;
@@ -46,7 +46,7 @@ fn pend(rt: &impl Abort, alloc: Global, normal: &mut Normal, client: Client, seq
 /// Orders the primary's next batch at a position. How many requests it has.
 fn order(alloc: Global, normal: &mut Normal, pos: Pos) -> Result<usize, Fail> {
     let batch = normal.batch(alloc)?;
-    let count = batch.requests.len();
+    let count = batch.requests.as_slice().len();
     let _put = normal.slot(pos, pos, [9; 32], [7; 32], Some(batch));
     Ok(count)
 }
@@ -95,7 +95,15 @@ fn a_backup_commits_and_executes(rt: HostRuntime) -> Result<(), Fail> {
     };
     assert!(rt; normal.due(&behind(0), 0, 0, true) == Due::Nothing);
     let requests = Items::from_vec(vec![in rt.alloc(); request(rt.alloc(), 0, 1)]?);
-    let put = normal.slot(1, 1, [9; 32], [7; 32], Some(Batch { requests }));
+    let put = normal.slot(
+        1,
+        1,
+        [9; 32],
+        [7; 32],
+        Some(Batch {
+            requests: Requests::from_items(requests),
+        }),
+    );
     assert!(rt; put.is_ok());
     assert!(rt; normal.due(&behind(0), 0, 0, false) == Due::Nothing);
     assert!(rt; normal.due(&behind(0), 0, 0, true) == Due::Commit { pos: 1 });

@@ -16,6 +16,7 @@ use crate::limits::{MAX_BATCH, MAX_REQUESTS};
 use crate::part::{Part, Readable, all_fit, count_all, put_all};
 use crate::reading::read_request;
 use crate::request::{Request, byte};
+use crate::requests::Requests;
 use mb_base::{Digest, Duplicate, Fields, Items, NoMemory, Shape, put_u8};
 use sha2::{Digest as Hasher, Sha256};
 use std::alloc::{AllocError, Global};
@@ -23,7 +24,7 @@ use std::alloc::{AllocError, Global};
 /// The requests of one position, in order: 1 to 16, together at most 2,048 bytes.
 #[derive(Debug, PartialEq, Drop)]
 pub struct Batch {
-    pub requests: Items<Request>,
+    pub requests: Requests,
 }
 
 impl Duplicate for Batch {
@@ -63,14 +64,16 @@ impl Part for Batch {
 
     #[tactic(auto, using(crate::proofs::CountedBytes::counted_behind), unfolding(crate::specs::Spelling::batch_bytes))]
     fn count(&self, shape: &Shape, so_far: usize) -> usize {
-        let behind_count = count_u8(so_far, self.requests.len() as u8);
-        count_all(shape, behind_count, self.requests.as_slice())
+        let requests = self.requests.as_slice();
+        let behind_count = count_u8(so_far, requests.len() as u8);
+        count_all(shape, behind_count, requests)
     }
 
     #[tactic(auto, unfolding(crate::specs::Spelling::batch_bytes))]
     fn put(&self, shape: &Shape, out: &mut Vec<u8>) -> Result<(), NoMemory> {
-        put_u8(out, self.requests.len() as u8)?;
-        put_all(shape, self.requests.as_slice(), out)
+        let requests = self.requests.as_slice();
+        put_u8(out, requests.len() as u8)?;
+        put_all(shape, requests, out)
     }
 }
 
@@ -121,7 +124,9 @@ impl Readable for Batch {
     fn read(alloc: Global, shape: &Shape, fields: &mut Fields<'_>) -> Result<Batch, Undecoded> {
         let count = fields.u8_in(1, MAX_REQUESTS)?;
         let requests = read_requests(alloc, shape, count, fields)?;
-        Ok(Batch { requests })
+        Ok(Batch {
+            requests: Requests::from_items(requests),
+        })
     }
 }
 
@@ -137,14 +142,37 @@ fn feed<H: Hasher>(hasher: &mut H, requests: &[Request])
 
 impl Batch {
     /// The SHA-256 digest (FIPS 180-4) of the batch's bytes, the count among them. It has 1 to 16 requests, each with an operation of at
-    /// most 1,024 bytes.
+    /// most 1,024 bytes. Nothing is hashed where the digest is kept.
+    #[tactic(auto, unfolding(crate::specs::Spelling::batch_bytes))]
     pub fn digest(&self) -> Digest
         requires { CanDigest self.now }
         ensures { result ≡ batch_digest self.now }
     {
+        match self.requests.kept() {
+            Some(digest) => digest,
+            None => self.hashed(),
+        }
+    }
+
+    /// The digest, hashed anew.
+    fn hashed(&self) -> Digest
+        requires { CanDigest self.now }
+        ensures { result ≡ batch_digest self.now }
+    {
+        let requests = self.requests.as_slice();
         let mut hasher = Sha256::new();
-        hasher.update(byte(self.requests.len() as u8));
-        feed(&mut hasher, self.requests.as_slice());
+        hasher.update(byte(requests.len() as u8));
+        feed(&mut hasher, requests);
         hasher.finalize()
+    }
+
+    /// Keeps its digest, so that it need not be hashed again. Its requests are as `digest` asks for.
+    #[tactic(auto, unfolding(crate::specs::Spelling::batch_bytes))]
+    pub fn keep_digest(&mut self)
+        requires { CanDigest self.old }
+        ensures { self.new ≡ self.old }
+    {
+        let digest = self.digest();
+        self.requests.keep(digest);
     }
 }

@@ -15,6 +15,7 @@ mod part;
 mod plain;
 mod reading;
 mod request;
+mod requests;
 mod stable;
 mod writing;
 
@@ -40,5 +41,6 @@ pub use reading::{
     read_batch, read_evidence, read_floor, read_floor_cert, read_request, read_stable,
 };
 pub use request::{Request, count_text, put_text, read_ui_from};
+pub use requests::Requests;
 pub use stable::{floors_fit, read_floors, read_stable_in};
 pub use writing::{put_batch, put_evidence, put_floor, put_floor_cert, put_request, put_stable};

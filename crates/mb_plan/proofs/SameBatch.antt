@@ -1,15 +1,12 @@
 -- Batches that the test finds equal are the same.
-use Rattle.std.proofs.Common.{◌≡◌, ℕ, true, nat_eq, List, Bool, ◌&&◌, refl, ap, subst}
+use Rattle.std.proofs.Common.{◌≡◌, ℕ, true, nat_eq, List, ◌&&◌, refl, ap, subst}
 use Rattle.std.specs.Cmp.Lexicographic.{pointwise, pointwise_decides, bytes_decides}
 use Rattle.std.proofs.lemmas.Bool.{and_parts, eqb-true, eq-eqb}
 use Rattle.mb_base.specs.Shapes.{Bytes}
 use Rattle.mb_parts.specs.declared.request.Request.{Request}
 use Rattle.mb_parts.specs.declared.batch.Batch.{Batch}
+use Rattle.mb_parts.specs.SameRequest.{same_request}
 use Rattle.mb_parts.specs.contracts.batch.BatchPartialEq.TheImpl as batches
-
--- field by field
-abbrev same_request : Request → Request → Bool
-same_request a b = nat_eq a.client b.client && (nat_eq a.seq b.seq && (pointwise nat_eq a.op b.op && pointwise nat_eq a.tag b.tag))
 
 made : ℕ → ℕ → Bytes → Bytes → Request
 made c n o t = record { client = c; seq = n; op = o; tag = t }

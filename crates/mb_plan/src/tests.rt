@@ -5,8 +5,8 @@ use crate::{BadProof, NewViewFault, Plan, PlanFault, check_new_view, plan_of, us
 use mb_base::{Counter, Digest, Host, Items, Key, NoMemory, Pos, Shape, Ui, View};
 use mb_msg::{
     BareCheckpoint, BareViewChange, Batch, Body, ChangeBody, Commit, Enter, Evidence,
-    EvidenceMember, Join, Message, NewView, NewViewBody, Open, OpenBody, Prepare, Request, Shown,
-    StableCert, StableMember, ViewChange, fields_fit,
+    EvidenceMember, Join, Message, NewView, NewViewBody, Open, OpenBody, Prepare, Request,
+    Requests, Shown, StableCert, StableMember, ViewChange, fields_fit,
 };
 use mb_parts::Part;
 use mb_usig::Usig;
@@ -105,7 +105,9 @@ pub(crate) fn asked_with(alloc: Global, put_tag: &Digest, get_tag: &Digest) -> R
     let mut requests = Items::new(alloc);
     requests.push(put)?;
     requests.push(get)?;
-    Ok(Batch { requests })
+    Ok(Batch {
+        requests: Requests::from_items(requests),
+    })
 }
 
 fn asked(alloc: Global) -> Result<Batch, Fail> {
@@ -480,7 +482,9 @@ fn asks(alloc: Global, seq: u8) -> Result<Batch, Fail> {
     };
     let mut requests = Items::new(alloc);
     requests.push(request)?;
-    Ok(Batch { requests })
+    Ok(Batch {
+        requests: Requests::from_items(requests),
+    })
 }
 
 fn stable(alloc: Global, pos: u8, first: u8) -> Result<StableCert, Fail> {

@@ -3,7 +3,7 @@
 use mb_base::{Host, Items, Ui};
 use mb_msg::{
     Batch, Body, ChangeBody, Commit, Evidence, EvidenceMember, Join, Message, NewView, NewViewBody,
-    Request, Shown, StableCert, StableMember, ViewChange,
+    Request, Requests, Shown, StableCert, StableMember, ViewChange,
 };
 use std::alloc::{AllocError, Global};
 
@@ -32,7 +32,9 @@ fn request(alloc: Global) -> Result<Request, AllocError> {
 fn batch(alloc: Global) -> Result<Batch, AllocError> {
     let mut requests = Items::new(alloc);
     requests.push(request(alloc)?)?;
-    Ok(Batch { requests })
+    Ok(Batch {
+        requests: Requests::from_items(requests),
+    })
 }
 
 fn whole_commit(alloc: Global) -> Result<Commit, AllocError> {

@@ -10,7 +10,7 @@ use mb_base::{Counter, Host, Items, MESSAGE_LIMIT, NoMemory, View};
 use mb_forged::{Checker, ForgedClaim, change_with, checkpoint_with, commit_for, prepare_with};
 use mb_msg::{Batch, Message, Stamped, Undecoded, decode};
 use mb_parties::{Member, mark_of};
-use mb_parts::{MAX_BATCH, Part, Request};
+use mb_parts::{MAX_BATCH, Part, Request, Requests};
 use mb_sched::{Name, WorldEvent};
 use mb_service::Service;
 use std::alloc::Global;
@@ -246,7 +246,9 @@ impl<V: Service + Drop> World<V> {
             }
             requests.push(request)?;
         }
-        Ok(Batch { requests })
+        Ok(Batch {
+            requests: Requests::from_items(requests),
+        })
     }
 
     /// The COMMIT of the whole PREPARE that is this message.

@@ -44,7 +44,9 @@ fn second_request(alloc: Global) -> Result<Request, AllocError> {
 /// A batch of two requests.
 fn batch(alloc: Global) -> Result<Batch, AllocError> {
     let requests = list(alloc, [request(alloc)?, second_request(alloc)?])?;
-    Ok(Batch { requests })
+    Ok(Batch {
+        requests: Requests::from_items(requests),
+    })
 }
 
 /// A batch of one request.
@@ -56,7 +58,9 @@ fn short_batch(alloc: Global) -> Result<Batch, AllocError> {
         tag: [0x13; 32],
     };
     let requests = list(alloc, [request])?;
-    Ok(Batch { requests })
+    Ok(Batch {
+        requests: Requests::from_items(requests),
+    })
 }
 
 fn prepare(alloc: Global) -> Result<Message, AllocError> {

@@ -194,7 +194,9 @@ fn batch_of(alloc: Global, count: u8) -> Result<Batch, Fail> {
     for _ in 0..count {
         requests.push(samples::request_of(alloc, 20)?)?;
     }
-    Ok(Batch { requests })
+    Ok(Batch {
+        requests: Requests::from_items(requests),
+    })
 }
 
 fn prepare_of(alloc: Global, count: u8) -> Result<Option<Vec<u8>>, Fail> {

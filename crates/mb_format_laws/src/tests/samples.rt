@@ -41,7 +41,9 @@ pub(crate) fn batch_with(alloc: Global, len: u16) -> Result<Batch, AllocError> {
     let mut requests = Items::new(alloc);
     requests.push(request(alloc)?)?;
     requests.push(request_of(alloc, len)?)?;
-    Ok(Batch { requests })
+    Ok(Batch {
+        requests: Requests::from_items(requests),
+    })
 }
 
 /// A batch whose requests have 2,048 bytes.

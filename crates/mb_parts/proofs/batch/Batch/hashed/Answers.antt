@@ -6,7 +6,7 @@ use Rattle.mb_base.specs.Spelling.{number}
 use Rattle.mb_parts.specs.declared.batch.Batch.{Batch}
 use Rattle.mb_parts.specs.declared.request.Request.{Request}
 use Rattle.mb_parts.specs.Spelling.{request_bytes, batch_bytes}
-use Rattle.mb_parts.proofs.batch.Batch.digest.Goals as goal
+use Rattle.mb_parts.proofs.batch.Batch.hashed.Goals as goal
 
 -- the count and the requests, in the order in which they are hashed
 joined : (b : Batch) (count : List ℕ) (requests : List Request) → count ≡ number w8 (length b.requests) → requests ≡ b.requests → count ++ flat_map request_bytes requests ≡ batch_bytes b
@@ -17,5 +17,5 @@ pub returns : goal.returns
 returns c =
     let one = c.update.ensures [] c.new-hasher.ensures in
     let two = c.feed.ensures _ one in
-    let count : c.byte.result ≡ number w8 (length c.args.self.now.requests) = rw (← c.len.ensures) c.byte.ensures in
-    c.finalize.ensures _ two ∙ ap sha256 (joined c.args.self.now _ _ count c.as_slice.ensures)
+    let count : c.byte.result ≡ number w8 (length c.args.self.now.requests) = rw (← c.as_slice-requests.ensures) c.byte.ensures in
+    c.finalize.ensures _ two ∙ ap sha256 (joined c.args.self.now _ _ count c.as_slice-requests.ensures)
