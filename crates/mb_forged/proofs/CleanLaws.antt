@@ -21,8 +21,8 @@ use Rattle.mb_sched.specs.Limits.{is_faulty, is_faulty_client}
 use Rattle.mb_theory.specs.World.{World, stamps}
 use Rattle.mb_theory.specs.WorldRecord.{issued}
 use Rattle.mb_theory.specs.Inside.{claims_in, requests_in}
-use Rattle.mb_theory.specs.Forged.{is_forged_claim, forged_claim, is_forged_request, has_forged_tag}
-use Rattle.mb_forged.specs.Checks.{IsClean, MadeMore}
+use Rattle.mb_theory.specs.Forged.{is_forged_claim, forged_claim, is_forged_request, has_forged_tag, IsUnforged}
+use Rattle.mb_forged.specs.Checks.{MadeMore}
 
 -- ---- tests that fewer pass
 
@@ -120,5 +120,5 @@ module _ (s : Schedule) (w v : World) (more : MadeMore s w v) where
   tags_stay (message.State m) e = requests_stay (requests_in (message.State m)) e
   tags_stay (message.Stop m) e = requests_stay (requests_in (message.Stop m)) e
 
-pub clean_stays : (s : Schedule) (w v : World) (m : Message) → MadeMore s w v → IsClean s w m → IsClean s v m
+pub clean_stays : (s : Schedule) (w v : World) (m : Message) → MadeMore s w v → IsUnforged s w m → IsUnforged s v m
 clean_stays s w v m more clean = record { claims = claims_stay s w v more m clean.claims; tags = tags_stay s w v more m clean.tags }

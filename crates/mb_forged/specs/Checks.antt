@@ -1,5 +1,5 @@
 -- What is asked while a message is looked through, and what is told of it.
-use Rattle.std.specs.Prelude.{◌≡◌, ℕ, ◌<◌, ◌++◌, ◌∷◌, List, [], map, Option, Some, None, option_map, find, slice_get, false}
+use Rattle.std.specs.Prelude.{◌≡◌, ℕ, ◌<◌, ◌++◌, ◌∷◌, List, [], map, Option, Some, option_map, find, slice_get}
 use Rattle.sha2.specs.Sha256.{sha256}
 use Rattle.mb_base.specs.declared.shape.Shape.{Shape}
 use Rattle.mb_base.specs.Shapes.{Bytes, host_count, client_count}
@@ -26,7 +26,7 @@ use Rattle.mb_forged.specs.declared.checker.ForgedClaim.{ForgedClaim}
 use Rattle.mb_forged.specs.Ledgers.{KeepsWorld}
 use Rattle.mb_sched.specs.declared.schedule.Schedule.{Schedule}
 use Rattle.mb_theory.specs.World.{World, stamps}
-use Rattle.mb_theory.specs.Forged.{is_forged_claim, forged_claim, has_forged_tag}
+use Rattle.mb_theory.specs.Forged.{is_forged_claim}
 
 -- for each client, its own pen
 abbrev pub ArePens : Schedule → List Signer → Type 0
@@ -81,12 +81,7 @@ pub record FitsClaim (s : Shape) (c : Claim) : Type 0 where
   pub says : FitsBare s c.says
   pub cert : IsDigest c.cert
 
--- ---- what stays clean
-
--- Nothing in the message is forged.
-pub record IsClean (s : Schedule) (w : World) (m : Message) : Type 0 where
-  pub claims : forged_claim s w m ≡ None
-  pub tags : has_forged_tag s w m ≡ false
+-- ---- worlds in which more was made
 
 -- All that was made in the first world was made in the second, which has more in front.
 pub record MadeMore (s : Schedule) (w v : World) : Type 0 where

@@ -33,13 +33,13 @@ use Rattle.mb_sched.specs.Limits.{is_faulty, is_faulty_client, EventFits, IsSche
 use Rattle.mb_theory.specs.World.{World, System, numbered, if_read, read, message_at, nothing_happened, request_of}
 use Rattle.mb_theory.specs.WorldSteps.{happens, after, world}
 use Rattle.mb_theory.specs.FaultyHosts.{misfit}
-use Rattle.mb_theory.specs.Forged.{forged_claim, has_forged_tag}
+use Rattle.mb_theory.specs.Forged.{forged_claim, has_forged_tag, IsUnforged}
 use Rattle.mb_theory.specs.Stops.{Forged, ForgedTag, stop_of, event_number, to_correct, IsUnstopped}
 use Rattle.mb_known.proofs.Cases.{some_is, then_some_of}
 use Rattle.mb_known.proofs.ReadFits.{read_fits}
 use Rattle.mb_make.specs.Draws.{Generator, stepped, detail, put, ask, draw}
 use Rattle.mb_make.specs.Soaks.{to_host_or_client, played, generator_after, event_drawn, soak, IsSoaked}
-use Rattle.mb_genuine.specs.NoneForged.{IsInner, AreInner, IsUnforged}
+use Rattle.mb_genuine.specs.NoneForged.{IsInner, AreInner}
 use Rattle.mb_genuine.specs.Soaked.{IsSoak, SoaksAreUnstopped}
 use Rattle.mb_genuine.proofs.Ready.{read_is}
 use Rattle.mb_genuine.proofs.FaultyStamps.{numbered_in}

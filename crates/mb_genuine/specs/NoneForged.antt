@@ -1,14 +1,14 @@
 -- Where all that happens is made of messages of the system itself, nothing in any message is forged.
-use Rattle.std.specs.Prelude.{◌≡◌, ℕ, ◌<◌, false, Some, None, Contains, slice_get}
+use Rattle.std.specs.Prelude.{◌≡◌, ℕ, ◌<◌, Some, Contains, slice_get}
 use Rattle.mb_base.specs.Shapes.{Bytes}
 use Rattle.mb_msg.specs.declared.message.Message.{Message}
 use Rattle.mb_sched.specs.declared.schedule.WorldEvent.{WorldEvent}
 use Rattle.mb_sched.specs.declared.schedule.WorldEvent.TheVariants.{Raw, StampCommit, StampChange, StampRaw}
 use Rattle.mb_sched.specs.declared.schedule.Schedule.{Schedule}
 use Rattle.mb_sched.specs.Limits.{IsSchedule}
-use Rattle.mb_theory.specs.World.{World, System, read}
+use Rattle.mb_theory.specs.World.{System, read}
 use Rattle.mb_theory.specs.WorldSteps.{world}
-use Rattle.mb_theory.specs.Forged.{forged_claim, has_forged_tag}
+use Rattle.mb_theory.specs.Forged.{IsUnforged}
 use Rattle.mb_theory.specs.Stops.{IsUnstopped}
 
 -- It is asked, delivered or signalled, or a faulty host or client makes a message of its own: a request, a reply, a wish; or it stamps a PREPARE of requests
@@ -24,11 +24,6 @@ IsInner e = Unit {0}
 -- The first k events are.
 abbrev pub AreInner : Schedule → ℕ → Type 0
 AreInner s k = (j : ℕ) (e : WorldEvent) → j < k → slice_get s.events j ≡ Some e → IsInner e
-
--- Neither a certificate nor a tag in the message is forged.
-pub record IsUnforged (s : Schedule) (w : World) (m : Message) : Type 0 where
-  pub claims : forged_claim s w m ≡ None
-  pub tags : has_forged_tag s w m ≡ false
 
 -- Whatever is read of a message that was made, nothing in it is forged.
 abbrev pub NoneIsForged : Type 0 → Type 0

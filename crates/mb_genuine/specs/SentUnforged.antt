@@ -11,7 +11,7 @@ use Rattle.mb_theory.specs.WorldEvents.{IsCorrect}
 use Rattle.mb_theory.specs.WorldSteps.{happens}
 use Rattle.mb_theory.specs.EventsStep.{arrival}
 use Rattle.mb_theory.specs.Stops.{stop_of}
-use Rattle.mb_genuine.specs.NoneForged.{IsUnforged}
+use Rattle.mb_theory.specs.Forged.{IsUnforged}
 use Rattle.mb_genuine.specs.Reached.{IsReached}
 
 -- In a world that is reached let an event come to a correct host, and let nothing stop it. Then in whatever is read of a message that the host sends in its

@@ -21,7 +21,8 @@ use Rattle.mb_model.proofs.ShapesFit.{shape_fits}
 use Rattle.mb_sched.specs.declared.schedule.Schedule.{Schedule}
 use Rattle.mb_theory.specs.World.{World as WorldState, update, numbered, read, stamps, is_tagged_message, with_tagged}
 use Rattle.mb_theory.proofs.Lists.{get_more}
-use Rattle.mb_forged.specs.Checks.{IsClean, MadeMore}
+use Rattle.mb_theory.specs.Forged.{IsUnforged}
+use Rattle.mb_forged.specs.Checks.{MadeMore}
 use Rattle.mb_forged.proofs.CleanLaws.{clean_stays}
 use Rattle.mb_replica.specs.declared.told.Said.{Said}
 use Rattle.mb_replica.specs.Told.{KnowsBytes, as_outgoing, said_of}
@@ -158,13 +159,13 @@ module _ (s : Schedule) where
       ap stamped_digest (same_Some st other (sym is ∙ (ap as_stamped (same_message m read fits reads) ∙ stamped)))
 
   -- what is said of one letter
-  one_said : (x : WorldState) (n : ℕ) (l : Letter) → IsReadable s.shape l → ((m : Message) → read s (spelling l.says) ≡ Some m → IsClean s x m) → numbered x.pool n ≡ Some (spelling l.says) → IsMarkAt s x n (sent_mark (as_outgoing l))
+  one_said : (x : WorldState) (n : ℕ) (l : Letter) → IsReadable s.shape l → ((m : Message) → read s (spelling l.says) ≡ Some m → IsUnforged s x m) → numbered x.pool n ≡ Some (spelling l.says) → IsMarkAt s x n (sent_mark (as_outgoing l))
   one_said x n l readable clean made = record { clean = λ e. record { bytes = spelling l.says; made = made; clean = clean }; body = body_said (as_stamped l.says) refl } where
     body_said : (o : Option Stamped) → as_stamped l.says ≡ o → IfSome (option_map (λ (t : Said). t.body) (option_map said_of o)) (IsBodyAt s x n)
     body_said None e = tt
     body_said (Some st) e = record { bytes = spelling l.says; made = made; knows = knows_sent l.says readable st e }
 
-  letters_said : (x : WorldState) (count : ℕ) (letters : List Letter) → FitsWhereStamped s.shape letters → ((l : Letter) (m : Message) → In letters l → read s (spelling l.says) ≡ Some m → IsClean s x m)
+  letters_said : (x : WorldState) (count : ℕ) (letters : List Letter) → FitsWhereStamped s.shape letters → ((l : Letter) (m : Message) → In letters l → read s (spelling l.says) ≡ Some m → IsUnforged s x m)
       → ((k : ℕ) (b : Bytes) → slice_get (map (λ (l : Letter). spelling l.says) letters) k ≡ Some b → numbered x.pool (count + k) ≡ Some b) → (k : ℕ) → IsMarkAt s x (count + k) (mark_at (sent_marks letters) k)
   letters_said x count [] fit clean there k = rw (none_at k) (nothing_said s x (count + k))
   letters_said x count (l ∷ letters) fit clean there zero = one_said x (count + 0) l fit.0 (λ m reads. clean l m (inl refl) reads) (there 0 (spelling l.says) refl)

@@ -10,7 +10,7 @@ use Rattle.mb_replica.specs.declared.told.Said.{Said}
 use Rattle.mb_replica.specs.declared.told.Outgoing.{Outgoing}
 use Rattle.mb_replica.specs.Told.{KnowsBytes}
 use Rattle.mb_theory.specs.World.{World, numbered, read}
-use Rattle.mb_forged.specs.Checks.{IsClean}
+use Rattle.mb_theory.specs.Forged.{IsUnforged}
 use Rattle.mb_parties.specs.declared.marks.Mark.{Mark}
 
 -- Of this message nothing is known.
@@ -40,11 +40,11 @@ pub record MarkedMore (old new : List Mark) (number n : ℕ) : Type 0 where
 pub record IsCleanAt (s : Schedule) (x : World) (n : ℕ) : Type 0 where
   pub bytes : Bytes
   pub made : numbered x.pool n ≡ Some bytes
-  pub clean : (m : Message) → read s bytes ≡ Some m → IsClean s x m
+  pub clean : (m : Message) → read s bytes ≡ Some m → IsUnforged s x m
 
 -- Whatever is read of a message that a host sends, nothing in it is forged.
 abbrev pub AreSentClean : Schedule → World → List Letter → Type 0
-AreSentClean s x letters = (l : Letter) (m : Message) → Contains letters l → read s (spelling l.says) ≡ Some m → IsClean s x m
+AreSentClean s x letters = (l : Letter) (m : Message) → Contains letters l → read s (spelling l.says) ≡ Some m → IsUnforged s x m
 
 -- The message of this number was made, and where its bytes are a stamped message, this is the digest of its body.
 pub record IsBodyAt (s : Schedule) (x : World) (n : ℕ) (body : Bytes) : Type 0 where

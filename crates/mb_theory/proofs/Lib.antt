@@ -16,3 +16,4 @@ pub mod DueOrders
 pub mod DueViews
 pub mod DueOpenings
 pub mod DueVotes
+pub mod StepsMade

@@ -1,5 +1,5 @@
 -- What is forged: a certificate or a tag in a message that verifies, and that was never made.
-use Rattle.std.specs.Prelude.{Bool, ◌&&◌, not, Option, find}
+use Rattle.std.specs.Prelude.{◌≡◌, Bool, false, ◌&&◌, not, Option, None, find}
 use Rattle.std.specs.List.{list_any}
 use Rattle.mb_usig.specs.Tags.{same_bytes, request_tag, reply_tag, wish_tag}
 use Rattle.mb_parts.specs.declared.request.Request.{Request}
@@ -55,3 +55,8 @@ module _ (s : Schedule) (w : World) where
   has_forged_tag (message.Reply m) = is_forged_reply m
   has_forged_tag (message.ReqViewChange m) = is_forged_wish m
   has_forged_tag m = list_any is_forged_request (requests_in m)
+
+  -- Neither a certificate nor a tag in the message is forged.
+  pub record IsUnforged (m : Message) : Type 0 where
+    pub claims : forged_claim m ≡ None
+    pub tags : has_forged_tag m ≡ false

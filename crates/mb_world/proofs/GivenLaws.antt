@@ -10,9 +10,8 @@ use Rattle.mb_sched.specs.declared.schedule.WorldEvent.{WorldEvent}
 use Rattle.mb_sched.specs.declared.schedule.WorldEvent.TheVariants.{Give, Take}
 use Rattle.mb_sched.specs.Limits.{is_faulty, is_faulty_client}
 use Rattle.mb_theory.specs.World.{World as WorldState, numbered, read}
-use Rattle.mb_theory.specs.Forged.{forged_claim, has_forged_tag}
+use Rattle.mb_theory.specs.Forged.{forged_claim, has_forged_tag, IsUnforged}
 use Rattle.mb_theory.specs.Stops.{WorldStop, Forged, ForgedTag, event_number, to_correct, name_stop, missing_stop, kind_stop, forged_stop, tag_stop, stop_of}
-use Rattle.mb_forged.specs.Checks.{IsClean}
 use Rattle.mb_parties.specs.Marks.{IsCleanAt}
 use Rattle.mb_parties.proofs.ListLaws.{some_is}
 use Rattle.mb_world.proofs.StopLaws.{or_none, given_there, taken_there}
@@ -39,14 +38,14 @@ module _ (s : Schedule) (x : WorldState) where
 
   clean_message : (o : Option Message) (m : Message) → o ≡ Some m
       → option_map (λ c. Forged (event_number s x) c.host c.counter) (option_and_then (forged_claim s x) o) ≡ None
-      → option_and_then (λ k. then_some (has_forged_tag s x k) (ForgedTag (event_number s x))) o ≡ None → IsClean s x m
+      → option_and_then (λ k. then_some (has_forged_tag s x k) (ForgedTag (event_number s x))) o ≡ None → IsUnforged s x m
   clean_message None m is claims tags = absurd cc
   clean_message (Some k) m is claims tags =
-      let clean : IsClean s x k = record {
+      let clean : IsUnforged s x k = record {
         claims = unmapped (λ c. Forged (event_number s x) c.host c.counter) (forged_claim s x k) claims;
         tags = untold (has_forged_tag s x k) (ForgedTag (event_number s x)) tags;
       } in
-      subst (λ (q : Message). IsClean s x q) (some_is k m is) clean
+      subst (λ (q : Message). IsUnforged s x q) (some_is k m is) clean
 
   clean_delivered : (faulty : Bool) (o : Option Bytes) (n : ℕ) → faulty ≡ false → numbered x.pool n ≡ o → is_some o ≡ true
       → option_map (λ c. Forged (event_number s x) c.host c.counter) (option_and_then (forged_claim s x) (option_and_then (read s) (to_correct s x faulty o))) ≡ None

@@ -1,4 +1,4 @@
--- What a correct host sends of an event that nothing stops is clean, in each world to which events lead that nothing stopped.
+-- What a correct host sends of an event that nothing stops is not forged, in each world to which events lead that nothing stopped.
 use Rattle.std.proofs.Common.{◌≡◌, ◌<◌, ℕ, [], refl, ap, subst, Some, None}
 use Rattle.std.specs.Prelude.{option_map}
 use Rattle.mb_base.specs.Shapes.{Bytes, host_count}
@@ -14,20 +14,19 @@ use Rattle.mb_theory.specs.World.{World as WorldState, System, self_of, numbered
 use Rattle.mb_theory.specs.WorldSteps.{happens}
 use Rattle.mb_theory.specs.EventsStep.{arrival}
 use Rattle.mb_theory.specs.Stops.{stop_of}
-use Rattle.mb_forged.specs.Checks.{IsClean}
+use Rattle.mb_theory.specs.Forged.{IsUnforged}
 use Rattle.mb_forged.proofs.CleanLaws.{clean_stays}
-use Rattle.mb_genuine.specs.NoneForged.{IsUnforged}
 use Rattle.mb_genuine.specs.Reached.{IsReached}
 use Rattle.mb_genuine.proofs.Sent.{sent_unforged}
 use Rattle.mb_world.specs.Sent.{SendsClean}
 
 module _ {V : Type 0} (y : System V) (x : WorldState) (r : IsReached y x) (e : WorldEvent) (none : stop_of y.schedule x e ≡ None) (h : ℕ) (there : h < host_count y.schedule.shape) where
   -- The answer is no part of what was made.
-  unanswered : (z v : WorldState) (seen : Event) (m : Message) → v ≡ steps y h seen z → IsUnforged y.schedule v m → IsClean y.schedule (partway y.schedule h (transition (self_of y h) (z.histories h) seen).left z) m
+  unanswered : (z v : WorldState) (seen : Event) (m : Message) → v ≡ steps y h seen z → IsUnforged y.schedule v m → IsUnforged y.schedule (partway y.schedule h (transition (self_of y h) (z.histories h) seen).left z) m
   unanswered z v seen m is u =
       let now : IsUnforged y.schedule (steps y h seen z) m = subst (λ (w : WorldState). IsUnforged y.schedule w m) is u in
       clean_stays y.schedule (steps y h seen z) (partway y.schedule h (transition (self_of y h) (z.histories h) seen).left z) m
-      (record { stamps = λ g. ([], refl); asked = ([], refl); tagged = ([], refl) }) (record { claims = now.claims; tags = now.tags })
+      (record { stamps = λ g. ([], refl); asked = ([], refl); tagged = ([], refl) }) now
 
   pub given_sends : (bytes : Bytes) → arrival x e ≡ Some (h, event.Given bytes) → happens y x e ≡ give_host y h bytes x → SendsClean y (arrives y.schedule h bytes x) h (event.Given bytes)
   unfolding give_host
