@@ -11,9 +11,8 @@ ghost use Rattle.mb_cert.specs.Checks.{agrees_at, floor_reason, ChecksFloor};
 
 use crate::bare::checkpoint_bare;
 use crate::fault::{CertFault, Why};
-use crate::floors::floors_digest;
 use mb_base::{Host, Shape, Ui};
-use mb_parts::{Floor, FloorCert, FloorMember};
+use mb_parts::{Floor, FloorCert, FloorMember, floors_digest};
 use mb_usig::Usig;
 
 /// Whether a floor certificate checks for the owner of a log.

@@ -18,7 +18,6 @@ mod bare;
 mod evidence;
 mod fault;
 mod floor;
-mod floors;
 mod stable;
 
 pub use bare::{
@@ -27,7 +26,6 @@ pub use bare::{
 pub use evidence::CheckEvidence;
 pub use fault::{CertFault, Why};
 pub use floor::CheckFloor;
-pub use floors::floors_digest;
 pub use stable::CheckStable;
 
 #[cfg(test)]

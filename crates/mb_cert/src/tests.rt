@@ -1,7 +1,8 @@
-use crate::{CertFault, CheckEvidence, CheckFloor, CheckStable, Why, floors_digest};
+use crate::{CertFault, CheckEvidence, CheckFloor, CheckStable, Why};
 use mb_base::{Digest, Host, Items, Key, Shape};
 use mb_parts::{
     Evidence, EvidenceMember, Floor, FloorCert, FloorMember, Phase, StableCert, StableMember,
+    floors_digest,
 };
 use mb_usig::Usig;
 use std::alloc::Global;

@@ -50,12 +50,12 @@ impl Model for OwnLog {
 }
 
 impl OwnLog {
-    ghost use Rattle.std.specs.Prelude.{◌≡◌, ◌+◌, ◌-◌, ◌≤◌, List, ℕ, Option, Some, true, not, length, map, min, reverse, count_by, IfOk, OnOk, OnErr};
+    ghost use Rattle.std.specs.Prelude.{◌≡◌, ◌+◌, ◌-◌, ◌≤◌, List, ℕ, Option, Some, true, not, length, map, min, reverse, count_by, IfOk, OnOk, OnErr, IsTrue};
     ghost use Rattle.std.specs.Option.{option_copied};
     ghost use Rattle.mb_parts.specs.declared.certificates.FloorCert.{FloorCert as Certificate};
     ghost use Rattle.mb_msg.specs.declared.stamped.Stamped.{Stamped as StampedMessage};
     ghost use Rattle.mb_msg.specs.Fits.{FitsStamped};
-    ghost use Rattle.mb_msg.specs.AsStamped.{stamped_digest};
+    ghost use Rattle.mb_msg.specs.AsStamped.{stamped_digest, is_spelled_to_hash};
     ghost use Rattle.mb_msg.specs.Spelling.{stamped_kind};
     ghost use Rattle.mb_log.specs.Logs.{empty_log, start, floor_counter, has_room_for, appended, cut_at, proof_of, given_from};
     ghost use Rattle.mb_model.specs.OwnLog.{is_normal, as_shown};
@@ -96,14 +96,16 @@ impl OwnLog {
         self.len() - self.normal
     }
 
-    /// Appends a message, for which there is room. Behind an OPEN, JOIN or VIEW_CHANGE some earlier entries lose their bodies. Its digest is
-    /// hashed, for which memory may be wanted: then the log is as it was.
+    /// Appends a message, for which there is room. Behind an OPEN, JOIN or VIEW_CHANGE some earlier entries lose their bodies. Its own
+    /// body is hashed, for which memory may be wanted of a VIEW_CHANGE, a NEW_VIEW or an OPEN alone: then the log is as it was. Of the other kinds it
+    /// always succeeds.
     pub fn append(&mut self, alloc: Global, message: Stamped) -> Result<(), NoMemory>
         requires room { has_room_for self.old (stamped_kind message) ≡ true }
         requires fits { FitsStamped self.old.shape message }
         ensures ok { OnOk result (self.new ≡ appended message self.old) }
         ensures stands { OnOk result (StandsWith self.old message self.new) }
         ensures err { OnErr result (self.new ≡ self.old) }
+        ensures kind { OnErr result (IsTrue (is_spelled_to_hash message)) }
     {
         let body = message.body_digest(alloc, &self.shape)?;
         self.append_with(message, body);
@@ -221,7 +223,7 @@ fn normal_limit(shape: &Shape) -> u32
 }
 
 /// The counter of a host's floor in the first member of a certificate, 0 where there is none.
-fn counter_for(host: Host, cert: &FloorCert) -> Counter
+pub(crate) fn counter_for(host: Host, cert: &FloorCert) -> Counter
     ensures { result ≡ floor_counter host (Some cert.now) }
 {
     match cert.members.as_slice().first() {

@@ -3,9 +3,10 @@
 ghost use Rattle.std.specs.Prelude.{◌≡◌};
 
 use crate::OwnLog;
-use mb_base::{Counter, Host, NoMemory, Pos, Shape, Ui};
-use mb_msg::{Body, Checkpoint, Commit, Stamped};
-use mb_parts::Part;
+use crate::log::counter_for;
+use mb_base::{Counter, Host, Items, NoMemory, Pos, Shape, Ui};
+use mb_msg::{Body, Checkpoint, Commit, Shown, StableCert, Stamped};
+use mb_parts::{Floor, FloorCert, FloorMember, Part, Phase};
 use std::alloc::Global;
 use std::test::Fail;
 
@@ -20,15 +21,19 @@ fn ui(counter: Counter) -> Ui {
     }
 }
 
-fn commit(pos: Pos, counter: Counter) -> Stamped {
-    Stamped::Commit(Commit {
+fn vote(pos: Pos, counter: Counter) -> Commit {
+    Commit {
         view: 0,
         pos,
         counter: pos,
         cert: [1; 32],
         body: Body::Bare([2; 32]),
         ui: ui(counter),
-    })
+    }
+}
+
+fn commit(pos: Pos, counter: Counter) -> Stamped {
+    Stamped::Commit(vote(pos, counter))
 }
 
 fn checkpoint(pos: Pos, counter: Counter) -> Stamped {
@@ -58,16 +63,27 @@ fn append(
     Ok(true)
 }
 
+/// Appends five votes, and a CHECKPOINT behind the fourth.
+fn append_six(alloc: Global, shape: &Shape, log: &mut OwnLog) -> Result<bool, NoMemory>
+    requires { log.old.shape ≡ shape.now }
+    ensures shape { log.new.shape ≡ shape.now }
+    ensures host { log.new.host ≡ log.old.host }
+{
+    Ok(
+        append(alloc, shape, log, commit(1, 1))?
+            && append(alloc, shape, log, commit(2, 2))?
+            && append(alloc, shape, log, commit(3, 3))?
+            && append(alloc, shape, log, commit(4, 4))?
+            && append(alloc, shape, log, checkpoint(4, 5))?
+            && append(alloc, shape, log, commit(5, 6))?,
+    )
+}
+
 #[test]
 fn votes_and_checkpoints_fill_the_log(rt: HostRuntime) -> Result<(), Fail> {
     let shape = Shape::new(1, 4, 1)?;
     let mut log = OwnLog::make(rt.alloc(), shape, HOST)?;
-    assert!(rt; append(rt.alloc(), &shape, &mut log, commit(1, 1))?);
-    assert!(rt; append(rt.alloc(), &shape, &mut log, commit(2, 2))?);
-    assert!(rt; append(rt.alloc(), &shape, &mut log, commit(3, 3))?);
-    assert!(rt; append(rt.alloc(), &shape, &mut log, commit(4, 4))?);
-    assert!(rt; append(rt.alloc(), &shape, &mut log, checkpoint(4, 5))?);
-    assert!(rt; append(rt.alloc(), &shape, &mut log, commit(5, 6))?);
+    assert!(rt; append_six(rt.alloc(), &shape, &mut log)?);
     assert_eq!(rt; log.len(), 6);
     assert_eq!(rt; log.longest(), 6);
     assert_eq!(rt; log.start(), 0);
@@ -75,5 +91,68 @@ fn votes_and_checkpoints_fill_the_log(rt: HostRuntime) -> Result<(), Fail> {
     assert!(rt; log.room(5) && log.room(7));
     let given = log.since(rt.alloc(), 5)?;
     assert!(rt; given.as_slice() == [checkpoint(4, 5), commit(5, 6)].as_slice());
+    Ok(())
+}
+
+/// A certificate of position 4, by which the log's host stood at counter 5.
+fn floor_cert(alloc: Global) -> Result<FloorCert, NoMemory> {
+    let mut members = Items::new(alloc);
+    for host in 0..2 {
+        let mut floors = Items::new(alloc);
+        floors.push(None)?;
+        floors.push(Some(Floor {
+            counter: 5,
+            view: 0,
+            phase: Phase::Open,
+            last: 4,
+            top: 4,
+            point: 4,
+        }))?;
+        floors.push(None)?;
+        members.push(FloorMember {
+            host,
+            counter: 9,
+            floors,
+            cert: [8; 32],
+        })?;
+    }
+    Ok(FloorCert {
+        pos: 4,
+        state: [3; 32],
+        members,
+    })
+}
+
+/// Cuts the log where it holds this host's counter in the certificate. Tells whether it was so.
+fn cut(log: &mut OwnLog, floor: FloorCert) -> bool
+    requires { log.old.host ≡ HOST }
+{
+    let counter = counter_for(HOST, &floor);
+    if counter < log.start() || counter - log.start() > u64::from(log.len()) {
+        return false;
+    }
+    log.cut(floor);
+    true
+}
+
+#[test]
+fn a_log_is_cut_at_its_floor_and_shown(rt: HostRuntime) -> Result<(), Fail> {
+    let shape = Shape::new(1, 4, 1)?;
+    let mut log = OwnLog::make(rt.alloc(), shape, HOST)?;
+    assert!(rt; append_six(rt.alloc(), &shape, &mut log)?);
+    assert!(rt; cut(&mut log, floor_cert(rt.alloc())?));
+    assert_eq!(rt; log.start(), 5);
+    assert_eq!(rt; log.len(), 1);
+    assert_eq!(rt; log.longest(), 6);
+    let stable = StableCert {
+        pos: 0,
+        state: [0; 32],
+        members: Items::new(rt.alloc()),
+    };
+    let proof = log.proof(rt.alloc(), &stable)?;
+    assert!(rt; proof.floor == Some(floor_cert(rt.alloc())?));
+    assert!(rt; proof.stable == stable);
+    assert!(rt; proof.entries.as_slice() == [Shown::Commit(vote(5, 6))].as_slice());
+    assert!(rt; log.since(rt.alloc(), 1)?.as_slice() == [commit(5, 6)].as_slice());
     Ok(())
 }

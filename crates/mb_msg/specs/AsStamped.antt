@@ -1,5 +1,5 @@
--- A stamped message without its identifier: the digest of its body, and the message that it is.
-use Rattle.std.specs.Prelude.{◌≡◌, replicate, None, Some, Result, Ok, Err}
+-- A stamped message without its identifier: the digest of its body, of which kinds hashing it may want memory, and the message that it is.
+use Rattle.std.specs.Prelude.{◌≡◌, Bool, true, false, replicate, None, Some, Result, Ok, Err}
 use Rattle.mb_base.specs.Shapes.{Bytes}
 use Rattle.mb_parts.specs.Spelling.{batch_bytes}
 use Rattle.mb_msg.specs.declared.stamped.Stamped.{Stamped}
@@ -23,3 +23,10 @@ stamped_digest (stamped.ViewChange m) = body_digest change_body_bytes m.body
 stamped_digest (stamped.NewView m) = body_digest new_view_body_bytes m.body
 stamped_digest (stamped.Open m) = body_digest open_body_bytes m.body
 stamped_digest _ = replicate 32 0
+
+-- Of its kind a whole body is spelled before it is hashed, for which memory is wanted.
+abbrev pub is_spelled_to_hash : Stamped → Bool
+is_spelled_to_hash (stamped.ViewChange m) = true
+is_spelled_to_hash (stamped.NewView m) = true
+is_spelled_to_hash (stamped.Open m) = true
+is_spelled_to_hash _ = false

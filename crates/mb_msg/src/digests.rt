@@ -1,29 +1,29 @@
 //! What is hashed and signed: the texts that tags cover, the bare bytes that certificates cover, and digests of plans.
 
-ghost use Rattle.std.specs.Prelude.{◌≡◌, ◌++◌, ◌≤◌, ◌<◌, ◌^◌, ℕ, length, None, IfOk, OnOk};
+ghost use Rattle.std.specs.Prelude.{◌≡◌, ◌++◌, ◌≤◌, ◌<◌, ◌^◌, ℕ, length, None, IfOk, OnOk, OnErr, IsTrue};
 ghost use Rattle.std.specs.Option.{option_map};
 ghost use Rattle.std.specs.List.{AllByRecursion};
 ghost use Rattle.mb_parts.specs.Bares.{bare_bytes, Prepare as BarePrepare, Commit as BareCommit, Checkpoint as BareCheckpoint, ViewChange as BareViewChange, NewView as BareNewView, Enter as BareEnter, Open as BareOpen, Join as BareJoin};
 ghost use Rattle.mb_parts.specs.Fits.{FitsText, FitsEvidence, FitsStable, FitsBatch, CanDigest};
 ghost use Rattle.mb_parts.specs.Spelling.{batch_bytes};
 ghost use Rattle.mb_msg.specs.Bodies.{body_digest, FitsBody};
-ghost use Rattle.mb_msg.specs.Fits.{FitsFields, FitsStamped, FitsShown, FitsCheckpoint, FitsViewChange, FitsNewView, FitsOpen, FitsJoin};
+ghost use Rattle.mb_msg.specs.Fits.{FitsFields, FitsStamped, FitsShown, FitsViewChange, FitsNewView, FitsOpen, FitsJoin};
 ghost use Rattle.mb_msg.specs.Spelling.{floors_body_bytes, change_body_bytes, new_view_body_bytes, open_body_bytes};
 ghost use Rattle.mb_msg.specs.Signed.{request_text, reply_text, covered};
-ghost use Rattle.mb_msg.specs.AsStamped.{stamped_digest};
+ghost use Rattle.mb_msg.specs.AsStamped.{stamped_digest, is_spelled_to_hash};
 ghost use Rattle.mb_msg.specs.Stamps.{as_stamped, with_ui, bare_of as says, bare_of_shown as shown_says, ui_of, ui_of_shown};
 
 use crate::change::{Enter, Join, NewView, Open, ViewChange};
 use crate::kinds::{CHECKPOINT, COMMIT, ENTER, JOIN, NEW_VIEW, OPEN, PREPARE, VIEW_CHANGE};
 use crate::message::{Body, Message};
-use crate::normal::{Checkpoint, Commit, Prepare};
+use crate::normal::{Checkpoint, Commit, Floors, Prepare};
 use crate::openings::put_joined;
 use crate::stamped::{Shown, Stamped};
 use mb_base::{
     Client, Counter, Digest, NoMemory, Pos, Seq, Shape, Ui, View, put_bytes, put_u8, put_u16,
     put_u64,
 };
-use mb_parts::{Batch, Part};
+use mb_parts::{Batch, Part, floors_digest};
 use std::alloc::Global;
 
 /// Client, number, and the length of the operation, in bytes.
@@ -97,6 +97,18 @@ impl Body<Batch> {
     {
         if let Body::Whole(batch) = self {
             batch.keep_digest();
+        }
+    }
+}
+
+impl Body<Floors> {
+    /// The digest of the floors, in either form, without memory.
+    pub fn floors_digest(&self) -> Digest
+        ensures { result ≡ body_digest floors_body_bytes self.now }
+    {
+        match self {
+            Body::Whole(body) => floors_digest(body.floors.as_slice()),
+            Body::Bare(digest) => *digest,
         }
     }
 }
@@ -276,12 +288,10 @@ impl Commit {
 }
 
 impl Checkpoint {
-    fn bare(&self, alloc: Global, shape: &Shape) -> Result<Vec<u8>, NoMemory>
-        requires { FitsCheckpoint shape.now self.now }
+    fn bare(&self, alloc: Global) -> Result<Vec<u8>, NoMemory>
         ensures { IfOk result (λ v. v.items ≡ bare_bytes (BareCheckpoint self.now.pos self.now.state (body_digest floors_body_bytes self.now.body))) }
     {
-        let body = self.body.digest(alloc, shape)?;
-        checkpoint_bare(alloc, self.pos, &self.state, &body)
+        checkpoint_bare(alloc, self.pos, &self.state, &self.body.floors_digest())
     }
 }
 
@@ -318,16 +328,18 @@ impl Open {
 }
 
 impl Stamped {
-    /// The digest of the message's body, in either form; 32 zero bytes for the kinds that have none. Each field has an allowed value.
+    /// The digest of the message's body, in either form; 32 zero bytes for the kinds that have none. Each field has an allowed value. An error is
+    /// want of memory, which may come for a VIEW_CHANGE, a NEW_VIEW or an OPEN alone.
     #[tactic(auto, using(crate::proofs::Opened::body_has_digest, crate::proofs::Opened::opened_parts))]
     pub fn body_digest(&self, alloc: Global, shape: &Shape) -> Result<Digest, NoMemory>
         requires { FitsStamped shape.now self.now }
-        ensures { IfOk result (λ d. d ≡ stamped_digest self.now) }
+        ensures digest { IfOk result (λ d. d ≡ stamped_digest self.now) }
+        ensures err { OnErr result (IsTrue (is_spelled_to_hash self.now)) }
     {
         match self {
             Stamped::Prepare(m) => Ok(m.body.batch_digest()),
             Stamped::Commit(m) => Ok(m.body.batch_digest()),
-            Stamped::Checkpoint(m) => m.body.digest(alloc, shape),
+            Stamped::Checkpoint(m) => Ok(m.body.floors_digest()),
             Stamped::ViewChange(m) => m.body.digest(alloc, shape),
             Stamped::NewView(m) => m.body.digest(alloc, shape),
             Stamped::Open(m) => m.body.digest(alloc, shape),
@@ -382,7 +394,7 @@ impl Stamped {
         match self {
             Stamped::Prepare(m) => m.bare(alloc),
             Stamped::Commit(m) => m.bare(alloc),
-            Stamped::Checkpoint(m) => m.bare(alloc, shape),
+            Stamped::Checkpoint(m) => m.bare(alloc),
             Stamped::ViewChange(m) => m.bare(alloc, shape),
             Stamped::NewView(m) => m.bare(alloc, shape),
             Stamped::Enter(m) => enter_bare(alloc, m),
@@ -453,7 +465,7 @@ pub fn bare_of(alloc: Global, shape: &Shape, message: &Message) -> Result<Option
     Ok(match message {
         Message::Prepare(m) => Some(m.bare(alloc)?),
         Message::Commit(m) => Some(m.bare(alloc)?),
-        Message::Checkpoint(m) => Some(m.bare(alloc, shape)?),
+        Message::Checkpoint(m) => Some(m.bare(alloc)?),
         Message::ViewChange(m) => Some(m.bare(alloc, shape)?),
         Message::NewView(m) => Some(m.bare(alloc, shape)?),
         Message::Enter(m) => Some(enter_bare(alloc, m)?),

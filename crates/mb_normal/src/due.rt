@@ -35,7 +35,8 @@ impl Normal {
     ghost use Rattle.mb_normal.specs.Rules.{first_rule, in_window, is_committed, Names};
 
     /// The first rule of the normal case that is enabled, where this host stands `at`, has executed up to `exec`, and `low` is the stable
-    /// position. `room` says whether its log has room for a vote. Every pending request counts as fresh, since served ones are settled.
+    /// position: of another `low` nothing is said. Positions are below 2^63. `room` says whether its log has room for a vote. Every pending request
+    /// counts as fresh, since served ones are settled.
     pub fn due(&self, at: &Floor, exec: Pos, low: Pos, room: bool) -> Due
         requires last { at.now.last < 2 ^ 63 }
         requires exec { exec < 2 ^ 63 }

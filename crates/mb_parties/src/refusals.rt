@@ -32,23 +32,17 @@ pub fn outcome_line(
             refused_line(alloc, event, Word::NeedBody, &[view, exec])
         }
         Outcome::BadTag => refused_line(alloc, event, Word::BadTag, &[]),
-        Outcome::Unusable { index, reason } => refused_line(
-            alloc,
-            event,
-            Word::Unusable,
-            &[u64::from(index), u64::from(reason)],
-        ),
+        Outcome::Unusable { index, reason } => {
+            let numbers = [u64::from(index), u64::from(reason)];
+            refused_line(alloc, event, Word::Unusable, &numbers)
+        }
         Outcome::Old { last } => refused_line(alloc, event, Word::Old, &[last]),
         Outcome::WrongDigest { part } => {
             refused_line(alloc, event, Word::WrongDigest, &[u64::from(part)])
         }
         Outcome::BadState { part, at } => {
-            refused_line(
-                alloc,
-                event,
-                Word::BadState,
-                &[u64::from(part), u64::from(at)],
-            )
+            let numbers = [u64::from(part), u64::from(at)];
+            refused_line(alloc, event, Word::BadState, &numbers)
         }
         Outcome::Again | Outcome::Stopping | Outcome::Idle | Outcome::Took => Ok(None),
     }

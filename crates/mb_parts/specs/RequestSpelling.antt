@@ -1,5 +1,5 @@
--- The bytes of a request, and the digest of a batch of requests.
-use Rattle.std.specs.Prelude.{◌++◌, List}
+-- The bytes of a request, and those of the requests of a batch, beside which a digest may be kept.
+use Rattle.std.specs.Prelude.{◌≡◌, ◌++◌, List, Option, IfSome}
 use Rattle.std.specs.Int.{w8, w64}
 use Rattle.sha2.specs.Sha256.{sha256}
 use Rattle.mb_base.specs.Shapes.{Bytes}
@@ -9,6 +9,10 @@ use Rattle.mb_parts.specs.declared.request.Request.{Request}
 unfoldable pub request_bytes : Request → Bytes
 request_bytes r = number w8 r.client ++ (number w64 r.seq ++ (text16 r.op ++ r.tag))
 
--- the digest of the batch that these requests are
-abbrev pub requests_digest : List Request → Bytes
-requests_digest l = sha256 (listed w8 request_bytes l)
+-- how many there are, and each of them
+abbrev pub requests_bytes : List Request → Bytes
+requests_bytes = listed w8 request_bytes
+
+-- Where a digest is kept beside them, it is that of the batch that they are.
+abbrev pub IsHashed : List Request → Option Bytes → Type 0
+IsHashed requests kept = IfSome kept (λ digest. digest ≡ sha256 (requests_bytes requests))

@@ -52,7 +52,7 @@ pub struct Mark {
 
 impl Phase {
     /// 0 for Changing, 1 for Entered, 2 for Open.
-    fn number(self) -> u8
+    pub(crate) fn number(self) -> u8
         ensures { result ≡ phase_number self }
     {
         match self {

@@ -8,6 +8,7 @@ mod counting;
 mod evidence;
 mod fault;
 mod floor;
+mod floors;
 mod laws;
 mod limits;
 mod numbers;
@@ -27,6 +28,7 @@ pub use counting::{count_bytes, count_u8, count_u16, count_u32, count_u64};
 pub use evidence::read_evidence_in;
 pub use fault::Undecoded;
 pub use floor::{Floor, Mark, Phase};
+pub use floors::floors_digest;
 pub use laws::{certificates_carry_over, ordered_lists_go_on_from_floors, prefixes_are_consistent};
 pub use limits::{MAX_BATCH, MAX_PLACE, MAX_POS, MAX_REQUESTS, MAX_VIEW, TEXT_LIMIT};
 pub use numbers::{

@@ -1,7 +1,7 @@
 //! The requests of a batch, beside which its digest is kept once it was taken.
 
-ghost use Rattle.std.specs.Prelude.{◌≡◌, IfSome};
-ghost use Rattle.mb_parts.specs.RequestSpelling.{requests_digest};
+ghost use Rattle.std.specs.Prelude.{◌≡◌, Some};
+ghost use Rattle.mb_parts.specs.RequestSpelling.{IsHashed};
 
 use crate::request::Request;
 use mb_base::{Digest, Duplicate, Items};
@@ -18,13 +18,13 @@ pub struct Requests {
 impl Model for Requests {
     ghost use Rattle.std.specs.Prelude.{List};
     ghost use Rattle.mb_parts.specs.declared.request.Request.{Request as RequestValue};
-    ghost use Rattle.mb_parts.specs.Kept.{IsKept};
+    ghost use Rattle.mb_parts.specs.RequestSpelling.{IsHashed};
 
     ghost Value = { List RequestValue };
 
     ghost view = { λ r. r.items };
 
-    ghost invariant = { λ r. IsKept r.items r.digest };
+    ghost invariant = { λ r. IsHashed r.items r.digest };
 }
 
 impl Requests {
@@ -54,14 +54,14 @@ impl Requests {
 
     /// The digest of the batch that they are, where it was taken before.
     pub(crate) fn kept(&self) -> Option<Digest>
-        ensures { IfSome result (λ d. d ≡ requests_digest self.now) }
+        ensures { IsHashed self.now result }
     {
         self.digest
     }
 
     /// This is the digest of the batch that they are.
     pub(crate) fn keep(&mut self, digest: Digest)
-        requires { digest ≡ requests_digest self.old }
+        requires { IsHashed self.old (Some digest) }
         ensures { self.new ≡ self.old }
     {
         self.digest = Some(digest);

@@ -25,8 +25,8 @@
 //!
 //! A NEW_VIEW follows where each of its members is of its view, rightly stamped and usable, and where it announces base, end and digest of their
 //! plan. That plan is the answer, so it is made once. Its members vote for the same batches by the same PREPAREs, most of the time: what was found of
-//! a batch, its digest and whether its tags are right, stays for the members behind and for the plan, so that it is hashed once; so does a PREPARE
-//! whose certificate was right.
+//! a batch, its digest and whether its tags are right, stays for the members behind and for the plan, so that its tags are looked at once; so does a
+//! PREPARE whose certificate was right.
 //!
 //! The protocol is MinBFT (Veronese, Correia, Bessani, Lung, Verissimo: *Efficient Byzantine Fault-Tolerance*, IEEE Transactions on Computers,
 //! 2013). There too a VIEW-CHANGE shows all messages that its replica sent since its last checkpoint certificate.

@@ -4,13 +4,13 @@ use crate::tests::{
     ASKED, GET_TAG, PLAN, PUT_TAG, SECRET, asked_with, at, at_zero, digit, found_of, plan_left, ui,
 };
 use mb_base::{Counter, Digest, Host, Items, Pos, Shape, Ui, View};
-use mb_cert::{checkpoint_bare, enter_bare, floors_digest, new_view_bare};
+use mb_cert::{checkpoint_bare, enter_bare, new_view_bare};
 use mb_msg::{
     BareViewChange, Batch, Body, ChangeBody, Commit, Evidence, EvidenceMember, Floor, FloorCert,
     FloorMember, Join, Message, Open, OpenBody, Phase, Prepare, Shown, StableCert, StableMember,
     ViewChange,
 };
-use mb_parts::Part;
+use mb_parts::{Part, floors_digest};
 use mb_usig::{Spent, Usig};
 use std::alloc::Global;
 use std::process::Abort;

@@ -2,40 +2,23 @@
 
 ghost use Rattle.std.specs.Prelude.{◌≡◌, ◌++◌, ℕ, List};
 ghost use Rattle.std.specs.List.{flat_map};
-ghost use Rattle.std.specs.Int.{w8};
 ghost use Rattle.sha2.specs.Sha256.{sha256};
-ghost use Rattle.mb_base.specs.Spelling.{number, optional};
-ghost use Rattle.mb_parts.specs.Spelling.{phase_number, floor_bytes, floors_bytes};
+ghost use Rattle.mb_base.specs.Spelling.{optional};
+ghost use Rattle.mb_parts.specs.Spelling.{floor_bytes, floors_bytes};
 
+use crate::floor::Floor;
+use crate::request::byte;
 use mb_base::Digest;
-use mb_parts::{Floor, Phase};
 use sha2::{Digest as Hasher, Sha256};
 
-#[tactic(auto, unfolding(mb_base::specs::Spelling::number))]
-fn byte(value: u8) -> [u8; 1]
-    ensures { result ≡ number w8 value }
-{
-    [value]
-}
-
-fn phase_byte(phase: Phase) -> u8
-    ensures { result ≡ phase_number phase }
-{
-    match phase {
-        Phase::Changing => 0,
-        Phase::Entered => 1,
-        Phase::Open => 2,
-    }
-}
-
 /// Feeds a hasher with the bytes of a floor.
-#[tactic(auto, unfolding(mb_parts::specs::Spelling::floor_bytes))]
+#[tactic(auto, unfolding(crate::specs::Spelling::floor_bytes))]
 fn feed_floor<H: Hasher>(hasher: &mut H, floor: &Floor)
     ensures { (m : List ℕ) → H.holds hasher.old m → H.holds hasher.new (m ++ floor_bytes floor.now) }
 {
     hasher.update(floor.counter.to_be_bytes());
     hasher.update(floor.view.to_be_bytes());
-    hasher.update(byte(phase_byte(floor.phase)));
+    hasher.update(byte(floor.phase.number()));
     hasher.update(floor.last.to_be_bytes());
     hasher.update(floor.top.to_be_bytes());
     hasher.update(floor.point.to_be_bytes());
