@@ -25,7 +25,7 @@ ghost use Rattle.mb_model.specs.Held.{change_fault};
 
 use crate::stamping::{NO_UI, publish, sign};
 use mb_base::{Duplicate, NoMemory, View};
-use mb_msg::{Body, ChangeBody, Stamped, ViewChange};
+use mb_msg::{Body, ChangeBody, Hashed, Stamped, ViewChange};
 use mb_plan::{BadProof, usable};
 use mb_replica::{Done, ReplicaState};
 use mb_service::Service;
@@ -85,12 +85,13 @@ fn view_change<V: Service + Drop>(
     };
     Ok(Stamped::ViewChange(ViewChange {
         view,
-        body: Body::Whole(body),
+        body: Body::Whole(Hashed::new(body)),
         ui: NO_UI,
     }))
 }
 
 /// The own VIEW_CHANGE is stored where it is usable.
+#[tactic(auto, using(mb_msg::proofs::Opened::change_can_digest))]
 fn store_own<V: Service + Drop>(
     replica: &mut ReplicaState<V>,
     alloc: Global,
@@ -103,11 +104,11 @@ fn store_own<V: Service + Drop>(
     let Stamped::ViewChange(change) = message else {
         return Ok(());
     };
-    if !is_usable(replica, alloc, change)? {
+    let own = change.duplicate(alloc)?.with_digests();
+    if !is_usable(replica, alloc, &own)? {
         return Ok(());
     }
-    let copy = change.duplicate(alloc)?;
-    replica.agreement.change.store(copy)
+    replica.agreement.change.store(own)
 }
 
 /// What it shows has no fault.

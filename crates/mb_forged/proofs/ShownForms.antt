@@ -8,6 +8,7 @@ use Rattle.mb_base.specs.Shapes.{interval}
 use Rattle.mb_parts.specs.declared.certificates.StableMember.{StableMember}
 use Rattle.mb_parts.specs.Fits.{IsPosition, FitsStable}
 use Rattle.mb_parts.specs.Spelling.{batch_bytes}
+use Rattle.mb_msg.specs.declared.change.ChangeBody.{ChangeBody}
 use Rattle.mb_msg.specs.declared.stamped.Shown.{Shown}
 use Rattle.mb_msg.specs.declared.stamped.Stamped.{Stamped}
 use Rattle.mb_msg.specs.declared.stamped.Stamped.TheVariants as stamped
@@ -149,9 +150,13 @@ all_reversed : {A : Type 0} (P : A → Type 0) (l : List A) → AllByRecursion P
 all_reversed P [] a = tt
 all_reversed P (x ∷ l) a = subst (AllByRecursion P) (sym (reverse-append (x ∷ []) l)) (all_append P (reverse l) (x ∷ []) (all_reversed P l a.1) (a.0, tt))
 
--- the VIEW_CHANGE of these entries, whose stable certificate has these members
+-- the VIEW_CHANGE that shows this
+abbrev pub showing : ℕ → ChangeBody → Stamped
+showing view body = stamped.ViewChange (record { view = view; body = Whole body; ui = placeholder })
+
+-- that of these entries, whose stable certificate has these members
 abbrev pub made : ℕ → List StableMember → List Shown → Stamped
-made view members entries = stamped.ViewChange (record { view = view; body = Whole (record { floor = None; stable = record no_base { members = members }; entries = entries }); ui = placeholder })
+made view members entries = showing view (record { floor = None; stable = record no_base { members = members }; entries = entries })
 
 module _ (s : Shape) where
   opening_fits : (x : Stamped) → FitsStamped s x → FitsStamped s (behind_opening x)

@@ -288,7 +288,7 @@ impl<'a> Checker<'a> {
         ensures { (s : Schedule) (w : World) → AsksIn s w self.now → IfOk result (λ o. o ≡ first_forged s w (inside_whole (change_claims s.shape) m.now.body)) }
     {
         match &m.body {
-            Body::Whole(body) => self.in_change_body(alloc, body),
+            Body::Whole(body) => self.in_change_body(alloc, body.as_part()),
             Body::Bare(_) => Ok(None),
         }
     }

@@ -15,7 +15,7 @@ ghost use Rattle.mb_forged.specs.Contents.{unstamped, change_of, is_opening, ent
 use mb_base::{Digest, Items, NoMemory, Pos, Shape, Ui, View};
 use mb_msg::{
     BareCheckpoint, BareNewView, BareViewChange, Batch, Body, ChangeBody, Checkpoint, Commit,
-    Floor, Floors, Message, Prepare, Shown, StableCert, Stamped, ViewChange,
+    Floor, Floors, Hashed, Message, Prepare, Shown, StableCert, Stamped, ViewChange,
 };
 use std::alloc::Global;
 
@@ -124,7 +124,7 @@ pub fn change_with(
     };
     Ok(Stamped::ViewChange(ViewChange {
         view,
-        body: Body::Whole(body),
+        body: Body::Whole(Hashed::new(body)),
         ui: PLACEHOLDER,
     }))
 }

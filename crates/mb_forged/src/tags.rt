@@ -101,7 +101,7 @@ impl<'a> Checker<'a> {
         ensures { (s : Schedule) (w : World) → AsksIn s w self.now → IfOk result (λ b. b ≡ list_any (is_forged_request s w) (change_requests m.now)) }
     {
         match &m.body {
-            Body::Whole(body) => self.forged_in_log(alloc, body.entries.as_slice()),
+            Body::Whole(body) => self.forged_in_log(alloc, body.as_part().entries.as_slice()),
             Body::Bare(_) => Ok(false),
         }
     }

@@ -13,9 +13,9 @@ pub fn hosts_send_nothing_forged<V>()
     ensures { SentIsUnforged V }
 {}
 
-/// Over any service, in each world that nothing stopped, where no raw bytes came in and faulty hosts stamped no other than PREPAREs of
-/// requests: whatever is read of a message that was made, neither a certificate nor a tag in it is forged. So it is whoever is faulty, and without a
-/// premise about digests.
+/// Over any service, in each world that nothing stopped, where no raw bytes came in and faulty hosts stamped nothing but PREPAREs of requests, CHECKPOINTs
+/// and the contents of messages that were made: whatever is read of a message that was made, neither a certificate nor a tag in it is forged. So it is
+/// whoever is faulty, and without a premise about digests.
 pub fn nothing_is_forged<V>()
     ensures { NoneIsForged V }
 {}

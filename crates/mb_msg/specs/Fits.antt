@@ -1,11 +1,11 @@
 -- The values that the grammar of messages has.
-use Rattle.std.specs.Prelude.{◌≡◌, ℕ, ◌+◌, ◌*◌, ◌-◌, ◌≤◌, ◌<◌, length, IfSome}
+use Rattle.std.specs.Prelude.{◌≡◌, ⊤, ℕ, ◌+◌, ◌*◌, ◌-◌, ◌≤◌, ◌<◌, length, IfSome}
 use Rattle.std.specs.List.{AllByRecursion}
 use Rattle.mb_base.specs.Shapes.{host_count, client_count, quorum, interval}
 use Rattle.mb_base.specs.declared.limits.TheConstants.{MESSAGE_LIMIT}
 use Rattle.mb_base.specs.declared.shape.Shape.{Shape}
 use Rattle.mb_parts.specs.declared.certificates.Evidence.{Evidence}
-use Rattle.mb_parts.specs.Fits.{IsCounter, IsPlace, IsPosition, IsDigest, IsBase, IsEnd, FitsText, FitsStatePart, AreMembers, FitsRequest, FitsBatch, FitsUi, FitsFloors, FitsStable, FitsFloorCert, FitsEvidence, FitsJoined}
+use Rattle.mb_parts.specs.Fits.{IsCounter, IsPlace, IsPosition, IsDigest, IsBase, IsEnd, FitsText, FitsStatePart, AreMembers, FitsRequest, FitsBatch, CanDigest, FitsUi, FitsFloors, FitsStable, FitsFloorCert, FitsEvidence, FitsJoined}
 use Rattle.mb_msg.specs.declared.normal.Prepare.{Prepare}
 use Rattle.mb_msg.specs.declared.normal.Commit.{Commit}
 use Rattle.mb_msg.specs.declared.normal.Reply.{Reply}
@@ -141,6 +141,20 @@ pub record FitsChangeBody (s : Shape) (b : ChangeBody) : Type 0 where
   pub stable : FitsStable s b.stable
   pub count : length b.entries ≤ shown_limit s
   pub entries : AllByRecursion (FitsShown s) b.entries
+
+-- The batch of a vote is short enough to be spelled.
+abbrev pub CanDigestVote : Shown → Type 0
+CanDigestVote (shown.Prepare m) = FitsBody CanDigest m.body
+CanDigestVote (shown.Commit m) = FitsBody CanDigest m.body
+CanDigestVote (shown.Checkpoint m) = ⊤
+CanDigestVote (shown.ViewChange m) = ⊤
+CanDigestVote (shown.NewView m) = ⊤
+CanDigestVote (shown.Enter m) = ⊤
+CanDigestVote (shown.Open m) = ⊤
+CanDigestVote (shown.Join m) = ⊤
+
+abbrev pub CanDigestVotes : ChangeBody → Type 0
+CanDigestVotes b = AllByRecursion CanDigestVote b.entries
 
 pub record FitsViewChange (s : Shape) (m : ViewChange) : Type 0 where
   pub view : IsPosition m.view

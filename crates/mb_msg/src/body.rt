@@ -6,10 +6,10 @@ ghost use Rattle.mb_parts.specs.Counted.{counted};
 ghost use Rattle.mb_parts.specs.Decoded.{Decodes};
 ghost use Rattle.mb_msg.specs.Bodies.{form_of, body_bytes, body_digest, FitsBody, form_at, bare_form_at, body_at};
 
+use crate::hashed::digest_of;
 use crate::message::Body;
 use mb_base::{Digest, Fields, NoMemory, Shape, put_bytes};
 use mb_parts::{Part, Readable, Undecoded, count_bytes, read_digest};
-use sha2::{Digest as _, Sha256};
 use std::alloc::Global;
 
 /// Stands before the digest of a body.
@@ -87,17 +87,14 @@ impl<T: Part> Body<T> {
         }
     }
 
-    /// The SHA-256 digest (FIPS 180-4) of the body's bytes, in either form. Each field has an allowed value.
+    /// The SHA-256 digest (FIPS 180-4) of the body's bytes, in either form. A whole body is hashed anew, also where a digest is kept beside it. Each
+    /// field has an allowed value. An error is want of memory.
     pub fn digest(&self, alloc: Global, shape: &Shape) -> Result<Digest, NoMemory>
         requires { FitsBody (T.valid shape.now) self.now }
         ensures { IfOk result (λ d. d ≡ body_digest T.text self.now) }
     {
         match self {
-            Body::Whole(part) => {
-                let mut bytes = Vec::new(alloc);
-                part.put(shape, &mut bytes)?;
-                Ok(Sha256::digest(&bytes))
-            }
+            Body::Whole(part) => digest_of(alloc, shape, part),
             Body::Bare(digest) => Ok(*digest),
         }
     }

@@ -7,13 +7,14 @@ ghost use Rattle.mb_parts.specs.Bares.{bare_bytes, Prepare as BarePrepare, Commi
 ghost use Rattle.mb_parts.specs.Fits.{FitsText, FitsEvidence, FitsStable, FitsBatch, CanDigest};
 ghost use Rattle.mb_parts.specs.Spelling.{batch_bytes};
 ghost use Rattle.mb_msg.specs.Bodies.{body_digest, FitsBody};
-ghost use Rattle.mb_msg.specs.Fits.{FitsFields, FitsStamped, FitsShown, FitsViewChange, FitsNewView, FitsOpen, FitsJoin};
+ghost use Rattle.mb_msg.specs.Fits.{FitsFields, FitsStamped, FitsShown, FitsChangeBody, FitsViewChange, FitsNewView, FitsOpen, FitsJoin};
 ghost use Rattle.mb_msg.specs.Spelling.{floors_body_bytes, change_body_bytes, new_view_body_bytes, open_body_bytes};
 ghost use Rattle.mb_msg.specs.Signed.{request_text, reply_text, covered};
 ghost use Rattle.mb_msg.specs.AsStamped.{stamped_digest, is_spelled_to_hash};
 ghost use Rattle.mb_msg.specs.Stamps.{as_stamped, with_ui, bare_of as says, bare_of_shown as shown_says, ui_of, ui_of_shown};
 
-use crate::change::{Enter, Join, NewView, Open, ViewChange};
+use crate::change::{ChangeBody, Enter, Join, NewView, Open, ViewChange};
+use crate::hashed::Hashed;
 use crate::kinds::{CHECKPOINT, COMMIT, ENTER, JOIN, NEW_VIEW, OPEN, PREPARE, VIEW_CHANGE};
 use crate::message::{Body, Message};
 use crate::normal::{Checkpoint, Commit, Floors, Prepare};
@@ -109,6 +110,19 @@ impl Body<Floors> {
         match self {
             Body::Whole(body) => floors_digest(body.floors.as_slice()),
             Body::Bare(digest) => *digest,
+        }
+    }
+}
+
+impl Body<Hashed<ChangeBody>> {
+    /// The digest of what a VIEW_CHANGE shows, in either form. Each field has an allowed value. An error is want of memory.
+    pub fn change_digest(&self, alloc: Global, shape: &Shape) -> Result<Digest, NoMemory>
+        requires { FitsBody (FitsChangeBody shape.now) self.now }
+        ensures { IfOk result (λ d. d ≡ body_digest change_body_bytes self.now) }
+    {
+        match self {
+            Body::Whole(body) => body.digest(alloc, shape),
+            Body::Bare(digest) => Ok(*digest),
         }
     }
 }
@@ -301,7 +315,7 @@ impl ViewChange {
         requires { FitsViewChange shape.now self.now }
         ensures { IfOk result (λ v. v.items ≡ bare_bytes (BareViewChange self.now.view (body_digest change_body_bytes self.now.body))) }
     {
-        let body = self.body.digest(alloc, shape)?;
+        let body = self.body.change_digest(alloc, shape)?;
         view_change_bare(alloc, self.view, &body)
     }
 }
@@ -340,7 +354,7 @@ impl Stamped {
             Stamped::Prepare(m) => Ok(m.body.batch_digest()),
             Stamped::Commit(m) => Ok(m.body.batch_digest()),
             Stamped::Checkpoint(m) => Ok(m.body.floors_digest()),
-            Stamped::ViewChange(m) => m.body.digest(alloc, shape),
+            Stamped::ViewChange(m) => m.body.change_digest(alloc, shape),
             Stamped::NewView(m) => m.body.digest(alloc, shape),
             Stamped::Open(m) => m.body.digest(alloc, shape),
             Stamped::Enter(_) | Stamped::Join(_) => Ok([0; 32]),

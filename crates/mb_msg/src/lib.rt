@@ -8,6 +8,8 @@ mod checkpoints;
 mod copies;
 mod digests;
 mod event;
+mod hashed;
+mod kept;
 mod kinds;
 mod marks;
 mod message;
@@ -28,6 +30,7 @@ pub use change::{
 };
 pub use digests::{bare_of, commit_bare, prepare_bare, signed_reply, signed_request};
 pub use event::{Event, Outcome, Placed, Sent, Slot, Step, To};
+pub use hashed::Hashed;
 pub use marks::mark_of;
 pub use mb_base::MESSAGE_LIMIT;
 pub use mb_parts::{

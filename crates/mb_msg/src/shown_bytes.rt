@@ -6,7 +6,7 @@ ghost use Rattle.mb_parts.specs.Counted.{counted};
 ghost use Rattle.mb_parts.specs.Decoded.{Decodes};
 ghost use Rattle.mb_msg.specs.Fits.{FitsShown, FitsBareViewChange, FitsBareNewView};
 ghost use Rattle.mb_msg.specs.Spelling.{shown_bytes, bare_view_change_bytes, plan_bytes, bare_new_view_bytes};
-ghost use Rattle.mb_msg.specs.Reading.{prepare_at, commit_at, behind_shown_kind_at, shown_at, bare_view_change_at, bare_new_view_at};
+ghost use Rattle.mb_msg.specs.Reading.{behind_shown_kind_at, shown_at, bare_view_change_at, bare_new_view_at};
 
 use crate::body::{BARE_FORM, read_bare_form};
 use crate::change::{BareNewView, BareViewChange, Enter, Join, NewView, Open, ViewChange};
@@ -194,24 +194,6 @@ impl Part for Shown {
     }
 }
 
-/// A PREPARE. Who checks the log asks for the digest of its batch, so it is taken at once, and kept.
-fn read_prepare(alloc: Global, shape: &Shape, fields: &mut Fields<'_>) -> Result<Prepare, Undecoded>
-    ensures { Decodes result fields.new (prepare_at shape.now (place_of fields.old)) }
-{
-    let mut prepare = Prepare::read(alloc, shape, fields)?;
-    prepare.body.keep_digest();
-    Ok(prepare)
-}
-
-/// A COMMIT, as a PREPARE is read.
-fn read_commit(alloc: Global, shape: &Shape, fields: &mut Fields<'_>) -> Result<Commit, Undecoded>
-    ensures { Decodes result fields.new (commit_at shape.now (place_of fields.old)) }
-{
-    let mut commit = Commit::read(alloc, shape, fields)?;
-    commit.body.keep_digest();
-    Ok(commit)
-}
-
 #[tactic(auto, unfolding(crate::specs::Reading::behind_shown_kind_at))]
 fn read_shown(
     alloc: Global,
@@ -222,8 +204,8 @@ fn read_shown(
     ensures { Decodes result fields.new (behind_shown_kind_at shape.now kind (place_of fields.old)) }
 {
     match kind {
-        PREPARE => Ok(Shown::Prepare(read_prepare(alloc, shape, fields)?)),
-        COMMIT => Ok(Shown::Commit(read_commit(alloc, shape, fields)?)),
+        PREPARE => Ok(Shown::Prepare(Prepare::read(alloc, shape, fields)?)),
+        COMMIT => Ok(Shown::Commit(Commit::read(alloc, shape, fields)?)),
         CHECKPOINT => Ok(Shown::Checkpoint(BareCheckpoint::read(alloc, shape, fields)?)),
         VIEW_CHANGE => Ok(Shown::ViewChange(BareViewChange::read(alloc, shape, fields)?)),
         NEW_VIEW => Ok(Shown::NewView(BareNewView::read(alloc, shape, fields)?)),

@@ -31,7 +31,7 @@ fn log_in(change: &ViewChange, host: Host) -> Option<ShownLog<'_>>
     }
     Some(ShownLog {
         host: change.ui.host,
-        body,
+        body: body.as_part(),
     })
 }
 

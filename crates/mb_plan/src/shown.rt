@@ -327,7 +327,7 @@ pub(crate) fn usable_beside<'a>(
     ensures fault { Answers (option_and_then (log_fault shape.now usig.now.secret (verifies usig.now.secret) change.now.ui.host change.now.view change.now.ui.counter) (whole_body change.now.body)) result }
 {
     match &change.body {
-        Body::Whole(body) => check_log(alloc, shape, usig, places, change, body),
+        Body::Whole(body) => check_log(alloc, shape, usig, places, change, body.as_part()),
         Body::Bare(_) => Ok(()),
     }
 }

@@ -7,8 +7,8 @@ use mb_base::{Counter, Digest, Host, Items, Pos, Shape, Ui, View};
 use mb_cert::{checkpoint_bare, enter_bare, new_view_bare};
 use mb_msg::{
     BareViewChange, Batch, Body, ChangeBody, Commit, Evidence, EvidenceMember, Floor, FloorCert,
-    FloorMember, Join, Message, Open, OpenBody, Phase, Prepare, Shown, StableCert, StableMember,
-    ViewChange,
+    FloorMember, Hashed, Join, Message, Open, OpenBody, Phase, Prepare, Shown, StableCert,
+    StableMember, ViewChange,
 };
 use mb_parts::{Part, floors_digest};
 use mb_usig::{Spent, Usig};
@@ -353,11 +353,11 @@ fn change(alloc: Global, shape: &Shape, told: &[u8]) -> Result<ViewChange, Fail>
     }
     Ok(ViewChange {
         view: u64::from(digit(first, 1)),
-        body: Body::Whole(ChangeBody {
+        body: Body::Whole(Hashed::new(ChangeBody {
             floor: floor_cert(alloc, shape, letter(second, 4))?,
             stable: stable_at(alloc, shape, number(second, 0, 1), letter(second, 2))?,
             entries,
-        }),
+        })),
         ui: ui(host, number(first, 3, 4), &[0; 32]),
     })
 }

@@ -5,7 +5,7 @@ use crate::{BadProof, NewViewFault, Plan, PlanFault, check_new_view, plan_of, us
 use mb_base::{Counter, Digest, Host, Items, Key, NoMemory, Pos, Shape, Ui, View};
 use mb_msg::{
     BareCheckpoint, BareViewChange, Batch, Body, ChangeBody, Commit, Enter, Evidence,
-    EvidenceMember, Join, Message, NewView, NewViewBody, Open, OpenBody, Prepare, Request,
+    EvidenceMember, Hashed, Join, Message, NewView, NewViewBody, Open, OpenBody, Prepare, Request,
     Requests, Shown, StableCert, StableMember, ViewChange, fields_fit,
 };
 use mb_parts::Part;
@@ -260,11 +260,11 @@ fn found(
     counter: Counter,
     entries: Items<Shown>,
 ) -> Option<Result<(), BadProof>> {
-    let body = Body::Whole(ChangeBody {
+    let body = Body::Whole(Hashed::new(ChangeBody {
         floor: None,
         stable: at_zero(alloc),
         entries,
-    });
+    }));
     let message = Message::ViewChange(ViewChange {
         view,
         body,
@@ -339,11 +339,11 @@ fn both_leave(alloc: Global, last: &Digest) -> Result<Items<ViewChange>, Fail> {
     ] {
         changes.push(ViewChange {
             view: 1,
-            body: Body::Whole(ChangeBody {
+            body: Body::Whole(Hashed::new(ChangeBody {
                 floor: None,
                 stable: at_zero(alloc),
                 entries,
-            }),
+            })),
             ui: ui(host, counter, cert),
         })?;
     }
@@ -358,22 +358,19 @@ fn followed(
     end: Pos,
     changes: Items<ViewChange>,
 ) -> Option<Result<(Pos, usize), NewViewFault>> {
-    let message = Message::NewView(NewView {
+    let new_view = NewView {
         view,
         base: 0,
         end,
         plan: *PLAN,
         body: Body::Whole(NewViewBody { changes }),
         ui: ui(1, 3, NEW_VIEW),
-    });
-    if !fields_fit(&shape, &message) {
+    };
+    if !new_view.fits(&shape) {
         return None;
     }
-    let Message::NewView(new_view) = &message else {
-        return None;
-    };
     let usig = Usig::new(shape, 0, &SECRET);
-    match check_new_view(alloc, &shape, &usig, new_view) {
+    match check_new_view(alloc, &shape, &usig, &new_view) {
         Ok(plan) => Some(Ok((plan.base.pos, plan.batches.len()))),
         Err(fault) => Some(Err(fault)),
     }
@@ -581,11 +578,11 @@ fn change(alloc: Global, told: &[u8]) -> Result<ViewChange, Fail> {
     }
     Ok(ViewChange {
         view: 2,
-        body: Body::Whole(ChangeBody {
+        body: Body::Whole(Hashed::new(ChangeBody {
             floor: None,
             stable: stable(alloc, digit(told, 2), digit(told, 3))?,
             entries,
-        }),
+        })),
         ui: ui(digit(told, 0), 9, CHANGE_1),
     })
 }

@@ -6,7 +6,7 @@ ghost use Rattle.mb_msg.specs.AsStamped.{stamped_digest};
 ghost use Rattle.mb_replica.specs.Told.{KnowsBody};
 
 use mb_base::{Digest, NoMemory, Shape, Ui};
-use mb_msg::{Mark, Stamped};
+use mb_msg::{Mark, Outcome, Stamped};
 use std::alloc::Global;
 
 /// A given stamped message.
@@ -17,6 +17,13 @@ pub(crate) struct Arrival {
     pub(crate) mark: Mark,
     /// The digest of its body, 32 zero bytes where it has none.
     pub(crate) body: Digest,
+}
+
+/// A given stamped message, and why it is refused, where it is.
+#[derive(Drop)]
+pub(crate) struct Checked {
+    pub(crate) arrival: Arrival,
+    pub(crate) refusal: Option<Outcome>,
 }
 
 impl Arrival {
@@ -43,6 +50,25 @@ impl Arrival {
             mark: message.mark(),
             body: body_of(alloc, shape, &message, known)?,
             message,
+        })
+    }
+
+    /// This message, with the digests that `Stamped::with_digests` has it keep. An error is want of memory.
+    pub(crate) fn with_digests(self, alloc: Global, shape: &Shape) -> Result<Arrival, NoMemory>
+        requires { FitsStamped shape.now self.message }
+        ensures { IfOk result (λ a. a ≡ self) }
+    {
+        let Arrival {
+            message,
+            ui,
+            mark,
+            body,
+        } = self;
+        Ok(Arrival {
+            message: message.with_digests(alloc, shape)?,
+            ui,
+            mark,
+            body,
         })
     }
 

@@ -1,6 +1,6 @@
 //! A given stamped message: why it is refused, and what it does where it is not.
 
-use crate::arrival::Arrival;
+use crate::arrival::{Arrival, Checked};
 use crate::state::ReplicaState;
 use mb_base::{Counter, Digest, Host, NoMemory, Ui};
 use mb_msg::{Mark, Outcome, Stamped};
@@ -38,28 +38,33 @@ impl<V: Service + Drop> ReplicaState<V> {
         ensures { (me : Identity V) (x : Progress) → (done : Done) → StandsAt me self.old done x → IfOk result (λ o. (o ≡ (give_stamped me message x).outcome) × StandsAt me self.new done (give_stamped me message x).left) }
     {
         let arrival = Arrival::of(alloc, &self.agreement.shape, message, known)?;
-        match self.stamped_refusal(alloc, &arrival)? {
+        let checked = self.checked(alloc, arrival)?;
+        match checked.refusal {
             None => {
-                self.accept(alloc, arrival)?;
+                self.accept(alloc, checked.arrival)?;
                 Ok(Outcome::Took)
             }
             Some(outcome) => {
-                self.closing(outcome, &arrival.ui);
+                self.closing(outcome, &checked.arrival.ui);
                 Ok(outcome)
             }
         }
     }
 
-    /// Why a stamped message is refused.
+    /// A stamped message, and why it is refused, where it is. Once its identifier has passed, a VIEW_CHANGE or a NEW_VIEW keeps digests.
     #[tactic(auto, unfolding(mb_model::specs::KindChecks::stamped_refusal))]
-    fn stamped_refusal(&self, alloc: Global, arrival: &Arrival) -> Result<Option<Outcome>, NoMemory>
-        requires { IsArrival self.now.agreement.shape arrival.now }
-        ensures { (me : Identity V) (d : History) → Represents me self.now d → IfOk result (λ o. o ≡ stamped_refusal me d arrival.now.message) }
+    fn checked(&self, alloc: Global, arrival: Arrival) -> Result<Checked, NoMemory>
+        requires { IsArrival self.now.agreement.shape arrival }
+        ensures arrives { IfOk result (λ c. IsArrival self.now.agreement.shape c.arrival × (c.arrival.message ≡ arrival.message)) }
+        ensures refusal { (me : Identity V) (d : History) → Represents me self.now d → IfOk result (λ c. c.refusal ≡ stamped_refusal me d c.arrival.message) }
     {
-        if let Some(outcome) = self.identifier_refusal(alloc, arrival)? {
-            return Ok(Some(outcome));
+        let refusal = self.identifier_refusal(alloc, &arrival)?;
+        if refusal.is_some() {
+            return Ok(Checked { arrival, refusal });
         }
-        self.kind_refusal(alloc, &arrival.message)
+        let arrival = arrival.with_digests(alloc, &self.agreement.shape)?;
+        let refusal = self.kind_refusal(alloc, &arrival.message)?;
+        Ok(Checked { arrival, refusal })
     }
 
     /// Of an ENTER and of a JOIN the gate asks all that there is.

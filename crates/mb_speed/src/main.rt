@@ -2,7 +2,8 @@
 //!
 //! With the word `measure` it prints three lines for each of three messages: its bytes, and the nanoseconds that writing it once
 //! and reading it once take. With the word `tables` it takes the bytes of a NEW_VIEW from standard input, of the largest system and a
-//! secret of 32 bytes 7, and prints how long it takes to read and to check it, and the digest of a state takes. All times differ from
+//! secret of 32 bytes 7, and prints how long it takes to read it, with the
+//! digests of what its members show, and to check it, and the digest of a state takes. All times differ from
 //! run to run, so without such a word it says no more than how it is used.
 #![tactic(auto)]
 

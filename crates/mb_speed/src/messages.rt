@@ -2,8 +2,8 @@
 
 use mb_base::{Host, Items, Ui};
 use mb_msg::{
-    Batch, Body, ChangeBody, Commit, Evidence, EvidenceMember, Join, Message, NewView, NewViewBody,
-    Request, Requests, Shown, StableCert, StableMember, ViewChange,
+    Batch, Body, ChangeBody, Commit, Evidence, EvidenceMember, Hashed, Join, Message, NewView,
+    NewViewBody, Request, Requests, Shown, StableCert, StableMember, ViewChange,
 };
 use std::alloc::{AllocError, Global};
 
@@ -116,11 +116,11 @@ fn entries(alloc: Global, count: u16) -> Result<Items<Shown>, AllocError> {
 fn change(alloc: Global, host: Host, count: u16) -> Result<ViewChange, AllocError> {
     Ok(ViewChange {
         view: 4,
-        body: Body::Whole(ChangeBody {
+        body: Body::Whole(Hashed::new(ChangeBody {
             floor: None,
             stable: stable(alloc)?,
             entries: entries(alloc, count)?,
-        }),
+        })),
         ui: ui(host),
     })
 }

@@ -3,19 +3,28 @@
 ghost use Rattle.std.specs.Prelude.{◌≡◌, length, IfOk};
 ghost use Rattle.std.specs.List.{AllByRecursion};
 ghost use Rattle.mb_parts.specs.Fits.{CanDigest};
+ghost use Rattle.mb_msg.specs.Fits.{FitsMember};
 ghost use Rattle.mb_msg.specs.Plans.{CanHash};
 
 use crate::tests::made_elsewhere::{
     CHECKPOINT, COMMIT, ENTER, JOIN, LOG, NEW_VIEW, OPEN, PREPARE, VIEW_CHANGE,
 };
 use crate::tests::{read, samples};
-use mb_base::{Counter, Host, Items, Pos, Shape, Ui, View};
+use mb_base::{Counter, Duplicate, Host, Items, Pos, Shape, Ui, View};
 use mb_msg::*;
 use mb_parts::Part;
 use sha2::{Digest as _, Sha256};
 use std::alloc::Global;
 use std::process::Abort;
 use std::test::Fail;
+
+/// The digest of what the certificate of the NEW_VIEW's first member covers.
+const FIRST_MEMBER_COVERED: &str =
+    "5a98d85452dec2e8917ddf99a38956bb2ae39dabfad798f8a78bb9d47014a08a";
+
+/// The digest of what that of its second member covers.
+const SECOND_MEMBER_COVERED: &str =
+    "afad09395835257904b1260e5e1a9a13145633815af55416299e24cf36300892";
 
 fn mark(kind: u8, view: View, pos: Pos, end: Pos, counter: Counter) -> Mark {
     Mark {
@@ -141,6 +150,40 @@ fn certificates_of_a_view_change_cover_bare_bytes(rt: HostRuntime) -> Result<(),
     )
 }
 
+/// The digests of what the certificates of these VIEW_CHANGEs cover.
+fn covered_by(alloc: Global, shape: &Shape, changes: &[ViewChange]) -> Result<Vec<String>, Fail>
+    requires { AllByRecursion (FitsMember shape.now) changes.now }
+{
+    let mut found = Vec::new(alloc);
+    for change in changes {
+        found.push(digest_of(alloc, &change.bare(alloc, shape)?)?)?;
+    }
+    Ok(found)
+}
+
+/// The same of the members of the NEW_VIEW, beside whose bodies stand their digests.
+fn covered_by_members(alloc: Global, shape: &Shape) -> Result<Vec<String>, Fail> {
+    let Message::NewView(new_view) = read(alloc, shape, NEW_VIEW)? else {
+        return Err("no NEW_VIEW".into());
+    };
+    if !new_view.fits(shape) {
+        return Err("the NEW_VIEW does not fit".into());
+    }
+    let Body::Whole(body) = new_view.with_digests(alloc, shape)?.body else {
+        return Err("no whole NEW_VIEW".into());
+    };
+    covered_by(alloc, shape, body.changes.as_slice())
+}
+
+#[test]
+fn certificates_of_members_cover_the_digests_that_are_kept(rt: HostRuntime) -> Result<(), Fail> {
+    let found = covered_by_members(rt.alloc(), &Shape::new(1, 8, 6)?)?;
+    assert_eq!(rt; found.len(), 2);
+    assert_eq!(rt; found[0].as_str(), FIRST_MEMBER_COVERED);
+    assert_eq!(rt; found[1].as_str(), SECOND_MEMBER_COVERED);
+    Ok(())
+}
+
 fn has_no_stamp(alloc: Global, message: &Message) -> Result<bool, Fail> {
     let shape = samples::shape()?;
     Ok(covered(alloc, &shape, message)?.is_none() && mark_of(message).is_none())
@@ -168,15 +211,19 @@ fn assert_ui(
     Ok(())
 }
 
-/// The entries of a VIEW_CHANGE that was made elsewhere.
+/// The entries of a VIEW_CHANGE that was made elsewhere. Its votes keep the digests of their batches.
+#[tactic(auto, using(mb_msg::proofs::Opened::change_can_digest))]
 fn shown(alloc: Global, shape: &Shape) -> Result<Items<Shown>, Fail> {
     let Message::ViewChange(change) = read(alloc, shape, VIEW_CHANGE)? else {
         return Err("no VIEW_CHANGE".into());
     };
-    let Body::Whole(body) = change.body else {
+    if !change.fits(shape) {
+        return Err("the VIEW_CHANGE does not fit".into());
+    }
+    let Body::Whole(body) = change.with_digests().body else {
         return Err("no whole VIEW_CHANGE".into());
     };
-    Ok(body.entries)
+    Ok(body.as_part().entries.duplicate(alloc)?)
 }
 
 fn assert_shown(

@@ -186,11 +186,11 @@ fn shown() -> Shown {
 fn view_change(alloc: Global) -> Result<Message, AllocError> {
     Ok(Message::ViewChange(ViewChange {
         view: 0x0701,
-        body: Body::Whole(ChangeBody {
+        body: Body::Whole(Hashed::new(ChangeBody {
             floor: Some(floor_cert(alloc)?),
             stable: stable(alloc)?,
             entries: list(alloc, [shown()])?,
-        }),
+        })),
         ui: ui(),
     }))
 }

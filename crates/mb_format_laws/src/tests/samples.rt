@@ -188,11 +188,11 @@ fn entries(alloc: Global) -> Result<Items<Shown>, AllocError> {
 fn change(alloc: Global, host: Host) -> Result<ViewChange, AllocError> {
     Ok(ViewChange {
         view: 4,
-        body: Body::Whole(ChangeBody {
+        body: Body::Whole(Hashed::new(ChangeBody {
             floor: Some(floor_cert(alloc)?),
             stable: stable(alloc)?,
             entries: entries(alloc)?,
-        }),
+        })),
         ui: ui(host),
     })
 }
