@@ -1,6 +1,6 @@
 -- A text is that of one config, and each of the operations that it has is short.
 use Rattle.std.proofs.Common.{◌≡◌, ℕ, ◌*◌, ◌≤◌, ◌<◌, ◌&&◌, leb, cond, Bool, true, false, List, [], ◌∷◌, map, length, codes, Option, Some, None, Result, Ok, Err, refl, sym, ap, subst, ◌∙◌, arith, ◌⊎◌, inl, inr}
-use Rattle.std.specs.Prelude.{option_and_then, IsErrOf}
+use Rattle.std.specs.Prelude.{Contains, option_and_then, IsErrOf}
 use Rattle.std.specs.Result.{result_ok}
 use Rattle.std.proofs.lemmas.Bool.{leb-true, and_parts}
 use Rattle.hex.specs.Hex.{decode_of}
@@ -23,9 +23,10 @@ use Rattle.mb_cluster.specs.declared.stop.ClusterStop.TheVariants as end
 use Rattle.mb_edge.specs.Faults.{Rose}
 use Rattle.mb_cluster.specs.Ends.{EndsWell}
 use Rattle.mb_cluster.specs.Nodes.{RunsNodes, EndsAs, spawned}
-use Rattle.mb_answer.specs.Clusters.{run_status, HasRisen, RunsCluster, Clusters, TellsBadEnds, IsUnbroken, IsRun}
+use Rattle.mb_answer.specs.Clusters.{run_status, cluster_statuses, HasRisen, RunsCluster, Clusters, TellsBadEnds, IsUnbroken, IsRun}
 use Rattle.mb_answer.proofs.Statuses.{low_is_not}
-use Rattle.mb_answer.specs.Configs.{IsConfigText, RefusesConfig, too_long, bad_line, LacksConfig, FindsConfig, Uses, used, unused}
+use Rattle.mb_answer.proofs.Contained.{any_of}
+use Rattle.mb_answer.specs.Configs.{IsConfigText, RefusesConfig, too_long, bad_line, LacksConfig, lack_statuses, FindsConfig, Uses, used, unused}
 use Rattle.mb_answer.specs.Devices.{Device, LinkState, Devices, IsLow, answered, unread, starved}
 use Rattle.mb_answer.proofs.SameShapes.{same_shape}
 
@@ -108,6 +109,23 @@ told_by (Err end.LinkFault) status is = ((λ e. absurd (omega (arith, is, e))), 
 told_by (Err end.SpawnFault) status is = ((λ e. absurd (omega (arith, is, e))), ((λ e. absurd (omega (arith, is, e))), ((λ e. absurd (omega (arith, is, e))), (λ e. refl))))
 told_by (Err end.SinkFault) status is = ((λ e. absurd (omega (arith, is, e))), ((λ e. refl), ((λ e. absurd (omega (arith, is, e))), (λ e. absurd (omega (arith, is, e))))))
 told_by (Err end.NoMemory) status is = ((λ e. absurd (omega (arith, is, e))), ((λ e. absurd (omega (arith, is, e))), ((λ e. absurd (omega (arith, is, e))), (λ e. absurd (omega (arith, is, e))))))
+
+-- ---- which statuses there are
+
+run_in : (ended : Result (Unit {0}) ClusterStop) → Contains cluster_statuses (run_status ended)
+run_in (Ok done) = (0, omega arith, refl)
+run_in (Err (end.ChildEnded host s)) = (8, omega arith, refl)
+run_in (Err (end.Budget seq matching)) = (7, omega arith, refl)
+run_in (Err end.LinkFault) = (5, omega arith, refl)
+run_in (Err end.SpawnFault) = (6, omega arith, refl)
+run_in (Err end.SinkFault) = (4, omega arith, refl)
+run_in (Err end.NoMemory) = (2, omega arith, refl)
+
+pub run_known : (ended : Result (Unit {0}) ClusterStop) (status : ℕ) → status ≡ run_status ended → Contains cluster_statuses status
+run_known ended status is = subst (Contains cluster_statuses) (sym is) (run_in ended)
+
+pub lack_known : (status : ℕ) → Contains lack_statuses status → Contains cluster_statuses status
+lack_known status lack = any_of (Contains cluster_statuses) lack_statuses status ((1, omega arith, refl), ((2, omega arith, refl), ((3, omega arith, refl), ((4, omega arith, refl), tt)))) lack
 
 -- Bad ends of a run by its status.
 pub ends_told : (ended : Result (Unit {0}) ClusterStop) (status before now : ℕ) (well : Type 0) → status ≡ run_status ended → EndsAs ended before now → (well → EndsWell ended) → TellsBadEnds well before now (status ≡ 18)

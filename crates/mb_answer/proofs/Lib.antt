@@ -1,3 +1,4 @@
 pub mod SameShapes
+pub mod Contained
 pub mod Statuses
 pub mod ConfigLaws

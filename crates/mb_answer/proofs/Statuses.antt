@@ -1,6 +1,6 @@
 -- Which statuses can come, and what is written with them.
 use Rattle.std.proofs.Common.{◌≡◌, ℕ, ◌≤◌, ◌<◌, length, Option, Some, None, Result, Ok, Err, IfOk, IfSome, refl, sym, subst, ◌∙◌, arith, ◌⊎◌, inl, inr}
-use Rattle.std.specs.Prelude.{IfErr, IsErrOf}
+use Rattle.std.specs.Prelude.{Contains, IfErr, IsErrOf}
 use Rattle.mb_base.specs.Shapes.{Bytes}
 use Rattle.mb_base.specs.declared.writing.NoMemory.{NoMemory}
 use Rattle.mb_edge.specs.Faults.{Rose, HasNoFault, TellsFaults}
@@ -14,7 +14,7 @@ use Rattle.mb_sched.specs.TextLines.{ReadsText}
 use Rattle.mb_answer.specs.declared.answer.Answer.{Answer}
 use Rattle.mb_answer.specs.Refusals.{IsRefusal}
 use Rattle.mb_answer.specs.Configs as config
-use Rattle.mb_answer.specs.Configs.{RefusesConfig}
+use Rattle.mb_answer.specs.Configs.{RefusesConfig, lack_statuses}
 use Rattle.mb_answer.specs.Texts.{too_long_text}
 use Rattle.mb_answer.specs.Devices.{Device, Says, said, failed, cut_short, SaysOrStarves, says, lacks, IsUnread, IsToldBy, IsLow, Responds, answered, unread, starved}
 
@@ -123,3 +123,30 @@ pub said_completes : (wanted : ℕ) (out : Bytes) (status : ℕ) (old new : Devi
 said_completes wanted out status old new zero none (said same grew) = inl (same ∙ zero)
 said_completes wanted out status old new zero none (failed six rose part) = absurd (none rose)
 said_completes wanted out status old new zero none (cut_short four part) = inr four
+
+-- ---- which statuses there are
+
+module _ (P : ℕ → Type 0) (four : P 4) (six : P 6) where
+  pub said_is : (wanted : ℕ) (out : Bytes) (status : ℕ) (old new : Device) → P wanted → Says wanted out status old new → P status
+  said_is wanted out status old new p (said same grew) = subst P (sym same) p
+  said_is wanted out status old new p (failed is rose part) = subst P (sym is) six
+  said_is wanted out status old new p (cut_short is part) = subst P (sym is) four
+
+  pub responded_is : (answer : Result Answer NoMemory) (status : ℕ) (sink sink' : Device) → IfOk answer (λ a. P a.status) → IfOk answer (λ a. Says a.status a.text.items status sink sink')
+      → IfErr answer (λ _. (status ≡ 4) × (sink ≡ sink')) → P status
+  responded_is (Ok a) status sink sink' p wrote none = said_is a.status a.text.items status sink sink' p wrote
+  responded_is (Err e) status sink sink' p wrote none = subst P (sym none.0) four
+
+  pub unread_is : (found : ReadStop) (status : ℕ) (sink sink' : Device) → P 2 → P 5 → IsUnread found status sink sink' → P status
+  unread_is stop.TooLong status sink sink' two five (says wrote) = said_is 2 too_long_text status sink sink' two wrote
+  unread_is stop.TooLong status sink sink' two five (lacks is same) = subst P (sym is) four
+  unread_is stop.Fault status sink sink' two five is = subst P (sym is.0) five
+  unread_is stop.NoMemory status sink sink' two five is = subst P (sym is.0) four
+
+pub refusal_two : (fault : BadText) (status : ℕ) (out : Bytes) → IsRefusal fault status out → status ≡ 2
+refusal_two fault.TooLong status out is = is.0
+refusal_two (fault.BadLine n) status out is = is.0
+refusal_two fault.NoMemory status out is = absurd is
+
+pub is_lack : (n : ℕ) → n ≡ 2 → Contains lack_statuses n
+is_lack n two = subst (Contains lack_statuses) (sym two) (0, omega arith, refl)

@@ -1,5 +1,5 @@
 -- What a cluster's client program does with a config: whom it starts, what it asks, hears and writes, and how it ends.
-use Rattle.std.specs.Prelude.{◌≡◌, ℕ, ◌≤◌, ◌⊎◌, Result, Ok, Err}
+use Rattle.std.specs.Prelude.{◌≡◌, ℕ, ◌≤◌, ◌⊎◌, List, [], ◌∷◌, Result, Ok, Err}
 use Rattle.mb_base.specs.Shapes.{Bytes}
 use Rattle.mb_cluster.specs.declared.stop.ClusterStop.{ClusterStop}
 use Rattle.mb_cluster.specs.declared.stop.ClusterStop.TheVariants as stop
@@ -19,6 +19,10 @@ run_status (Err stop.LinkFault) = 7
 run_status (Err stop.SpawnFault) = 8
 run_status (Err stop.SinkFault) = 6
 run_status (Err stop.NoMemory) = 4
+
+-- those of the word `cluster`: of a run, and where there is no config
+abbrev pub cluster_statuses : List ℕ
+cluster_statuses = 0 ∷ 2 ∷ 4 ∷ 5 ∷ 6 ∷ 7 ∷ 8 ∷ 9 ∷ 18 ∷ []
 
 -- A device's stop comes where its count of faults rose, and a bad end where that count rose.
 abbrev pub HasRisen : Result (Unit {0}) ClusterStop → Devices → Devices → Type 0

@@ -1,5 +1,5 @@
 -- What is done with the text of a config.
-use Rattle.std.specs.Prelude.{◌≡◌, ℕ, ◌≤◌, ◌<◌, length, Result, Ok, Err}
+use Rattle.std.specs.Prelude.{◌≡◌, ℕ, ◌≤◌, ◌<◌, List, [], ◌∷◌, length, Result, Ok, Err}
 use Rattle.mb_base.specs.Shapes.{Bytes}
 use Rattle.mb_sched.specs.declared.configs.Config.{Config}
 use Rattle.mb_sched.specs.Configs.{max_config, config_of, config_contents}
@@ -31,3 +31,6 @@ pub data Uses (text : Bytes) (uses : Config → Type 0) (idle : Type 0) (status 
 -- the statuses where there is no config
 abbrev pub IsLack : ℕ → Type 0
 IsLack status = IsLow status × ¬ (status ≡ 0)
+
+abbrev pub lack_statuses : List ℕ
+lack_statuses = 2 ∷ 4 ∷ 5 ∷ 6 ∷ []

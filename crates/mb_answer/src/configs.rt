@@ -1,14 +1,14 @@
 //! Reading a config, and the word `cluster`: a client program that starts the nodes of a config and asks them.
 
-ghost use Rattle.std.specs.Prelude.{◌≡◌, ◌+◌, OnOk, IfOk, IfErr, IfSome, IsErrOf};
+ghost use Rattle.std.specs.Prelude.{◌≡◌, ◌+◌, Contains, OnOk, IfOk, IfErr, IfSome, IsErrOf};
 ghost use Rattle.std.specs.Io.KnownBytes.{IsAtEnd};
 ghost use Rattle.mb_edge.specs.Faults.{TellsFaults};
 ghost use Rattle.mb_edge.specs.Pieces.{ConsumesBetween};
 ghost use Rattle.mb_cluster.specs.Runs.{OpsFit};
 ghost use Rattle.mb_sched.specs.Configs.{max_config};
-ghost use Rattle.mb_answer.specs.Configs.{FindsConfig, IsLack};
+ghost use Rattle.mb_answer.specs.Configs.{FindsConfig, IsLack, lack_statuses};
 ghost use Rattle.mb_answer.specs.Devices.{Device, device, link_state, spawner_state, devices};
-ghost use Rattle.mb_answer.specs.Clusters.{Clusters, TellsBadEnds};
+ghost use Rattle.mb_answer.specs.Clusters.{Clusters, TellsBadEnds, cluster_statuses};
 
 use crate::answer::refusal;
 use crate::ends::run_status;
@@ -23,6 +23,7 @@ fn config_in<K: Sink>(alloc: Global, text: &[u8], sink: &mut K) -> Result<Config
     ensures told { (source source' : Device) → FindsConfig text.now result source source' (device (K.written sink.old) (K.faults sink.old)) (device (K.written sink.new) (K.faults sink.new)) }
     ensures ops { IfOk result (λ config. OpsFit config.ops) }
     ensures low { IfErr result IsLack }
+    ensures statuses { IfErr result (Contains lack_statuses) }
     ensures unread { ¬ IsErrOf result 5 }
     ensures sink { TellsFaults (K.never_fails sink.old) (K.never_fails sink.new) (K.faults sink.old) (K.faults sink.new) (IsErrOf result 6) }
 {
@@ -44,6 +45,7 @@ pub fn config_from<S: Source, K: Sink>(
     ensures ops { IfOk result (λ config. OpsFit config.ops) }
     ensures limit { ConsumesBetween 0 (max_config + 1) (S.left source.old) (S.left source.new) }
     ensures low { IfErr result IsLack }
+    ensures statuses { IfErr result (Contains lack_statuses) }
     ensures source { TellsFaults (S.never_fails source.old) (S.never_fails source.new) (S.faults source.old) (S.faults source.new) (IsErrOf result 5) }
     ensures sink { TellsFaults (K.never_fails sink.old) (K.never_fails sink.new) (K.faults sink.old) (K.faults sink.new) (IsErrOf result 6) }
 {
@@ -65,6 +67,7 @@ pub fn cluster<S: Source, K: Sink, L: Link, P: Spawner>(
     ensures told { IfSome (S.left source.old) (λ text. Clusters text turns result
         (devices (device (S.left source.old) (S.faults source.old)) (device (K.written sink.old) (K.faults sink.old)) (link_state (L.received link.old) (L.sent link.old) (L.opens link.old) (L.faults link.old)) (spawner_state (P.starts spawner.old) (P.waits spawner.old) (P.faults spawner.old) (P.bad_ends spawner.old)))
         (devices (device (S.left source.new) (S.faults source.new)) (device (K.written sink.new) (K.faults sink.new)) (link_state (L.received link.new) (L.sent link.new) (L.opens link.new) (L.faults link.new)) (spawner_state (P.starts spawner.new) (P.waits spawner.new) (P.faults spawner.new) (P.bad_ends spawner.new)))) }
+    ensures statuses { Contains cluster_statuses result }
     ensures ended { result ≡ 0 → IsAtEnd (S.left source.new) }
     ensures limit { ConsumesBetween 0 (max_config + 1) (S.left source.old) (S.left source.new) }
     ensures source { TellsFaults (S.never_fails source.old) (S.never_fails source.new) (S.faults source.old) (S.faults source.new) (result ≡ 5) }

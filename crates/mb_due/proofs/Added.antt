@@ -29,7 +29,6 @@ use Rattle.mb_msg.specs.declared.event.Event.{Event}
 use Rattle.mb_msg.specs.declared.event.Event.TheVariants as event
 use Rattle.mb_msg.specs.declared.event.Outcome.{Outcome}
 use Rattle.mb_msg.specs.declared.event.Outcome.TheVariants as outcome
-use Rattle.mb_msg.specs.declared.event.Placed.{Placed}
 use Rattle.mb_msg.specs.Stamps.{bare_of, ui_of, as_message}
 use Rattle.mb_msg.specs.Reading.{message_of}
 use Rattle.mb_model.specs.Service.{Served as ServedState}
@@ -44,7 +43,7 @@ use Rattle.mb_model.specs.Sending.{Progress, begin, write, note, signed}
 use Rattle.mb_model.specs.GateChecks.{valid}
 use Rattle.mb_model.specs.KindChecks.{stamped_refusal}
 use Rattle.mb_model.specs.PlainChecks.{wrong_part, wrong_digest, fault_of, bad_state, is_wanted, is_list_right, are_all_held, request_refusal, wish_refusal, resend_refusal, log_refusal, fetch_refusal, state_refusal}
-use Rattle.mb_model.specs.CarriedOut.{placed_in, with_reply, serve, serve_all}
+use Rattle.mb_model.specs.CarriedOut.{serve_all}
 use Rattle.mb_model.specs.Given.{Answer, closing, named_prepare, offer_prepare, casts_vote, accept, give_stamped, give_request, give_wish, give_resend, give_fetch, install_where_all, give_state, floor_shown, jump, go_on, give_entries, give_log, give}
 use Rattle.mb_model.specs.HostStep.{on_bytes, on_patience, on_nudge, transition}
 use Rattle.mb_model.proofs.Options.{option_cases, if_some}
@@ -53,8 +52,8 @@ use Rattle.mb_theory.specs.WorldSteps.{world}
 use Rattle.mb_known.proofs.Cases.{none_is}
 use Rattle.mb_known.proofs.RestsGiven.{convicts}
 use Rattle.mb_line.proofs.StateParts.{part_digest}
-use Rattle.mb_line.proofs.Walks.{IsRuled}
-use Rattle.mb_line.proofs.WalkEvents.{ruled_keeps}
+use Rattle.mb_theory.proofs.KeptByEvents.{served_keep}
+use Rattle.mb_line.proofs.Walks.{IsRuled, ruled_keeps}
 use Rattle.mb_theory.specs.AddsGiven.{IsBroughtBy, IsDone, IsPartOf, ShowsFloor, IsOutOfOrder, BringsNoState, ComesOf, ComesWith, AddsWhatCame, AddsGiven}
 
 -- ---- why a state is dropped
@@ -129,18 +128,8 @@ module _ {S : Type 0} (self : Identity S) where
       come = (subst (λ (y : History). IsDone e ⊎ ComesWith self ev y e) s.is c, s.come);
     }
 
-    reply_comes : (p : Placed) (x : Progress) → Came x → Came (with_reply self p x)
-    reply_comes p x s = elim (cases_Bool p.fresh) [
-      | inl fresh ↦ rw fresh s
-      | inr again ↦ rw again s
-    ]
-
     serves_come : (pos : ℕ) (rs : List Request) (x : Progress) → Came x → Came (serve_all self pos rs x)
-    unfolding serve_all
-    serves_come pos [] x s = s
-    serves_come pos (r ∷ rs) x s =
-        let p : Placed = placed_in self x.history r in
-        serves_come pos rs (serve self pos r x) (reply_comes p (write (Served pos p) x) (onto_came (Served pos p) x.history (inl tt) s))
+    serves_come pos rs x s = served_keep self (AddsWhatCame self ev d) (λ q p h t. onto_came (Served q p) h (inl tt) t) pos rs x s
 
     came_ruled : IsRuled self Came
     came_ruled = record {

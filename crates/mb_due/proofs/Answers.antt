@@ -1,6 +1,6 @@
 -- Who asks is answered: what is sent at once stays among what is sent, whatever the rest of the step does.
 use Rattle.std.proofs.Common.{◌≡◌, ℕ, ◌<◌, Bool, true, false, List, [], ◌∷◌, ◌++◌, refl, sym, ap, subst, ◌∙◌, inl, inr, arith, Option, Some, Ok}
-use Rattle.std.specs.Prelude.{if◌then◌else◌, Contains, unwrap_or, Result}
+use Rattle.std.specs.Prelude.{Contains, unwrap_or, Result}
 use Rattle.std.specs.Bool.{then_some}
 use Rattle.std.specs.Option.{option_or}
 use Rattle.std.proofs.lemmas.Bool.{cases_Bool, eq-eqb, ne_eqb, lt-ltb, le-ltb, ltb-false}
@@ -9,7 +9,6 @@ use Rattle.mb_usig.specs.Tags.{request_tag}
 use Rattle.mb_usig.proofs.Laws.{true-same_bytes}
 use Rattle.mb_base.specs.Shapes.{Bytes}
 use Rattle.mb_parts.specs.declared.request.Request.{Request}
-use Rattle.mb_msg.specs.declared.event.Placed.{Placed}
 use Rattle.mb_msg.specs.declared.event.Event.TheVariants as event
 use Rattle.mb_msg.specs.declared.event.Outcome.{Outcome}
 use Rattle.mb_msg.specs.declared.event.Outcome.TheVariants as outcome
@@ -19,7 +18,7 @@ use Rattle.mb_msg.specs.declared.transfer.Resend.{Resend}
 use Rattle.mb_msg.specs.declared.transfer.Fetch.{Fetch}
 use Rattle.mb_msg.specs.Stamps.{as_message}
 use Rattle.mb_msg.specs.Reading.{message_of}
-use Rattle.mb_model.specs.Histories.{Served, LostPatience, Nudged, History, Identity, view_of, origin, taken_of}
+use Rattle.mb_model.specs.Histories.{LostPatience, Nudged, History, Identity, view_of, origin, taken_of}
 use Rattle.mb_model.specs.Held.{view_limit, wish_of}
 use Rattle.mb_model.specs.Service.{reply_of}
 use Rattle.mb_model.specs.Stable.{low_of}
@@ -28,7 +27,7 @@ use Rattle.mb_model.specs.Execution.{state_of, snapshot_of, asked_host}
 use Rattle.mb_model.specs.Sending.{Letter, Progress, begin, write, send, signed, to_all, to_host, to_client}
 use Rattle.mb_model.specs.Making.{wish_for, wish, resend, log_for, fetch, state_message}
 use Rattle.mb_model.specs.PlainChecks.{number_refusal, request_refusal, resend_refusal, fetch_refusal}
-use Rattle.mb_model.specs.CarriedOut.{placed_in, serve, serve_all, run_rules, enough}
+use Rattle.mb_model.specs.CarriedOut.{serve_all, run_rules, enough}
 use Rattle.mb_model.specs.Given.{Answer, stored_reply, give_request, give_resend, give_fetch, give_state}
 use Rattle.mb_model.specs.HostStep.{with_fetch, is_taken, finished_where, on_bytes, on_patience, on_nudge, wish_again, transition}
 use Rattle.mb_model.proofs.Options.{option_cases}
@@ -36,8 +35,8 @@ use Rattle.mb_theory.specs.World.{System, self_of}
 use Rattle.mb_theory.specs.WorldSteps.{world}
 use Rattle.mb_theory.specs.TakesValid.{IsTagged}
 use Rattle.mb_theory.specs.Answers.{AnswersResend, AnswersFetch, AnswersAgain, WishesOnward, AsksAll, TellsWishAgain, AsksWhereBehind, FetchesOnNudge, FetchesOn, AnswersAll}
-use Rattle.mb_line.proofs.Walks.{IsWalked}
-use Rattle.mb_line.proofs.WalkEvents.{finished_keeps, again_keeps}
+use Rattle.mb_theory.proofs.Walks.{serves_keep}
+use Rattle.mb_line.proofs.Walks.{IsWalked, finished_keeps, again_keeps}
 use Rattle.mb_due.proofs.ShowsLog.{log_shown, shows_log, state_shown, shows_state}
 
 module _ {S : Type 0} (self : Identity S) (d : History) where
@@ -50,16 +49,8 @@ module _ {S : Type 0} (self : Identity S) (d : History) where
     more : (m : Letter) (x : Progress) → Q x → Q (send m x)
     more m x s = Contains-append_left x.sent (m ∷ []) l s
 
-    reply_keeps : (t : Bool) (m : Letter) (x : Progress) → Q x → Q (if t then send m x else x)
-    reply_keeps true m x s = more m x s
-    reply_keeps false m x s = s
-
-    serves_keep : (pos : ℕ) (rs : List Request) (x : Progress) → Q x → Q (serve_all self pos rs x)
-    unfolding serve_all
-    serves_keep pos [] x s = s
-    serves_keep pos (r ∷ rs) x s =
-        let p : Placed = placed_in self x.history r in
-        serves_keep pos rs (serve self pos r x) (reply_keeps p.fresh (to_client p.request.client (stored_reply self (Served pos p ∷ x.history) p.request.client)) (write (Served pos p) x) s)
+    serves : (pos : ℕ) (rs : List Request) (x : Progress) → Q x → Q (serve_all self pos rs x)
+    serves pos rs x s = serves_keep self Q (λ q p y t. t) (λ c y t. more (to_client c (stored_reply self y.history c)) y t) pos rs x s
 
     pub letter_walked : IsWalked self Q
     letter_walked = record {
@@ -69,7 +60,7 @@ module _ {S : Type 0} (self : Identity S) (d : History) where
       noted = λ strings x s. s;
       sent = λ m x r s. more m x s;
       replied = λ c x s. more (to_client c (stored_reply self x.history c)) x s;
-      executed = λ pos b x s. serves_keep pos b.requests x s;
+      executed = λ pos b x s. serves pos b.requests x s;
       installed = λ x s. s;
     }
 

@@ -1,5 +1,5 @@
 -- A LOG that is taken brings the gate of its sender to its floor or further on, where the gate is not closed.
-use Rattle.std.proofs.Common.{◌≡◌, ℕ, ◌≤◌, ◌<◌, true, List, [], ◌∷◌, length, refl, sym, ap, subst, ◌∙◌, inl, inr, arith, eqb, Option, Some, None}
+use Rattle.std.proofs.Common.{◌≡◌, ℕ, ◌≤◌, ◌<◌, true, List, ◌∷◌, length, refl, sym, ap, subst, ◌∙◌, inl, inr, arith, eqb, Option, Some, None}
 use Rattle.std.specs.Prelude.{Result, nat_lt}
 use Rattle.std.proofs.lemmas.Bool.{cases_Bool, eqb-true, eq-eqb, ltb-false}
 use Rattle.mb_parts.specs.declared.certificates.FloorCert.{FloorCert}
@@ -14,11 +14,12 @@ use Rattle.mb_msg.specs.declared.transfer.Log.{Log}
 use Rattle.mb_model.specs.Verified.{verifies}
 use Rattle.mb_model.specs.Histories.{Entry, Accepted, Stamped, Jumped, Closed, Served, Executed, Installed, DroppedParts, LostPatience, Nudged, History, Identity, onto, by_host, stamped_in, origin, taken_of, gate, closed_at}
 use Rattle.mb_model.specs.Sending.{Progress, begin, write, signed}
-use Rattle.mb_model.specs.CarriedOut.{placed_in, with_reply, serve, serve_all}
+use Rattle.mb_model.specs.CarriedOut.{serve_all}
 use Rattle.mb_model.specs.Given.{give_log, jump, floor_shown}
 use Rattle.mb_model.specs.HostStep.{on_bytes, transition}
-use Rattle.mb_line.proofs.Walks.{is_quiet, IsWalked, entries_keep}
-use Rattle.mb_line.proofs.WalkEvents.{finished_keeps}
+use Rattle.mb_theory.proofs.KeptByEvents.{served_keep}
+use Rattle.mb_theory.proofs.Walks.{is_quiet}
+use Rattle.mb_line.proofs.Walks.{IsWalked, entries_keep, finished_keeps}
 use Rattle.mb_theory.specs.TakesLogs.{IsValidLog, JumpsToFloors}
 use Rattle.mb_due.proofs.LogsStand.{log_passed}
 
@@ -58,18 +59,8 @@ module _ {S : Type 0} (self : Identity S) where
       | inr other ↦ rw other a
     ]
 
-    reply_keeps : (p : Placed) (x : Progress) → Above x.history → Above (with_reply self p x).history
-    reply_keeps p x s = elim (cases_Bool p.fresh) [
-      | inl fresh ↦ rw fresh s
-      | inr again ↦ rw again s
-    ]
-
     serves_keep : (pos : ℕ) (rs : List Request) (x : Progress) → Above x.history → Above (serve_all self pos rs x).history
-    unfolding serve_all
-    serves_keep pos [] x s = s
-    serves_keep pos (r ∷ rs) x s =
-        let p : Placed = placed_in self x.history r in
-        serves_keep pos rs (serve self pos r x) (reply_keeps p (write (Served pos p) x) (served_more pos p x.history s))
+    serves_keep pos rs x s = served_keep self Above served_more pos rs x s
 
     gate_walked : IsWalked self (λ (x : Progress). Above x.history)
     unfolding origin taken_of

@@ -1,24 +1,20 @@
 -- A LOG that checks is taken: it stands in the history behind the step.
-use Rattle.std.proofs.Common.{◌≡◌, ℕ, true, [], ◌∷◌, List, refl, sym, ap, subst, inl, inr, arith, Option, Some, None}
+use Rattle.std.proofs.Common.{◌≡◌, ℕ, true, [], ◌∷◌, refl, sym, ap, subst, arith, Option, Some, None}
 use Rattle.std.specs.Prelude.{Contains, Result, is_some}
-use Rattle.std.proofs.lemmas.Bool.{cases_Bool, ne_eqb}
+use Rattle.std.proofs.lemmas.Bool.{ne_eqb}
 use Rattle.std.proofs.lemmas.List.Elements.{Contains-append_right}
 use Rattle.mb_parts.specs.declared.certificates.FloorCert.{FloorCert}
 use Rattle.mb_parts.specs.declared.certificates.Evidence.{Evidence}
-use Rattle.mb_parts.specs.declared.request.Request.{Request}
-use Rattle.mb_msg.specs.declared.event.Placed.{Placed}
 use Rattle.mb_msg.specs.declared.message.Message.{Message}
 use Rattle.mb_msg.specs.declared.message.Message.TheVariants as message
 use Rattle.mb_msg.specs.declared.transfer.Log.{Log}
-use Rattle.mb_model.specs.Histories.{Entry, Accepted, Stamped, Jumped, Served, History, Identity}
-use Rattle.mb_model.specs.Sending.{Progress, begin, write, signed}
+use Rattle.mb_model.specs.Histories.{Entry, Accepted, History, Identity}
+use Rattle.mb_model.specs.Sending.{Progress, begin, write}
 use Rattle.mb_model.specs.PlainChecks.{is_certified_floor, is_certified_evidence, log_refusal}
-use Rattle.mb_model.specs.CarriedOut.{placed_in, with_reply, serve, serve_all}
 use Rattle.mb_model.specs.Given.{give_log, jump, floor_shown}
 use Rattle.mb_model.specs.HostStep.{on_bytes, transition}
 use Rattle.mb_theory.specs.TakesLogs.{IsValidLog, LogsStand}
-use Rattle.mb_line.proofs.Walks.{IsWalked, entries_keep}
-use Rattle.mb_line.proofs.WalkEvents.{finished_keeps}
+use Rattle.mb_line.proofs.Walks.{IsWalked, each_entry, entries_keep, finished_keeps}
 
 module _ {S : Type 0} (self : Identity S) where
   floor_holds : (m : Log) (o : Option FloorCert) → m.floor ≡ o → IsValidLog self m → is_certified_floor self m.host o ≡ true
@@ -43,30 +39,8 @@ module _ {S : Type 0} (self : Identity S) where
     more : (f : Entry) (d : History) → Contains d e → Contains (f ∷ d) e
     more f d s = Contains-append_right (f ∷ []) d e s
 
-    reply_keeps : (p : Placed) (x : Progress) → HasEntry x → HasEntry (with_reply self p x)
-    reply_keeps p x s = elim (cases_Bool p.fresh) [
-      | inl fresh ↦ rw fresh s
-      | inr again ↦ rw again s
-    ]
-
-    serves_keep : (pos : ℕ) (rs : List Request) (x : Progress) → HasEntry x → HasEntry (serve_all self pos rs x)
-    unfolding serve_all
-    serves_keep pos [] x s = s
-    serves_keep pos (r ∷ rs) x s =
-        let p : Placed = placed_in self x.history r in
-        serves_keep pos rs (serve self pos r x) (reply_keeps p (write (Served pos p) x) (more (Served pos p) x.history s))
-
     pub entry_walked : IsWalked self HasEntry
-    entry_walked = record {
-      quiet = λ f x q s. more f x.history s;
-      stamped = λ m x s. more (Stamped (signed self x.history m)) x.history s;
-      jumped = λ h f x free lower s. more (Jumped h f) x.history s;
-      noted = λ strings x s. s;
-      sent = λ l x r s. s;
-      replied = λ c x s. s;
-      executed = λ pos b x s. more _ (serve_all self pos b.requests x).history (serves_keep pos b.requests x s);
-      installed = λ x s. more _ x.history s;
-    }
+    entry_walked = each_entry self (λ (d : History). Contains d e) more
 
   log_there : (m : Log) (d : History) → IsValidLog self m → Contains (give_log self m (begin d)).left.history (Accepted (message.Log m))
   unfolding give_log

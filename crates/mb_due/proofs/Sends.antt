@@ -14,8 +14,8 @@ use Rattle.mb_model.specs.Given.{stored_reply, install}
 use Rattle.mb_theory.specs.World.{System, self_of}
 use Rattle.mb_theory.specs.WorldSteps.{world}
 use Rattle.mb_theory.specs.Sends.{AreSent, SendsAdded, SendsAll}
-use Rattle.mb_line.proofs.Walks.{is_quiet, IsWalked}
-use Rattle.mb_line.proofs.WalkEvents.{walked}
+use Rattle.mb_theory.proofs.Walks.{is_quiet}
+use Rattle.mb_line.proofs.Walks.{IsWalked, walked}
 
 module _ {S : Type 0} (self : Identity S) where
   module _ (d : History) where

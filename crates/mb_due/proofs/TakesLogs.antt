@@ -28,8 +28,7 @@ use Rattle.mb_theory.specs.World.{System, self_of}
 use Rattle.mb_theory.specs.WorldSteps.{world}
 use Rattle.mb_theory.specs.TakesValid.{IsValid}
 use Rattle.mb_theory.specs.TakesLogs.{IsValidLog, with_floor_of, IsPassed, with_accepted, AreTaken, TakesEntries, TakesLogs}
-use Rattle.mb_line.proofs.Walks.{offer_keeps, entries_keep}
-use Rattle.mb_line.proofs.WalkEvents.{finished_keeps}
+use Rattle.mb_line.proofs.Walks.{offer_keeps, entries_keep, finished_keeps}
 use Rattle.mb_due.proofs.Taken.{stamped_passed}
 use Rattle.mb_due.proofs.TakesValid.{certified, valid_passes}
 use Rattle.mb_due.proofs.LogsStand.{HasEntry, entry_walked, log_passed, keeps_logs}

@@ -29,7 +29,7 @@ use Rattle.mb_theory.specs.WorldSteps.{world}
 use Rattle.mb_theory.specs.NothingLeft.{IsNoLog}
 use Rattle.mb_theory.specs.Answers.{AsksWhereBehind}
 use Rattle.mb_theory.specs.TellsAndAsks.{TellsPatience, FetchesWhereRisen, TellsAndAsks}
-use Rattle.mb_line.proofs.WalkEvents.{finished_keeps}
+use Rattle.mb_line.proofs.Walks.{finished_keeps}
 use Rattle.mb_due.proofs.Answers.{Q, letter_walked, patience_sent, last_of}
 use Rattle.mb_theory.specs.LeavesAlone.{LeavesOfStamped, LeavesOf, LeavesOfState, LeavesOfRefused}
 use Rattle.mb_due.proofs.LeftAlone.{given_left}

@@ -1,9 +1,8 @@
 -- What an event brings is written before all else of its step, and stays so.
-use Rattle.std.proofs.Common.{◌≡◌, ℕ, true, List, [], ◌∷◌, ◌++◌, refl, sym, ap, subst, inl, inr}
+use Rattle.std.proofs.Common.{◌≡◌, ℕ, true, [], ◌∷◌, ◌++◌, refl, sym, ap, subst, inl, inr}
 use Rattle.std.specs.Prelude.{Result, is_none}
 use Rattle.std.proofs.lemmas.Bool.{cases_Bool, ne_eqb}
 use Rattle.mb_parts.specs.declared.request.Request.{Request}
-use Rattle.mb_msg.specs.declared.event.Placed.{Placed}
 use Rattle.mb_msg.specs.declared.normal.Commit.{Commit}
 use Rattle.mb_msg.specs.declared.message.Message.{Message}
 use Rattle.mb_msg.specs.declared.message.Message.TheVariants as message
@@ -14,18 +13,16 @@ use Rattle.mb_msg.specs.declared.transfer.StateMsg.{StateMsg}
 use Rattle.mb_msg.specs.declared.stamped.Stamped.{Stamped as StampedMessage}
 use Rattle.mb_msg.specs.declared.stamped.Stamped.TheVariants as stamped
 use Rattle.mb_msg.specs.Stamps.{as_message}
-use Rattle.mb_model.specs.Histories.{Entry, Accepted, Stamped, Jumped, Served, LostPatience, Nudged, History, Identity, view_of}
+use Rattle.mb_model.specs.Histories.{Entry, Accepted, LostPatience, Nudged, History, Identity, view_of}
 use Rattle.mb_model.specs.Held.{view_limit}
 use Rattle.mb_model.specs.Execution.{missing}
 use Rattle.mb_model.specs.Compared.{compared_in}
-use Rattle.mb_model.specs.Sending.{Progress, begin, write, send, note, signed, to_all}
+use Rattle.mb_model.specs.Sending.{Progress, begin, write, send, note, to_all}
 use Rattle.mb_model.specs.Making.{resend}
-use Rattle.mb_model.specs.CarriedOut.{placed_in, with_reply, serve, serve_all}
 use Rattle.mb_model.specs.Passed.{PassesStamped, Passes}
 use Rattle.mb_model.specs.Given.{named_prepare, casts_vote, accept, give_stamped, give_request, give_wish, give_resend, give_fetch, give_state, give}
 use Rattle.mb_model.specs.HostStep.{on_bytes, on_patience, on_nudge, transition}
-use Rattle.mb_line.proofs.Walks.{IsWalked, offer_keeps}
-use Rattle.mb_line.proofs.WalkEvents.{finished_keeps, again_keeps}
+use Rattle.mb_line.proofs.Walks.{IsWalked, each_entry, offer_keeps, finished_keeps, again_keeps}
 use Rattle.mb_theory.specs.World.{System, self_of}
 use Rattle.mb_theory.specs.WorldSteps.{world}
 use Rattle.mb_theory.specs.NothingLeft.{IsNoLog}
@@ -42,30 +39,8 @@ module _ {S : Type 0} (self : Identity S) where
     more : (e : Entry) (h : History) → (later : History) × (h ≡ later ++ base) → (later : History) × (e ∷ h ≡ later ++ base)
     more e h s = (e ∷ s.0, ap (λ (y : History). e ∷ y) s.1)
 
-    reply_keeps : (p : Placed) (x : Progress) → Follows x → Follows (with_reply self p x)
-    reply_keeps p x s = elim (cases_Bool p.fresh) [
-      | inl fresh ↦ rw fresh s
-      | inr again ↦ rw again s
-    ]
-
-    serves_keep : (pos : ℕ) (rs : List Request) (x : Progress) → Follows x → Follows (serve_all self pos rs x)
-    unfolding serve_all
-    serves_keep pos [] x s = s
-    serves_keep pos (r ∷ rs) x s =
-        let p : Placed = placed_in self x.history r in
-        serves_keep pos rs (serve self pos r x) (reply_keeps p (write (Served pos p) x) (more (Served pos p) x.history s))
-
     pub follows_walked : IsWalked self Follows
-    follows_walked = record {
-      quiet = λ e x q s. more e x.history s;
-      stamped = λ m x s. more (Stamped (signed self x.history m)) x.history s;
-      jumped = λ h f x free lower s. more (Jumped h f) x.history s;
-      noted = λ strings x s. s;
-      sent = λ l x r s. s;
-      replied = λ c x s. s;
-      executed = λ pos b x s. more _ (serve_all self pos b.requests x).history (serves_keep pos b.requests x s);
-      installed = λ x s. more _ x.history s;
-    }
+    follows_walked = each_entry self (λ (h : History). (later : History) × (h ≡ later ++ base)) more
 
   -- ---- what is taken
 

@@ -1,14 +1,13 @@
 -- Batches and requests that a host finds have the values of the grammar: slots are those of PREPAREs and OPENs, and what waits was accepted.
-use Rattle.std.proofs.Common.{◌≡◌, ℕ, zero, suc, ◌+◌, ◌≤◌, ◌&&◌, true, List, [], ◌∷◌, length, ap, subst, ◌∙◌, inl, inr, eqb, arith, length-append, Option, Some, None}
+use Rattle.std.proofs.Common.{◌≡◌, ℕ, zero, suc, ◌&&◌, List, [], ◌∷◌, subst, inl, inr, eqb, Option, Some, None}
 use Rattle.std.specs.Prelude.{◌==◌, ◌-◌, nat_lt, slice_get, option_map, option_and_then}
-use Rattle.std.specs.List.{AllByRecursion, range_with_len, flat_map}
-use Rattle.std.proofs.lemmas.Bool.{cases_Bool, leb-true, le-leb}
-use Rattle.std.proofs.lemmas.List.Concat.{flat_map-cons}
+use Rattle.std.specs.List.{AllByRecursion, range_with_len}
+use Rattle.std.proofs.lemmas.Bool.{cases_Bool}
 use Rattle.mb_base.specs.Shapes.{client_count}
 use Rattle.mb_base.specs.declared.shape.Shape.{Shape}
 use Rattle.mb_parts.specs.declared.request.Request.{Request}
 use Rattle.mb_parts.specs.declared.batch.Batch.{Batch}
-use Rattle.mb_parts.specs.Spelling.{request_bytes, batch_bytes}
+use Rattle.mb_parts.specs.Spelling.{batch_bytes}
 use Rattle.mb_parts.specs.Fits.{FitsRequest, FitsBatch}
 use Rattle.mb_msg.specs.declared.message.Body.{Body}
 use Rattle.mb_msg.specs.declared.message.Body.TheVariants.{Whole, Bare as Short}
@@ -19,9 +18,8 @@ use Rattle.mb_msg.specs.declared.change.OpenBody.{OpenBody}
 use Rattle.mb_msg.specs.declared.stamped.Stamped.TheVariants as stamped
 use Rattle.mb_msg.specs.Bodies.{FitsBody, body_digest, whole_body}
 use Rattle.mb_msg.specs.Fits.{FitsPrepare, FitsOpen, FitsOpenBody}
-use Rattle.mb_msg.proofs.Sizes.{request_short}
 use Rattle.mb_model.specs.declared.known.KnownSlot.{KnownSlot}
-use Rattle.mb_model.specs.Batches.{batch_limit, batch_bytes_limit, has_place, fitting, first_batch}
+use Rattle.mb_model.specs.Batches.{first_batch}
 use Rattle.mb_model.specs.Service.{Served as ServedState, is_fresh}
 use Rattle.mb_model.specs.Histories.{Entry, Accepted, Stamped, Installed, History, Identity}
 use Rattle.mb_model.specs.Histories as entry
@@ -31,60 +29,11 @@ use Rattle.mb_model.specs.Positions.{batch_from, slot_of_plan, slot_of_prepare, 
 use Rattle.mb_model.proofs.Options.{if_some, map_some}
 use Rattle.mb_steps.proofs.StepOwnSteady.{found_slot}
 use Rattle.mb_steps.proofs.StepPlanBases.{all_found, all_any}
+use Rattle.mb_known.proofs.FirstBatches.{first_fits}
 use Rattle.mb_known.proofs.Cases.{some_is, then_some_of, whole_is}
 use Rattle.mb_known.proofs.Found.{above_is}
 use Rattle.mb_known.proofs.Rests.{Each}
 use Rattle.mb_fitting.specs.Fitting.{HasValues}
-
--- ---- the batch of the first of some requests
-
-fitting_all : (P : Request → Type 0) (most used : ℕ) (l : List Request) → AllByRecursion P l → AllByRecursion P (fitting most used l)
-unfolding fitting
-fitting_all P zero used l a = tt
-fitting_all P (suc most) used [] a = tt
-fitting_all P (suc most) used (r ∷ l) a = elim (cases_Bool (has_place used r)) [
-  | inl place ↦ rw place (a.0, fitting_all P most (used + length (request_bytes r)) l a.1)
-  | inr none ↦ rw none tt
-]
-
-fitting_few : (most used : ℕ) (l : List Request) → length (fitting most used l) ≤ most
-unfolding fitting
-fitting_few zero used l = omega arith
-fitting_few (suc most) used [] = omega arith
-fitting_few (suc most) used (r ∷ l) = elim (cases_Bool (has_place used r)) [
-  | inl place ↦ rw place (let few = fitting_few most (used + length (request_bytes r)) l in omega (arith, few))
-  | inr none ↦ rw none (omega arith)
-]
-
-fitting_short : (most used : ℕ) (l : List Request) → used ≤ batch_bytes_limit → used + length (flat_map request_bytes (fitting most used l)) ≤ batch_bytes_limit
-unfolding fitting
-fitting_short zero used l le = omega (arith, le)
-fitting_short (suc most) used [] le = omega (arith, le)
-fitting_short (suc most) used (r ∷ l) le = elim (cases_Bool (has_place used r)) [
-  | inl place ↦ rw place (with_it (fitting_short most (used + length (request_bytes r)) l (leb-true (used + length (request_bytes r)) batch_bytes_limit place)))
-  | inr none ↦ rw none (omega (arith, le))
-] where
-  more : List Request
-  more = fitting most (used + length (request_bytes r)) l
-
-  with_it : used + length (request_bytes r) + length (flat_map request_bytes more) ≤ batch_bytes_limit → used + length (flat_map request_bytes (r ∷ more)) ≤ batch_bytes_limit
-  with_it rest =
-      let joined : length (flat_map request_bytes (r ∷ more)) ≡ length (request_bytes r) + length (flat_map request_bytes more) =
-      ap length (flat_map-cons request_bytes r more) ∙ length-append (request_bytes r) (flat_map request_bytes more) in
-      omega (arith, rest, joined)
-
-first_some : (most : ℕ) (r : Request) (l : List Request) → has_place 0 r ≡ true → 1 ≤ length (fitting (suc most) 0 (r ∷ l))
-unfolding fitting
-first_some most r l place = rw place (omega arith)
-
-pub first_batch_fits : (s : Shape) (l : List Request) (b : Batch) → AllByRecursion (FitsRequest s) l → first_batch l ≡ Some b → FitsBatch s b
-first_batch_fits s [] b a e = absurd cc
-first_batch_fits s (r ∷ l) b a e =
-    let batch : Batch = record { requests = fitting batch_limit 0 (r ∷ l) } in
-    let alone : has_place 0 r ≡ true = le-leb (0 + length (request_bytes r)) batch_bytes_limit (omega (arith, request_short s r a.0)) in
-    let few = fitting_few batch_limit 0 (r ∷ l) in
-    let size = fitting_short batch_limit 0 (r ∷ l) (omega arith) in
-    subst (FitsBatch s) (some_is batch b e) (record { count = (first_some 15 r l alone, omega (arith, few)); requests = fitting_all (FitsRequest s) batch_limit 0 (r ∷ l) a; size = omega (arith, size) })
 
 -- ---- batches in bodies
 
@@ -162,4 +111,4 @@ module _ {S : Type 0} (self : Identity S) where
       all_found (λ (c : ℕ). Unit {0}) (FitsRequest self.shape) (unordered_of self d) (λ c r t e. pending_fits d a c r (above_is (greatest_in_slots self d c (window self d)) (pending self d c) r e)) clients (all_any clients)
 
   pub next_batch_fits : (d : History) → Each (HasValues self) d → (b : Batch) → first_batch (unordered self d) ≡ Some b → FitsBatch self.shape b
-  next_batch_fits d a b e = first_batch_fits self.shape (unordered self d) b (unordered_fits d a) e
+  next_batch_fits d a b e = first_fits self.shape (unordered self d) b (unordered_fits d a) e

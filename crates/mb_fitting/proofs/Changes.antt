@@ -34,7 +34,7 @@ use Rattle.mb_known.proofs.PlanShows.{ShowsSound, plan_holds}
 use Rattle.mb_known.proofs.PlanFits.{change_bases, log_has, none_fits}
 use Rattle.mb_fitting.specs.Fitting.{HasValues}
 use Rattle.mb_fitting.proofs.Batches.{got, body_batch}
-use Rattle.mb_fitting.proofs.DistinctHosts.{chosen_members}
+use Rattle.mb_known.proofs.DistinctHosts.{chosen_members}
 
 whole_form : {B : Type 0} (x : Body B) → is_whole x ≡ true → form_of x ≡ 1
 whole_form (Whole b) e = refl

@@ -1,14 +1,12 @@
 -- Where the gates of a host stand: a floor of the grammar, or the start of it, behind messages that fit.
-use Rattle.std.proofs.Common.{◌≡◌, ℕ, ◌+◌, ◌^◌, ◌<◌, Bool, true, false, List, [], ◌∷◌, length, ap, subst, inl, inr, arith, max, Option, Some, None}
-use Rattle.std.specs.Prelude.{◌==◌, if◌then◌else◌}
+use Rattle.std.proofs.Common.{◌≡◌, ℕ, ◌+◌, ◌^◌, ◌<◌, List, [], ◌∷◌, length, ap, subst, inl, inr, arith, Option, Some, None}
+use Rattle.std.specs.Prelude.{◌==◌}
 use Rattle.std.specs.List.{AllByRecursion}
 use Rattle.std.proofs.lemmas.Bool.{cases_Bool, eqb-true}
 use Rattle.mb_base.specs.declared.shape.Shape.{Shape}
 use Rattle.mb_parts.specs.declared.floor.Floor.{Floor}
 use Rattle.mb_parts.specs.Bares.{Bare}
-use Rattle.mb_parts.specs.Bares as bare
-use Rattle.mb_parts.specs.Fits.{FitsBare, FitsUi, FitsFloor}
-use Rattle.mb_parts.specs.Ordered.{current_view, last_position, top_position, last_checkpoint}
+use Rattle.mb_parts.specs.Fits.{FitsBare, FitsUi}
 use Rattle.mb_msg.specs.declared.message.Message.{Message}
 use Rattle.mb_msg.specs.declared.message.Message.TheVariants as message
 use Rattle.mb_msg.specs.declared.stamped.Stamped.{Stamped as StampedMessage}
@@ -21,75 +19,11 @@ use Rattle.mb_model.specs.Passed.{Passes}
 use Rattle.mb_steps.proofs.StepArises.{Arises}
 use Rattle.mb_steps.proofs.StepOwnStamped.{steady}
 use Rattle.mb_known.proofs.Cases.{some_is}
+use Rattle.mb_known.proofs.FloorsReached.{IsPlaced, placed, leads_low}
 use Rattle.mb_known.proofs.Rests.{Each}
 use Rattle.mb_searches.proofs.Gates.{own_counter, own_stamp_counter}
 use Rattle.mb_searches.proofs.Standing.{own_sender}
-use Rattle.mb_fitting.specs.Fitting.{HasValues, IsPlaced, FitsGate}
-
--- ---- where a list of what fits leads
-
-placed : (f : Floor) → FitsFloor f → IsPlaced f
-placed f x = record { view = x.view; last = x.last; top = x.top; point = x.point }
-
-if_low : (b : Bool) (x y : ℕ) → x < 2 ^ 63 → y < 2 ^ 63 → (if b then x else y) < 2 ^ 63
-if_low true x y p q = p
-if_low false x y p q = q
-
-max_low : (x y : ℕ) → x < 2 ^ 63 → y < 2 ^ 63 → max x y < 2 ^ 63
-max_low x y p q = omega (arith, p, q)
-
-module _ (s : Shape) where
-  abbrev AllFit : List Bare → Type 0
-  AllFit l = AllByRecursion (FitsBare s) l
-
-  module _ (o : Floor) (p : IsPlaced o) where
-    view_low : (l : List Bare) → AllFit l → current_view o l < 2 ^ 63
-    unfolding current_view
-    view_low [] a = p.view
-    view_low (bare.ViewChange v d ∷ l) a = a.0.0.1
-    view_low (bare.Prepare v q d ∷ l) a = view_low l a.1
-    view_low (bare.Commit v q n c d ∷ l) a = view_low l a.1
-    view_low (bare.Checkpoint q t d ∷ l) a = view_low l a.1
-    view_low (bare.NewView v b e q d ∷ l) a = view_low l a.1
-    view_low (bare.Enter v c q ∷ l) a = view_low l a.1
-    view_low (bare.Open e d ∷ l) a = view_low l a.1
-    view_low (bare.Join v e c ∷ l) a = view_low l a.1
-
-    last_low : (l : List Bare) (u : ℕ) → AllFit l → last_position o l u < 2 ^ 63
-    unfolding last_position
-    last_low [] u a = if_low (o.view == u) o.last 0 p.last (omega arith)
-    last_low (bare.ViewChange v d ∷ l) u a = last_low l u a.1
-    last_low (bare.Prepare v q d ∷ l) u a = if_low (v == u) q (last_position o l u) a.0.1.0.1 (last_low l u a.1)
-    last_low (bare.Commit v q n c d ∷ l) u a = if_low (v == u) q (last_position o l u) a.0.1.0.1 (last_low l u a.1)
-    last_low (bare.Checkpoint q t d ∷ l) u a = last_low l u a.1
-    last_low (bare.NewView v b e q d ∷ l) u a = last_low l u a.1
-    last_low (bare.Enter v c q ∷ l) u a = last_low l u a.1
-    last_low (bare.Open e d ∷ l) u a = if_low (e.view == u) e.end (last_position o l u) a.0.0.end.1.1 (last_low l u a.1)
-    last_low (bare.Join v e c ∷ l) u a = if_low (v == u) c.pos (last_position o l u) a.0.1.1.0.pos.0 (last_low l u a.1)
-
-    top_low : (l : List Bare) → AllFit l → top_position o l < 2 ^ 63
-    unfolding top_position
-    top_low [] a = p.top
-    top_low (bare.ViewChange v d ∷ l) a = top_low l a.1
-    top_low (bare.Prepare v q d ∷ l) a = max_low (top_position o l) q (top_low l a.1) a.0.1.0.1
-    top_low (bare.Commit v q n c d ∷ l) a = max_low (top_position o l) q (top_low l a.1) a.0.1.0.1
-    top_low (bare.Checkpoint q t d ∷ l) a = top_low l a.1
-    top_low (bare.NewView v b e q d ∷ l) a = top_low l a.1
-    top_low (bare.Enter v c q ∷ l) a = top_low l a.1
-    top_low (bare.Open e d ∷ l) a = max_low (top_position o l) e.end (top_low l a.1) a.0.0.end.1.1
-    top_low (bare.Join v e c ∷ l) a = max_low (top_position o l) c.pos (top_low l a.1) a.0.1.1.0.pos.0
-
-    point_low : (l : List Bare) → AllFit l → last_checkpoint o l < 2 ^ 63
-    unfolding last_checkpoint
-    point_low [] a = p.point
-    point_low (bare.ViewChange v d ∷ l) a = point_low l a.1
-    point_low (bare.Prepare v q d ∷ l) a = point_low l a.1
-    point_low (bare.Commit v q n c d ∷ l) a = point_low l a.1
-    point_low (bare.Checkpoint q t d ∷ l) a = a.0.0.1
-    point_low (bare.NewView v b e q d ∷ l) a = point_low l a.1
-    point_low (bare.Enter v c q ∷ l) a = point_low l a.1
-    point_low (bare.Open e d ∷ l) a = point_low l a.1
-    point_low (bare.Join v e c ∷ l) a = point_low l a.1
+use Rattle.mb_fitting.specs.Fitting.{HasValues, FitsGate}
 
 -- ---- messages of an entry
 
@@ -181,12 +115,4 @@ module _ {S : Type 0} (self : Identity S) where
   gate_fits d a f h =
       let l = stands d a f h in
       let o : Floor = origin d h in
-      record {
-        counter = l.counter;
-        at = record {
-          view = view_low self.shape o l.from (taken_of d h) l.fits;
-          last = last_low self.shape o l.from (taken_of d h) (current_view o (taken_of d h)) l.fits;
-          top = top_low self.shape o l.from (taken_of d h) l.fits;
-          point = point_low self.shape o l.from (taken_of d h) l.fits;
-        };
-      }
+      record { counter = l.counter; at = leads_low self.shape o l.from (taken_of d h) l.fits }

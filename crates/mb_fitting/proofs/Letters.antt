@@ -1,5 +1,5 @@
 -- Each message that a host sends can be encoded: it has the values of the grammar, and no more bytes than a message may have.
-use Rattle.std.proofs.Common.{◌≡◌, ℕ, zero, suc, ◌+◌, ◌-◌, ◌*◌, ◌^◌, ◌≤◌, ◌<◌, true, List, [], ◌∷◌, length, take, reverse, ap, ◌∙◌, inl, inr, arith, Option, Some, None}
+use Rattle.std.proofs.Common.{◌≡◌, ℕ, zero, suc, ◌+◌, ◌-◌, ◌*◌, ◌^◌, ◌≤◌, ◌<◌, List, [], ◌∷◌, length, take, reverse, ap, ◌∙◌, inl, inr, arith, Option, Some, None}
 use Rattle.std.specs.Prelude.{drop, nat_le}
 use Rattle.std.specs.Option.{IfSome}
 use Rattle.std.specs.Int.{w8, w32, w64}
@@ -32,18 +32,18 @@ use Rattle.mb_model.specs.States.{part_count}
 use Rattle.mb_model.specs.Held.{wish_of}
 use Rattle.mb_model.specs.Histories.{Stamped, History, Identity, stamped as all_stamped}
 use Rattle.mb_model.specs.Making.{fitting, first_fitting, part_bytes_limit, reply, wish, resend, expected, log_for, fetch, state_message}
-use Rattle.mb_model.specs.OwnLog.{behind, kept_forms, entry_bytes_limit, packed, first_packed, log_kept, log_start, count_from, since}
+use Rattle.mb_model.specs.OwnLog.{kept_forms, entry_bytes_limit, packed, first_packed, log_kept, log_start, count_from, since}
 use Rattle.mb_model.specs.Stable.{low_of}
 use Rattle.mb_known.proofs.Cases.{all_more, all_reverse, all_taken}
 use Rattle.mb_known.proofs.Rests.{Each}
 use Rattle.mb_searches.specs.Sound.{IsSound}
 use Rattle.mb_fitting.specs.Fitting.{FitsLast, HasValues, AreFit}
 use Rattle.mb_fitting.proofs.Fit.{fit_known}
-use Rattle.mb_fitting.proofs.Logs.{all_map, log_kept_fits}
+use Rattle.mb_fitting.proofs.Logs.{log_kept_fits}
 use Rattle.mb_fitting.proofs.Messages.{reply_fits, wish_fits, resend_fits, log_for_fits, fetch_fits, state_message_fits}
 use Rattle.mb_fitting.proofs.ShownSizes.{optional_cert}
 use Rattle.mb_fitting.proofs.Sizes.{length8, length16, length64, flat_short, stable_short, evidence_short}
-use Rattle.mb_fitting.proofs.StampSizes.{HasShortBodies, StampsShort, behind_short, all_both, stamps_short, stamped_limit, stamped_short}
+use Rattle.mb_fitting.proofs.StampSizes.{HasShortBodies, StampsShort, mapped_short, all_both, stamps_short, stamped_limit, stamped_short}
 
 length32 : (n : ℕ) → length (number w32 n) ≡ 4
 length32 n = number_length w32 (2 ^ 32) n wide32
@@ -176,7 +176,7 @@ module _ {S : Type 0} (self : Identity S) (shape : IsShape self.shape) (there : 
     forms_short : (e : History) → Each StampsShort e → AllByRecursion HasShortBodies (kept_forms (all_stamped e))
     unfolding all_stamped kept_forms
     forms_short [] a = tt
-    forms_short (Stamped m ∷ e) a = (a.0, all_map HasShortBodies HasShortBodies (behind m) (behind_short m) (kept_forms (all_stamped e)) (forms_short e a.1))
+    forms_short (Stamped m ∷ e) a = (a.0, mapped_short m (kept_forms (all_stamped e)) (forms_short e a.1))
     forms_short (x ∷ e) a = forms_short e a.1
 
     abbrev IsLettered : StampedMessage → Type 0

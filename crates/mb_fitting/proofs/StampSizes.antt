@@ -33,11 +33,12 @@ use Rattle.mb_steps.proofs.StepArises.{Makes, Arises}
 use Rattle.mb_steps.proofs.StepHeldEvidence.{announce_seen}
 use Rattle.mb_steps.proofs.StepHeldStable.{changes_usable}
 use Rattle.mb_steps.proofs.StepPlanBases.{IsUsable}
+use Rattle.mb_theory.proofs.KeptForms.{mapped_keep}
 use Rattle.mb_known.proofs.Cases.{all_more}
 use Rattle.mb_known.proofs.Rests.{Each}
 use Rattle.mb_fitting.specs.Fitting.{HasValues, HasRoom}
 use Rattle.mb_fitting.proofs.Changes.{changes_fit}
-use Rattle.mb_fitting.proofs.DistinctHosts.{chosen_members}
+use Rattle.mb_known.proofs.DistinctHosts.{chosen_members}
 use Rattle.mb_fitting.proofs.Logs.{proof_fits}
 use Rattle.mb_fitting.proofs.ReadKnown.{AllKnown}
 use Rattle.mb_fitting.proofs.Room.{weight, count_take, KeepsRoom, room_now}
@@ -219,31 +220,15 @@ opening_short : (x : StampedMessage) → HasShortBodies x → HasShortBodies (be
 opening_short (stamped.Prepare m) h = tt
 opening_short (stamped.Commit m) h = tt
 opening_short (stamped.Open m) h = tt
-opening_short (stamped.Checkpoint m) h = h
-opening_short (stamped.ViewChange m) h = h
-opening_short (stamped.NewView m) h = h
-opening_short (stamped.Enter m) h = h
-opening_short (stamped.Join m) h = h
+opening_short x h = h
 
 changed_short : (x : StampedMessage) → HasShortBodies x → HasShortBodies (behind_change x)
 changed_short (stamped.ViewChange m) h = tt
 changed_short (stamped.NewView m) h = tt
-changed_short (stamped.Prepare m) h = h
-changed_short (stamped.Commit m) h = h
-changed_short (stamped.Checkpoint m) h = h
-changed_short (stamped.Enter m) h = h
-changed_short (stamped.Open m) h = h
-changed_short (stamped.Join m) h = h
+changed_short x h = h
 
-pub behind_short : (m x : StampedMessage) → HasShortBodies x → HasShortBodies (behind m x)
-behind_short (stamped.Open m) x h = opening_short x h
-behind_short (stamped.Join m) x h = opening_short x h
-behind_short (stamped.ViewChange m) x h = changed_short x h
-behind_short (stamped.Prepare m) x h = h
-behind_short (stamped.Commit m) x h = h
-behind_short (stamped.Checkpoint m) x h = h
-behind_short (stamped.NewView m) x h = h
-behind_short (stamped.Enter m) x h = h
+pub mapped_short : (m : StampedMessage) (l : List StampedMessage) → AllByRecursion HasShortBodies l → AllByRecursion HasShortBodies (map (behind m) l)
+mapped_short m l a = mapped_keep HasShortBodies opening_short changed_short m l a
 
 pub all_both : {A : Type 0} (P Q : A → Type 0) (l : List A) → AllByRecursion P l → AllByRecursion Q l → AllByRecursion (λ (x : A). P x × Q x) l
 all_both P Q [] a b = tt

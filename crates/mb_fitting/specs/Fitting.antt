@@ -16,16 +16,10 @@ use Rattle.mb_model.specs.Histories.{Entry, Accepted, Stamped, Jumped, Served, E
 use Rattle.mb_model.specs.Held.{view_limit}
 use Rattle.mb_model.specs.OwnLog.{own_log, is_normal}
 use Rattle.mb_model.specs.UsableLogs.{normal_limit, other_limit}
+use Rattle.mb_known.proofs.FloorsReached.{IsPlaced}
 use Rattle.mb_known.proofs.Rests.{Each, Rests}
 
 -- ---- gates
-
--- a floor but for its counter
-pub record IsPlaced (f : Floor) : Type 0 where
-  pub view : IsPlace f.view
-  pub last : IsPlace f.last
-  pub top : IsPlace f.top
-  pub point : IsPlace f.point
 
 -- Where a gate stands: like a floor, also at the start, where the counter is 0.
 pub record FitsGate (f : Floor) : Type 0 where

@@ -7,17 +7,16 @@ use Rattle.mb_base.specs.declared.shape.Shape.{Shape}
 use Rattle.mb_base.specs.Shapes.{interval}
 use Rattle.mb_parts.specs.declared.certificates.StableMember.{StableMember}
 use Rattle.mb_parts.specs.Fits.{IsPosition, FitsStable}
-use Rattle.mb_parts.specs.Spelling.{batch_bytes}
 use Rattle.mb_msg.specs.declared.change.ChangeBody.{ChangeBody}
 use Rattle.mb_msg.specs.declared.stamped.Shown.{Shown}
 use Rattle.mb_msg.specs.declared.stamped.Stamped.{Stamped}
 use Rattle.mb_msg.specs.declared.stamped.Stamped.TheVariants as stamped
 use Rattle.mb_msg.specs.declared.message.Body.TheVariants.{Whole}
 use Rattle.mb_msg.specs.Fits.{FitsShown, FitsStamped, shown_limit}
-use Rattle.mb_msg.specs.Spelling.{floors_body_bytes, change_body_bytes, new_view_body_bytes, open_body_bytes}
-use Rattle.mb_msg.proofs.Injective.{digest_fits}
 use Rattle.mb_model.specs.OwnLog.{behind, behind_opening, behind_change, kept_forms, as_shown}
 use Rattle.mb_model.specs.Plans.{no_base}
+use Rattle.mb_theory.proofs.KeptForms.{opening_fits, shown_fits}
+use Rattle.mb_theory.proofs.Lists.{all_reverse}
 use Rattle.mb_forged.specs.Contents.{placeholder, unstamped, change_of, is_opening, entry_of, entries_of}
 
 -- ---- one message
@@ -142,14 +141,6 @@ length_entries b (m ∷ l) = ap (λ (n : ℕ). suc n) (length_entries (b || is_o
 pub entries_count : (messages : List Stamped) → length (reverse (entries_of false (reverse messages))) ≡ length messages
 entries_count messages = length-reverse (entries_of false (reverse messages)) ∙ length_entries false (reverse messages) ∙ length-reverse messages
 
-all_append : {A : Type 0} (P : A → Type 0) (l m : List A) → AllByRecursion P l → AllByRecursion P m → AllByRecursion P (l ++ m)
-all_append P [] m a b = b
-all_append P (x ∷ l) m a b = (a.0, all_append P l m a.1 b)
-
-all_reversed : {A : Type 0} (P : A → Type 0) (l : List A) → AllByRecursion P l → AllByRecursion P (reverse l)
-all_reversed P [] a = tt
-all_reversed P (x ∷ l) a = subst (AllByRecursion P) (sym (reverse-append (x ∷ []) l)) (all_append P (reverse l) (x ∷ []) (all_reversed P l a.1) (a.0, tt))
-
 -- the VIEW_CHANGE that shows this
 abbrev pub showing : ℕ → ChangeBody → Stamped
 showing view body = stamped.ViewChange (record { view = view; body = Whole body; ui = placeholder })
@@ -159,29 +150,9 @@ abbrev pub made : ℕ → List StableMember → List Shown → Stamped
 made view members entries = showing view (record { floor = None; stable = record no_base { members = members }; entries = entries })
 
 module _ (s : Shape) where
-  opening_fits : (x : Stamped) → FitsStamped s x → FitsStamped s (behind_opening x)
-  opening_fits (stamped.Prepare m) f = record { view = f.view; pos = f.pos; body = digest_fits _ batch_bytes m.body f.body; ui = f.ui }
-  opening_fits (stamped.Commit m) f = record { view = f.view; pos = f.pos; counter = f.counter; cert = f.cert; body = digest_fits _ batch_bytes m.body f.body; ui = f.ui }
-  opening_fits (stamped.Open m) f = record { evidence = f.evidence; body = digest_fits _ open_body_bytes m.body f.body; ui = f.ui }
-  opening_fits (stamped.Checkpoint m) f = f
-  opening_fits (stamped.ViewChange m) f = f
-  opening_fits (stamped.NewView m) f = f
-  opening_fits (stamped.Enter m) f = f
-  opening_fits (stamped.Join m) f = f
-
-  shown_fits : (m : Stamped) → FitsStamped s m → FitsShown s (as_shown m)
-  shown_fits (stamped.Prepare m) f = f
-  shown_fits (stamped.Commit m) f = f
-  shown_fits (stamped.Checkpoint m) f = record { pos = f.pos; state = f.state; body = digest_fits _ floors_body_bytes m.body f.body; ui = f.ui }
-  shown_fits (stamped.ViewChange m) f = record { view = f.view; body = digest_fits _ change_body_bytes m.body f.body; ui = f.ui }
-  shown_fits (stamped.NewView m) f = record { view = f.view; base = f.base; end = f.end; plan = f.plan; body = digest_fits _ new_view_body_bytes m.body f.body; ui = f.ui }
-  shown_fits (stamped.Enter m) f = f
-  shown_fits (stamped.Open m) f = f
-  shown_fits (stamped.Join m) f = f
-
   entry_fits : (b : Bool) (m : Stamped) → FitsStamped s m → FitsShown s (entry_of b m)
-  entry_fits true m f = shown_fits (behind_opening m) (opening_fits m f)
-  entry_fits false m f = shown_fits m f
+  entry_fits true m f = shown_fits s (behind_opening m) (opening_fits s m f)
+  entry_fits false m f = shown_fits s m f
 
   all_entries : (b : Bool) (l : List Stamped) → AllByRecursion (FitsStamped s) l → AllByRecursion (FitsShown s) (entries_of b l)
   unfolding entries_of
@@ -189,7 +160,7 @@ module _ (s : Shape) where
   all_entries b (m ∷ l) a = (entry_fits b m a.0, all_entries (b || is_opening m) l a.1)
 
   pub entries_fit : (messages : List Stamped) → AllByRecursion (FitsStamped s) messages → AllByRecursion (FitsShown s) (reverse (entries_of false (reverse messages)))
-  entries_fit messages a = all_reversed (FitsShown s) (entries_of false (reverse messages)) (all_entries false (reverse messages) (all_reversed (FitsStamped s) messages a))
+  entries_fit messages a = all_reverse (FitsShown s) (entries_of false (reverse messages)) (all_entries false (reverse messages) (all_reverse (FitsStamped s) messages a))
 
   -- The last one's values are allowed, and those of the others.
   pub last_fits : (l : List Stamped) (m : Stamped) → AllByRecursion (FitsStamped s) (l ++ m ∷ []) → AllByRecursion (FitsStamped s) l × FitsStamped s m

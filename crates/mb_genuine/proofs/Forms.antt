@@ -1,8 +1,7 @@
 -- What holds of all certificates and requests in a stamped message holds of those in each form in which it is kept and shown.
-use Rattle.std.proofs.Common.{ℕ, zero, suc, ◌+◌, ◌++◌, List, [], ◌∷◌, length, inl, inr}
-use Rattle.std.specs.Prelude.{map, nat_le}
+use Rattle.std.proofs.Common.{◌+◌, ◌++◌, List, [], ◌∷◌}
+use Rattle.std.specs.Prelude.{map}
 use Rattle.std.specs.List.{AllByRecursion}
-use Rattle.std.proofs.lemmas.Bool.{cases_Bool}
 use Rattle.mb_base.specs.declared.shape.Shape.{Shape}
 use Rattle.mb_parts.specs.declared.request.Request.{Request}
 use Rattle.mb_parts.specs.Claims.{Claim, evidence_claims}
@@ -11,11 +10,11 @@ use Rattle.mb_msg.specs.declared.stamped.Shown.{Shown}
 use Rattle.mb_msg.specs.declared.stamped.Stamped.{Stamped as StampedMessage}
 use Rattle.mb_msg.specs.declared.stamped.Stamped.TheVariants as stamped
 use Rattle.mb_msg.specs.Bodies.{inside_whole}
-use Rattle.mb_msg.specs.Spelling.{stamped_bytes}
 use Rattle.mb_msg.specs.Stamps.{as_message, bare_of, ui_of}
-use Rattle.mb_model.specs.OwnLog.{behind, behind_opening, behind_change, kept_forms, as_shown, entry_bytes_limit, packed, first_packed}
+use Rattle.mb_model.specs.OwnLog.{behind_opening, behind_change, kept_forms, as_shown, first_packed}
 use Rattle.mb_steps.proofs.StepPlanBases.{all_append}
 use Rattle.mb_theory.specs.Inside.{sender_claim, open_body_claims, open_claims, claims_in_stamped, shown_claims, stamped_claims, claims_in, shown_requests, stamped_requests, requests_in}
+use Rattle.mb_theory.proofs.KeptForms.{forms_keep, first_keep}
 use Rattle.mb_known.proofs.Cases.{all_left, all_right}
 
 module _ (s : Shape) (P : Claim → Type 0) (Q : Request → Type 0) where
@@ -72,32 +71,13 @@ module _ (s : Shape) (P : Claim → Type 0) (Q : Request → Type 0) where
       let inner : AllByRecursion P (open_claims s m) = all_left P (open_claims s m) (own ∷ []) a.claims in
       let shown : AllByRecursion P (evidence_claims s m.evidence) = all_left P (evidence_claims s m.evidence) (inside_whole open_body_claims m.body) inner in
       record { claims = all_append P (evidence_claims s m.evidence ++ []) (own ∷ []) (all_append P (evidence_claims s m.evidence) [] shown tt) (own_only (stamped.Open m) a); requests = tt }
-  opening_form (stamped.Checkpoint m) a = a
-  opening_form (stamped.ViewChange m) a = a
-  opening_form (stamped.NewView m) a = a
-  opening_form (stamped.Enter m) a = a
-  opening_form (stamped.Join m) a = a
+  opening_form x a = a
 
   change_form : (x : StampedMessage) → OfStamped x → OfStamped (behind_change x)
   unfolding stamped_claims
   change_form (stamped.ViewChange m) a = record { claims = own_only (stamped.ViewChange m) a; requests = tt }
   change_form (stamped.NewView m) a = record { claims = own_only (stamped.NewView m) a; requests = tt }
-  change_form (stamped.Prepare m) a = a
-  change_form (stamped.Commit m) a = a
-  change_form (stamped.Checkpoint m) a = a
-  change_form (stamped.Enter m) a = a
-  change_form (stamped.Open m) a = a
-  change_form (stamped.Join m) a = a
-
-  behind_form : (m x : StampedMessage) → OfStamped x → OfStamped (behind m x)
-  behind_form (stamped.Open m) x a = opening_form x a
-  behind_form (stamped.Join m) x a = opening_form x a
-  behind_form (stamped.ViewChange m) x a = change_form x a
-  behind_form (stamped.Prepare m) x a = a
-  behind_form (stamped.Commit m) x a = a
-  behind_form (stamped.Checkpoint m) x a = a
-  behind_form (stamped.NewView m) x a = a
-  behind_form (stamped.Enter m) x a = a
+  change_form x a = a
 
   shown_form : (m : StampedMessage) → OfStamped m → OfShown (as_shown m)
   unfolding stamped_claims shown_claims
@@ -112,28 +92,12 @@ module _ (s : Shape) (P : Claim → Type 0) (Q : Request → Type 0) where
 
   -- ---- lists of them
 
-  mapped_forms : (m : StampedMessage) (l : List StampedMessage) → AllByRecursion OfStamped l → AllByRecursion OfStamped (map (behind m) l)
-  mapped_forms m [] a = tt
-  mapped_forms m (x ∷ l) a = (behind_form m x a.0, mapped_forms m l a.1)
-
   pub all_kept : (l : List StampedMessage) → AllByRecursion OfStamped l → AllByRecursion OfStamped (kept_forms l)
-  unfolding kept_forms
-  all_kept [] a = tt
-  all_kept (m ∷ l) a = (a.0, mapped_forms m (kept_forms l) (all_kept l a.1))
+  all_kept l a = forms_keep OfStamped opening_form change_form l a
 
   pub all_shown : (l : List StampedMessage) → AllByRecursion OfStamped l → AllByRecursion OfShown (map as_shown l)
   all_shown [] a = tt
   all_shown (x ∷ l) a = (shown_form x a.0, all_shown l a.1)
 
-  packed_all : (most used : ℕ) (l : List StampedMessage) → AllByRecursion OfStamped l → AllByRecursion OfStamped (packed most used l)
-  unfolding packed
-  packed_all zero used l a = tt
-  packed_all (suc most) used [] a = tt
-  packed_all (suc most) used (m ∷ l) a = elim (cases_Bool (nat_le (used + length (stamped_bytes m)) entry_bytes_limit)) [
-    | inl place ↦ rw place (a.0, packed_all most (used + length (stamped_bytes m)) l a.1)
-    | inr none ↦ rw none tt
-  ]
-
   pub all_packed : (l : List StampedMessage) → AllByRecursion OfStamped l → AllByRecursion OfStamped (first_packed l)
-  all_packed [] a = tt
-  all_packed (m ∷ l) a = (a.0, packed_all 63 (length (stamped_bytes m)) l a.1)
+  all_packed l a = first_keep OfStamped l a

@@ -1,10 +1,8 @@
 -- What a host sends in a step: what it stamped, the LOG of its history before the step, and what has neither certificates nor requests.
 use Rattle.std.proofs.Common.{◌≡◌, ℕ, ◌⊎◌, Bool, true, List, [], ◌∷◌, ◌++◌, refl, inl, inr}
 use Rattle.std.specs.List.{AllByRecursion}
-use Rattle.std.proofs.lemmas.Bool.{cases_Bool}
 use Rattle.mb_parts.specs.declared.request.Request.{Request}
 use Rattle.mb_msg.specs.declared.event.Event.{Event}
-use Rattle.mb_msg.specs.declared.event.Placed.{Placed}
 use Rattle.mb_msg.specs.declared.message.Message.{Message}
 use Rattle.mb_msg.specs.declared.message.Message.TheVariants as message
 use Rattle.mb_msg.specs.declared.transfer.Resend.{Resend}
@@ -13,13 +11,13 @@ use Rattle.mb_msg.specs.Stamps.{as_message}
 use Rattle.mb_model.specs.Histories.{Entry, Accepted, Stamped, Jumped, Closed, Served, Executed, Installed, DroppedParts, LostPatience, Nudged, History, Identity, stamped as all_stamped}
 use Rattle.mb_model.specs.Sending.{Letter, Progress, write, send, signed, stamp, to_all, to_host, to_client}
 use Rattle.mb_model.specs.Making.{log_for}
-use Rattle.mb_model.specs.CarriedOut.{placed_in, with_reply, serve, serve_all, slot_for}
+use Rattle.mb_model.specs.CarriedOut.{serve_all, slot_for}
 use Rattle.mb_model.specs.Given.{stored_reply}
 use Rattle.mb_model.specs.HostStep.{transition}
 use Rattle.mb_model.proofs.Members.{In}
 use Rattle.mb_steps.proofs.StepPlanBases.{all_append}
 use Rattle.mb_known.proofs.Cases.{all_more}
-use Rattle.mb_genuine.proofs.Walks.{is_plain, IsWalked, walked}
+use Rattle.mb_theory.proofs.Walks.{is_plain, KeepsMoves, serves_keep, events_by, event_keeps}
 
 -- It is plain, or a reply.
 abbrev pub is_bare : Message → Bool
@@ -95,31 +93,21 @@ module _ {S : Type 0} (self : Identity S) (d : History) where
       let made : StampedMessage = signed self x.history m in
       one_more (Stamped made ∷ x.history) x.sent (to_all (as_message made)) (written (Stamped made) x a) (inl (made, inl refl, refl))
 
-  answered : (p : Placed) (x : Progress) → SentSo x → SentSo (with_reply self p x)
-  answered p x a = elim (cases_Bool p.fresh) [
-    | inl fresh ↦ rw fresh (reply_sent p.request.client x a)
-    | inr again ↦ rw again a
-  ]
-
   all_served : (pos : ℕ) (rs : List Request) (x : Progress) → SentSo x → SentSo (serve_all self pos rs x)
-  unfolding serve_all
-  all_served pos [] x a = a
-  all_served pos (r ∷ rs) x a =
-      let p : Placed = placed_in self x.history r in
-      all_served pos rs (serve self pos r x) (answered p (write (Served pos p) x) (written (Served pos p) x a))
+  all_served pos rs x a = serves_keep self SentSo (λ q p y b. written (Served q p) y b) reply_sent pos rs x a
 
-  moves : IsWalked self d SentSo
+  moves : KeepsMoves self SentSo
   moves = record {
     quiet = λ e x q a. written e x a;
+    jumped = λ h f x free above a. written (Jumped h f) x a;
     noted = λ strings x a. a;
     sent = plain_sent;
-    logged = λ m a. one_more (Accepted (message.Resend m) ∷ d) [] (to_host m.host (log_for self d m)) tt (inr (inl (m, refl)));
-    stamps = stamp_sent;
     replied = reply_sent;
+    stamped = stamp_sent;
     executed = λ pos b x a. let y : Progress = serve_all self pos b.requests x in written (Executed (slot_for self y.history pos)) y (all_served pos b.requests x a);
     installed = λ x a. written (Installed _ _) x a;
   }
 
   -- What the step of an event sends.
   pub step_letters : (e : Event) → AreLetters (transition self d e).left.history (transition self d e).left.sent
-  step_letters e = walked self d SentSo moves e tt
+  step_letters e = event_keeps self SentSo (events_by self SentSo moves) d e (λ m a. one_more (Accepted (message.Resend m) ∷ d) [] (to_host m.host (log_for self d m)) tt (inr (inl (m, refl)))) tt

@@ -1,127 +1,24 @@
 -- Logs keep their limits at each moment of a history that events lead to, also within a step: what stamps asked for room then.
-use Rattle.std.proofs.Common.{◌≡◌, ℕ, zero, suc, ◌+◌, ◌-◌, ◌≤◌, ◌++◌, Bool, true, false, ◌&&◌, not, cond, List, [], ◌∷◌, length, take, refl, ap, inl, inr, arith, Option, Some, None}
-use Rattle.std.specs.Prelude.{count_by, nat_lt, nat_le}
-use Rattle.std.proofs.lemmas.Bool.{and_parts, cases_Bool, ltb-true}
-use Rattle.std.proofs.lemmas.List.Sums.{sum_by-cons}
-use Rattle.mb_parts.specs.declared.certificates.FloorCert.{FloorCert}
+use Rattle.std.proofs.Common.{◌≡◌, ℕ, ◌++◌, true, [], ◌∷◌, refl}
 use Rattle.mb_msg.specs.declared.event.Slot.{Slot}
 use Rattle.mb_msg.specs.declared.message.Message.TheVariants as message
-use Rattle.mb_msg.specs.declared.transfer.StateMsg.{StateMsg}
 use Rattle.mb_msg.specs.declared.stamped.Stamped.{Stamped as StampedMessage}
-use Rattle.mb_model.specs.UsableLogs.{normal_limit, other_limit}
-use Rattle.mb_model.specs.Histories.{Entry, Accepted, Stamped, Jumped, Closed, Served, Executed, Installed, DroppedParts, LostPatience, Nudged, History, Identity, stamped as all_stamped, counter_of}
-use Rattle.mb_model.specs.Stable.{low_of, log_floor, floor_counter, floor_from, cut_by, is_kept, checkpoint_in}
-use Rattle.mb_model.specs.OwnLog.{own_log, log_start, is_normal, is_unspent, has_room, has_other_room}
-use Rattle.mb_steps.proofs.StepPotential.{start_bounded}
+use Rattle.mb_model.specs.Histories.{Entry, Accepted, Stamped, Served, Executed, History, Identity}
+use Rattle.mb_model.specs.OwnLog.{is_normal, has_room}
 use Rattle.mb_theory.specs.World.{System, self_of}
 use Rattle.mb_theory.specs.WorldSteps.{world}
-use Rattle.mb_theory.proofs.LogLimits.{InLimits}
+use Rattle.mb_theory.proofs.LogLimits.{stamped_same, state_same, executed_same, InLimits, begins_in_limits, same_limits, normal_limits, change_limits}
 use Rattle.mb_theory.proofs.KeptByEvents.{is_plain, IsKept, event_keeps, execution_keeps, state_keeps}
 use Rattle.mb_theory.proofs.KeptByWorlds.{world_keeps}
 
--- A shorter beginning has no more of a kind.
-count_take : {A : Type 0} (p : A → Bool) (l : List A) (m n : ℕ) → m ≤ n → count_by p (take m l) ≤ count_by p (take n l)
-count_take p l zero n le = omega arith
-count_take p [] (suc m) zero le = absurd (omega (arith, le))
-count_take p [] (suc m) (suc n) le = omega arith
-count_take p (x ∷ l) (suc m) zero le = absurd (omega (arith, le))
-count_take p (x ∷ l) (suc m) (suc n) le = omega (arith, sum_by-cons (λ y. cond (p y) 1 0) x (take m l), sum_by-cons (λ y. cond (p y) 1 0) x (take n l), count_take p l m n (omega (arith, le)))
-
--- one where a test holds, else nothing
-abbrev weight : Bool → ℕ
-weight b = cond b 1 0
-
-one_where : (b : Bool) → b ≡ true → weight b ≡ 1
-one_where b e = ap weight e
-
-none_where : (b : Bool) → b ≡ false → weight b ≡ 0
-none_where b e = ap weight e
-
-none_of_other : (b : Bool) → b ≡ true → weight (not b) ≡ 0
-none_of_other b e = ap (λ (x : Bool). weight (not x)) e
-
-one_of_other : (b : Bool) → b ≡ false → weight (not b) ≡ 1
-one_of_other b e = ap (λ (x : Bool). weight (not x)) e
-
 module _ {S : Type 0} (self : Identity S) where
-  -- ---- one more entry
-
-  cut_grows : (n : ℕ) (old new : Option FloorCert) → floor_counter self old ≤ floor_counter self (cut_by self n old new)
-  cut_grows n old None = omega arith
-  cut_grows n old (Some c) = elim (cases_Bool (nat_lt (floor_counter self old) (floor_counter self (Some c)) && nat_le (floor_counter self (Some c)) n)) [
-    | inl does ↦ rw does (let lt = ltb-true (floor_counter self old) (floor_counter self (Some c)) (and_parts (nat_lt (floor_counter self old) (floor_counter self (Some c))) (nat_le (floor_counter self (Some c)) n) does).0 in omega (arith, lt))
-    | inr not_so ↦ rw not_so (omega arith)
-  ]
-
-  -- The floor of the log goes forward.
-  start_grows : (e : Entry) (d : History) → log_start self d ≤ log_start self (e ∷ d)
-  unfolding log_floor
-  start_grows e d = elim (cases_Bool (is_kept (low_of self d) (checkpoint_in e))) [
-    | inl does ↦ rw does (cut_grows (counter_of (e ∷ d)) (log_floor self d) (floor_from self.shape (e ∷ d) self.host (low_of self (e ∷ d))))
-    | inr not_so ↦ rw not_so (omega arith)
-  ]
-
-  stamped_same : (e : Entry) (d : History) → is_plain e ≡ true → all_stamped (e ∷ d) ≡ all_stamped d
-  unfolding all_stamped
-  stamped_same (Accepted m) d plain = refl
-  stamped_same (Stamped m) d plain = absurd cc
-  stamped_same (Jumped h f) d plain = refl
-  stamped_same (Closed h c) d plain = refl
-  stamped_same (Served pos placed) d plain = refl
-  stamped_same (Executed slot) d plain = absurd cc
-  stamped_same (Installed pos parts) d plain = refl
-  stamped_same DroppedParts d plain = refl
-  stamped_same LostPatience d plain = refl
-  stamped_same Nudged d plain = refl
-
-  state_same : (m : StateMsg) (d : History) → all_stamped (Accepted (message.State m) ∷ d) ≡ all_stamped d
-  unfolding all_stamped
-  state_same m d = refl
-
-  executed_same : (slot : Slot) (d : History) → all_stamped (Executed slot ∷ d) ≡ all_stamped d
-  unfolding all_stamped
-  executed_same slot d = refl
-
-  -- What stamps nothing makes no log longer.
-  no_more : (p : StampedMessage → Bool) (e : Entry) (d : History) → all_stamped (e ∷ d) ≡ all_stamped d → count_by p (own_log self (e ∷ d)) ≤ count_by p (own_log self d)
-  no_more p e d same = rw same (count_take p (all_stamped d) (length (all_stamped d) - log_start self (e ∷ d)) (length (all_stamped d) - log_start self d) (omega (arith, start_grows e d)))
-
-  -- A stamp makes it longer by one at most.
-  one_more : (p : StampedMessage → Bool) (m : StampedMessage) (d : History) → count_by p (own_log self (Stamped m ∷ d)) ≤ cond (p m) 1 0 + count_by p (own_log self d)
-  unfolding all_stamped
-  one_more p m d =
-      let c : ℕ = length (all_stamped d) in
-      let shorter = count_take p (m ∷ all_stamped d) (suc c - log_start self (Stamped m ∷ d)) (suc (c - log_start self d)) (omega (arith, start_grows (Stamped m) d, start_bounded self d)) in
-      omega (arith, shorter, sum_by-cons (λ y. cond (p y) 1 0) m (take (c - log_start self d) (all_stamped d)))
-
-  -- ---- the limits
-
-  begins_in_limits : InLimits self []
-  unfolding all_stamped log_floor
-  begins_in_limits = (omega arith, omega arith)
-
-  same_limits : (e : Entry) (d : History) → all_stamped (e ∷ d) ≡ all_stamped d → InLimits self d → InLimits self (e ∷ d)
-  same_limits e d same x = (omega (arith, no_more is_normal e d same, x.0), omega (arith, no_more (λ m. not (is_normal m)) e d same, x.1))
-
-  normal_limits : (m : StampedMessage) (d : History) → is_normal m ≡ true → has_room self d ≡ true → InLimits self d → InLimits self (Stamped m ∷ d)
-  normal_limits m d kind room x =
-      let free = ltb-true (count_by is_normal (own_log self d)) (normal_limit self.shape) (and_parts (nat_lt (count_by is_normal (own_log self d)) (normal_limit self.shape)) (is_unspent self d) room).0 in
-      (omega (arith, one_more is_normal m d, one_where (is_normal m) kind, free), omega (arith, one_more (λ y. not (is_normal y)) m d, none_of_other (is_normal m) kind, x.1))
-
-  change_limits : (m : StampedMessage) (d : History) → is_normal m ≡ false → has_other_room self d ≡ true → InLimits self d → InLimits self (Stamped m ∷ d)
-  change_limits m d kind room x =
-      let free = ltb-true (count_by (λ y. not (is_normal y)) (own_log self d)) other_limit (and_parts (nat_lt (count_by (λ y. not (is_normal y)) (own_log self d)) other_limit) (is_unspent self d) room).0 in
-      (omega (arith, one_more is_normal m d, none_where (is_normal m) kind, x.0), omega (arith, one_more (λ y. not (is_normal y)) m d, one_of_other (is_normal m) kind, free))
-
-  -- ---- at each moment
-
   -- at all moments of a history but its beginning
   abbrev pub InLimitsSince : History → Type 0
   InLimitsSince [] = Unit {0}
   InLimitsSince (e ∷ d) = InLimits self (e ∷ d) × InLimitsSince d
 
   pub limits_then : (later d : History) → InLimitsSince (later ++ d) → InLimits self d
-  limits_then [] [] x = begins_in_limits
+  limits_then [] [] x = begins_in_limits self
   limits_then [] (e ∷ d) x = x.0
   limits_then (e ∷ later) d x = limits_then later d x.1
 
@@ -129,21 +26,21 @@ module _ {S : Type 0} (self : Identity S) where
   now d x = limits_then [] d x
 
   executed_since : (slot : Slot) (d : History) → InLimitsSince d → InLimitsSince (Executed slot ∷ d)
-  executed_since slot d x = (same_limits (Executed slot) d (executed_same slot d) (now d x), x)
+  executed_since slot d x = (same_limits self (Executed slot) d (executed_same self slot d) (now d x), x)
 
   plain_since : (e : Entry) (d : History) → is_plain e ≡ true → InLimitsSince d → InLimitsSince (e ∷ d)
-  plain_since e d plain x = (same_limits e d (stamped_same e d plain) (now d x), x)
+  plain_since e d plain x = (same_limits self e d (stamped_same self e d plain) (now d x), x)
 
   normal_since : (m : StampedMessage) (d : History) → is_normal m ≡ true → has_room self d ≡ true → InLimitsSince d → InLimitsSince (Stamped m ∷ d)
-  normal_since m d kind room x = (normal_limits m d kind room (now d x), x)
+  normal_since m d kind room x = (normal_limits self m d kind room (now d x), x)
 
   since_kept : IsKept self InLimitsSince
   since_kept = record {
     plain = plain_since;
     normal = normal_since;
-    change = λ m d kind room x. (change_limits m d kind room (now d x), x);
+    change = λ m d kind room x. (change_limits self m d kind room (now d x), x);
     executed = λ pos b x p. execution_keeps self InLimitsSince normal_since (λ pos p d x. plain_since (Served pos p) d refl x) executed_since pos b x p;
-    state = λ m x p. state_keeps self InLimitsSince (λ m d y. (same_limits (Accepted (message.State m)) d (state_same m d) (now d y), y)) plain_since m x p;
+    state = λ m x p. state_keeps self InLimitsSince (λ m d y. (same_limits self (Accepted (message.State m)) d (state_same self m d) (now d y), y)) plain_since m x p;
   }
 
 pub limits_since : {S : Type 0} (system : System S) (k h : ℕ) → InLimitsSince (self_of system h) ((world system k).histories h)

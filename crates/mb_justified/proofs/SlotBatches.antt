@@ -41,7 +41,7 @@ use Rattle.mb_views.proofs.OwnSeen.{SeenPrepare, seen_prepare, SeenOpen, seen_op
 use Rattle.mb_parts.specs.declared.batch.Batch.{Batch}
 use Rattle.mb_model.specs.Batches.{first_batch}
 use Rattle.mb_model.specs.Verified.{is_rightly_tagged}
-use Rattle.mb_line.proofs.Fitting.{first_all}
+use Rattle.mb_known.proofs.FirstBatches.{first_all}
 use Rattle.mb_line.proofs.ExecutedSound.{fresh_is}
 use Rattle.mb_theory.proofs.Lists.{all_at}
 

@@ -1,18 +1,18 @@
 -- Small facts of Booleans, options, bodies and lists on which many files stand: what a case says (`not_true`, `some_is`, `then_some_of`, `whole_is`),
 -- and what holds of all members of a list, of its parts and of lists made of it (`all_left`, `all_taken`, `all_reverse`, `each_in`, `flat_in`).
-use Rattle.std.proofs.Common.{◌≡◌, ℕ, zero, suc, ◌<◌, Bool, true, false, not, ◌&&◌, ◌||◌, List, [], ◌∷◌, ◌++◌, length, take, reverse, refl, sym, ap, subst, inl, inr, arith, Option, Some, None}
+use Rattle.std.proofs.Common.{◌≡◌, ℕ, zero, suc, ◌<◌, Bool, true, false, not, ◌&&◌, ◌||◌, List, [], ◌∷◌, ◌++◌, length, take, refl, sym, ap, subst, inl, inr, arith, Option, Some, None}
 use Rattle.std.specs.Prelude.{slice_get, map, nat_le, if◌then◌else◌, option_and_then, option_map, is_none}
 use Rattle.std.specs.Option.{option_or, IfSome}
 use Rattle.std.specs.Bool.{then_some}
 use Rattle.std.specs.List.{AllByRecursion, list_all, flat_map}
 use Rattle.std.proofs.lemmas.Bool.{and_parts, cases_Bool, leb-true}
-use Rattle.std.proofs.lemmas.List.{reverse-append}
 use Rattle.mb_msg.specs.declared.message.Body.{Body}
 use Rattle.mb_msg.specs.declared.message.Body.TheVariants.{Whole, Bare as Short}
 use Rattle.mb_model.specs.UsableLogs.{is_whole}
 use Rattle.mb_model.proofs.Members.{In, in_left, in_right}
 use Rattle.mb_msg.specs.Bodies.{whole_body}
 use Rattle.mb_steps.proofs.StepPlanBases.{all_append}
+pub use Rattle.mb_theory.proofs.Lists.{all_map, all_reverse}
 
 -- ---- Booleans
 
@@ -108,10 +108,6 @@ pub all_taken : {A : Type 0} (P : A → Type 0) (n : ℕ) (l : List A) → AllBy
 all_taken P zero l a = tt
 all_taken P (suc n) [] a = tt
 all_taken P (suc n) (x ∷ l) a = (a.0, all_taken P n l a.1)
-
-pub all_reverse : {A : Type 0} (P : A → Type 0) (l : List A) → AllByRecursion P l → AllByRecursion P (reverse l)
-all_reverse P [] a = tt
-all_reverse P (x ∷ l) a = subst (AllByRecursion P) (sym (reverse-append (x ∷ []) l)) (all_append P (reverse l) (x ∷ []) (all_reverse P l a.1) (a.0, tt))
 
 pub all_more : {A : Type 0} (P Q : A → Type 0) → ((x : A) → P x → Q x) → (l : List A) → AllByRecursion P l → AllByRecursion Q l
 all_more P Q f [] a = tt

@@ -4,6 +4,8 @@
 -- `OwnStamps`). All of it together is the record `Facts`, which each such world has (`FactsOf`).
 pub mod Cases
 pub mod Found
+pub mod FirstBatches
+pub mod DistinctHosts
 pub mod Rests
 pub mod RestsGiven
 pub mod RestsRules
@@ -22,6 +24,7 @@ pub mod Knows
 pub mod Parts
 pub mod OwnIssued
 pub mod OwnKnown
+pub mod FloorsReached
 pub mod OwnGates
 pub mod HeldViews
 pub mod OwnSlots

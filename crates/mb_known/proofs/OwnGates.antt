@@ -1,7 +1,7 @@
 -- The floors that a host's gates remember fit: they start at one that fits, and what is behind it fits; its counter is that of an accepted message,
 -- of a stamp, or of a floor to which the gate jumped.
-use Rattle.std.proofs.Common.{◌≡◌, ℕ, zero, suc, ◌+◌, ◌^◌, ◌<◌, Bool, true, false, List, [], ◌∷◌, length, refl, ap, subst, ◌∙◌, inl, inr, arith, max, Option, Some, None}
-use Rattle.std.specs.Prelude.{◌==◌, map, take, find, nat_lt, nat_le, if◌then◌else◌}
+use Rattle.std.proofs.Common.{◌≡◌, ℕ, zero, suc, ◌+◌, Bool, List, [], ◌∷◌, length, refl, ap, subst, ◌∙◌, inl, inr, arith, Option, Some, None}
+use Rattle.std.specs.Prelude.{◌==◌, map, take, find, nat_lt, nat_le}
 use Rattle.std.specs.Option.{IfSome}
 use Rattle.std.specs.List.{AllByRecursion, range_with_len}
 use Rattle.std.proofs.lemmas.Bool.{cases_Bool, eqb-true}
@@ -13,7 +13,7 @@ use Rattle.mb_parts.specs.Bares.{Bare}
 use Rattle.mb_parts.specs.Bares as bare
 use Rattle.mb_parts.specs.Claims.{Claim}
 use Rattle.mb_parts.specs.Fits.{IsCounter, FitsBare, FitsUi, FitsFloor, FitsFloors}
-use Rattle.mb_parts.specs.Ordered.{current_view, last_position, top_position, last_checkpoint, floor_after}
+use Rattle.mb_parts.specs.Ordered.{floor_after}
 use Rattle.mb_msg.specs.declared.message.Message.{Message}
 use Rattle.mb_msg.specs.declared.message.Message.TheVariants as message
 use Rattle.mb_msg.specs.declared.stamped.Stamped.{Stamped as StampedMessage}
@@ -29,84 +29,14 @@ use Rattle.mb_steps.proofs.StepArises.{Arises, Makes}
 use Rattle.mb_steps.proofs.StepOwnList.{stands_here}
 use Rattle.mb_steps.proofs.StepOwnStamped.{steady}
 use Rattle.mb_steps.proofs.StepRounds.{ui_under}
+use Rattle.mb_known.proofs.FloorsReached.{IsPlaced, placed, leads_low}
 use Rattle.mb_known.proofs.Cases.{none_some}
 use Rattle.mb_known.proofs.Rests.{Each}
 use Rattle.mb_known.proofs.OwnKnown.{KnownStamp, KnownMessage, Known}
 
--- ---- where a list of what fits leads
-
--- a floor but for its counter
-record Placed (f : Floor) : Type 0 where
-  view : f.view < 2 ^ 63
-  last : f.last < 2 ^ 63
-  top : f.top < 2 ^ 63
-  point : f.point < 2 ^ 63
-
-placed : (f : Floor) → FitsFloor f → Placed f
-placed f x = record { view = x.view; last = x.last; top = x.top; point = x.point }
-
-if_low : (b : Bool) (x y : ℕ) → x < 2 ^ 63 → y < 2 ^ 63 → (if b then x else y) < 2 ^ 63
-if_low true x y p q = p
-if_low false x y p q = q
-
-max_low : (x y : ℕ) → x < 2 ^ 63 → y < 2 ^ 63 → max x y < 2 ^ 63
-max_low x y p q = omega (arith, p, q)
-
 module _ {S : Type 0} (self : Identity S) where
   abbrev AllFit : List Bare → Type 0
   AllFit l = AllByRecursion (FitsBare self.shape) l
-
-  module _ (o : Floor) (p : Placed o) where
-    view_low : (l : List Bare) → AllFit l → current_view o l < 2 ^ 63
-    unfolding current_view
-    view_low [] a = p.view
-    view_low (bare.ViewChange v d ∷ l) a = a.0.0.1
-    view_low (bare.Prepare v q d ∷ l) a = view_low l a.1
-    view_low (bare.Commit v q n c d ∷ l) a = view_low l a.1
-    view_low (bare.Checkpoint q t d ∷ l) a = view_low l a.1
-    view_low (bare.NewView v b e q d ∷ l) a = view_low l a.1
-    view_low (bare.Enter v c q ∷ l) a = view_low l a.1
-    view_low (bare.Open e d ∷ l) a = view_low l a.1
-    view_low (bare.Join v e c ∷ l) a = view_low l a.1
-
-    last_low : (l : List Bare) (u : ℕ) → AllFit l → last_position o l u < 2 ^ 63
-    unfolding last_position
-    last_low [] u a = if_low (o.view == u) o.last 0 p.last (omega arith)
-    last_low (bare.ViewChange v d ∷ l) u a = last_low l u a.1
-    last_low (bare.Prepare v q d ∷ l) u a = if_low (v == u) q (last_position o l u) a.0.1.0.1 (last_low l u a.1)
-    last_low (bare.Commit v q n c d ∷ l) u a = if_low (v == u) q (last_position o l u) a.0.1.0.1 (last_low l u a.1)
-    last_low (bare.Checkpoint q t d ∷ l) u a = last_low l u a.1
-    last_low (bare.NewView v b e q d ∷ l) u a = last_low l u a.1
-    last_low (bare.Enter v c q ∷ l) u a = last_low l u a.1
-    last_low (bare.Open e d ∷ l) u a = if_low (e.view == u) e.end (last_position o l u) a.0.0.end.1.1 (last_low l u a.1)
-    last_low (bare.Join v e c ∷ l) u a = if_low (v == u) c.pos (last_position o l u) a.0.1.1.0.pos.0 (last_low l u a.1)
-
-    top_low : (l : List Bare) → AllFit l → top_position o l < 2 ^ 63
-    unfolding top_position
-    top_low [] a = p.top
-    top_low (bare.ViewChange v d ∷ l) a = top_low l a.1
-    top_low (bare.Prepare v q d ∷ l) a = max_low (top_position o l) q (top_low l a.1) a.0.1.0.1
-    top_low (bare.Commit v q n c d ∷ l) a = max_low (top_position o l) q (top_low l a.1) a.0.1.0.1
-    top_low (bare.Checkpoint q t d ∷ l) a = top_low l a.1
-    top_low (bare.NewView v b e q d ∷ l) a = top_low l a.1
-    top_low (bare.Enter v c q ∷ l) a = top_low l a.1
-    top_low (bare.Open e d ∷ l) a = max_low (top_position o l) e.end (top_low l a.1) a.0.0.end.1.1
-    top_low (bare.Join v e c ∷ l) a = max_low (top_position o l) c.pos (top_low l a.1) a.0.1.1.0.pos.0
-
-    point_low : (l : List Bare) → AllFit l → last_checkpoint o l < 2 ^ 63
-    unfolding last_checkpoint
-    point_low [] a = p.point
-    point_low (bare.ViewChange v d ∷ l) a = point_low l a.1
-    point_low (bare.Prepare v q d ∷ l) a = point_low l a.1
-    point_low (bare.Commit v q n c d ∷ l) a = point_low l a.1
-    point_low (bare.Checkpoint q t d ∷ l) a = a.0.0.1
-    point_low (bare.NewView v b e q d ∷ l) a = point_low l a.1
-    point_low (bare.Enter v c q ∷ l) a = point_low l a.1
-    point_low (bare.Open e d ∷ l) a = point_low l a.1
-    point_low (bare.Join v e c ∷ l) a = point_low l a.1
-
-    leads_low : (l : List Bare) → AllFit l → Placed (floor_after o l)
-    leads_low l a = record { view = view_low l a; last = last_low l (current_view o l) a; top = top_low l a; point = point_low l a }
 
   module _ (Good : Claim → Type 0) (Text : Bytes → Type 0) where
     abbrev AllKnown : History → Type 0
@@ -183,7 +113,7 @@ module _ {S : Type 0} (self : Identity S) where
     taken_fit (Stamped m ∷ d) a k h = onto_fit (by_host h (Some m)) (taken_of d h) (λ b e. (of_host h d (Some m) (λ x i. subst (Enters d) (cc i) (stamped_enters d m a k.0)) b e).0) (taken_fit d a.1 k.1 h)
     taken_fit (x ∷ d) a k h = taken_fit d a.1 k.1 h
 
-    origin_placed : (d : History) → AllKnown d → (h : ℕ) → Placed (origin d h)
+    origin_placed : (d : History) → AllKnown d → (h : ℕ) → IsPlaced (origin d h)
     unfolding origin
     origin_placed [] k h = record { view = omega arith; last = omega arith; top = omega arith; point = omega arith }
     origin_placed (Jumped g f ∷ d) k h = elim (cases_Bool (g == h)) [
@@ -195,7 +125,7 @@ module _ {S : Type 0} (self : Identity S) where
     -- where a gate stands behind one more
     behind_one : (d : History) → Arises self d → AllKnown d → (h : ℕ) (b : Bare) → FitsBare self.shape b × IsCounter ((gate d h).counter + 1) → FitsFloor (floor_after (origin d h) (b ∷ taken_of d h))
     behind_one d a k h b f =
-        let p = leads_low (origin d h) (origin_placed d k h) (b ∷ taken_of d h) (f.0, taken_fit d a k h) in
+        let p = leads_low self.shape (origin d h) (origin_placed d k h) (b ∷ taken_of d h) (f.0, taken_fit d a k h) in
         record { counter = (omega arith, omega (arith, f.1.1)); view = p.view; last = p.last; top = p.top; point = p.point }
 
     accepted_floor : (m : Message) (d : History) (h : ℕ) (x : Option Bare) (l : List Floor) → ((b : Bare) → x ≡ Some b → FitsFloor (floor_after (origin d h) (b ∷ taken_of d h))) → AllByRecursion FitsFloor l

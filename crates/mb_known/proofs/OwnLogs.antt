@@ -1,7 +1,7 @@
 -- What a host shows of its own log in a VIEW_CHANGE is good: each entry is one of its stamps, in the form in which it is kept, and the certificates
 -- beside are those of its floor and of its stable position.
 use Rattle.std.proofs.Common.{◌≡◌, ℕ, ◌+◌, ◌-◌, ◌^◌, ◌<◌, List, [], ◌∷◌, length, arith, refl, subst, Option, Some, None}
-use Rattle.std.specs.Prelude.{map, reverse}
+use Rattle.std.specs.Prelude.{reverse}
 use Rattle.std.specs.List.{AllByRecursion}
 use Rattle.mb_base.specs.Shapes.{Bytes}
 use Rattle.mb_parts.specs.declared.certificates.FloorCert.{FloorCert}
@@ -19,20 +19,17 @@ use Rattle.mb_msg.specs.Stamps.{bare_of_shown}
 use Rattle.mb_model.specs.CarriedLogs.{claims_of_floor, claims_of_body, body_claims, entry_claims}
 use Rattle.mb_model.specs.GateChecks.{stamp_claim}
 use Rattle.mb_model.specs.Histories.{Stamped, History, Identity, counter_of, stamped as all_stamped}
-use Rattle.mb_model.specs.OwnLog.{as_shown, behind, behind_opening, behind_change, kept_forms, log_kept, log_start, proof_of}
+use Rattle.mb_model.specs.OwnLog.{as_shown, behind_opening, behind_change, kept_forms, log_kept, log_start, proof_of}
 use Rattle.mb_model.specs.Stable.{stable_of, log_floor}
 use Rattle.mb_model.specs.UsableLogs.{entry_claim}
 use Rattle.mb_steps.proofs.StepPlanBases.{all_append}
-use Rattle.mb_known.proofs.Cases.{all_reverse, all_right, all_taken, all_flat}
+use Rattle.mb_theory.proofs.KeptForms.{mapped_keep}
+use Rattle.mb_known.proofs.Cases.{all_map, all_reverse, all_right, all_taken, all_flat}
 use Rattle.mb_known.proofs.Rests.{Each}
 use Rattle.mb_known.proofs.PlanFits.{OfBody, OfEntry}
 use Rattle.mb_known.proofs.OwnKnown.{IsLowBody, IsLowEntry, AllGood, GoodStable, GoodChange, KnownStamp, Known}
 use Rattle.mb_known.proofs.HeldStable.{stable_good}
 use Rattle.mb_known.proofs.HeldFloors.{floor_good}
-
-all_map : {A B : Type 0} (P : A → Type 0) (Q : B → Type 0) (f : A → B) → ((x : A) → P x → Q (f x)) → (l : List A) → AllByRecursion P l → AllByRecursion Q (map f l)
-all_map P Q f g [] a = tt
-all_map P Q f g (x ∷ l) a = (g x a.0, all_map P Q f g l a.1)
 
 module _ {S : Type 0} (self : Identity S) (Good : Claim → Type 0) (Text : Bytes → Type 0) where
   -- an entry that is shown
@@ -77,36 +74,17 @@ module _ {S : Type 0} (self : Identity S) (Good : Claim → Type 0) (Text : Byte
   opening_form (stamped.Prepare m) g = record { claim = g.claim; inner = g.inner; body = g.body; base = tt; low = g.low }
   opening_form (stamped.Commit m) g = record { claim = g.claim; inner = g.inner; body = g.body; base = tt; low = g.low }
   opening_form (stamped.Open m) g = record { claim = g.claim; inner = g.inner; body = tt; base = tt; low = tt }
-  opening_form (stamped.Checkpoint m) g = g
-  opening_form (stamped.ViewChange m) g = g
-  opening_form (stamped.NewView m) g = g
-  opening_form (stamped.Enter m) g = g
-  opening_form (stamped.Join m) g = g
+  opening_form x g = g
 
   change_form : (x : StampedMessage) → IsGoodForm x → IsGoodForm (behind_change x)
   change_form (stamped.ViewChange m) g = record { claim = g.claim; inner = g.inner; body = g.body; base = tt; low = tt }
   change_form (stamped.NewView m) g = record { claim = g.claim; inner = g.inner; body = g.body; base = tt; low = tt }
-  change_form (stamped.Prepare m) g = g
-  change_form (stamped.Commit m) g = g
-  change_form (stamped.Checkpoint m) g = g
-  change_form (stamped.Enter m) g = g
-  change_form (stamped.Open m) g = g
-  change_form (stamped.Join m) g = g
-
-  behind_form : (m x : StampedMessage) → IsGoodForm x → IsGoodForm (behind m x)
-  behind_form (stamped.Open m) x g = opening_form x g
-  behind_form (stamped.Join m) x g = opening_form x g
-  behind_form (stamped.ViewChange m) x g = change_form x g
-  behind_form (stamped.Prepare m) x g = g
-  behind_form (stamped.Commit m) x g = g
-  behind_form (stamped.Checkpoint m) x g = g
-  behind_form (stamped.NewView m) x g = g
-  behind_form (stamped.Enter m) x g = g
+  change_form x g = g
 
   all_forms : (d : History) → Each (Known self Good Text) d → AllByRecursion IsGoodForm (kept_forms (all_stamped d))
   unfolding all_stamped kept_forms
   all_forms [] k = tt
-  all_forms (Stamped m ∷ d) k = (whole_form m k.0, all_map IsGoodForm IsGoodForm (behind m) (behind_form m) (kept_forms (all_stamped d)) (all_forms d k.1))
+  all_forms (Stamped m ∷ d) k = (whole_form m k.0, mapped_keep IsGoodForm opening_form change_form m (kept_forms (all_stamped d)) (all_forms d k.1))
   all_forms (x ∷ d) k = all_forms d k.1
 
   -- What the host shows of its log.

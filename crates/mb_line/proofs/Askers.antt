@@ -20,7 +20,7 @@ use Rattle.mb_sched.specs.declared.schedule.Schedule.{Schedule}
 use Rattle.mb_sched.specs.Limits.{is_faulty}
 use Rattle.mb_theory.specs.WorldEvents.{IsCorrect}
 use Rattle.mb_known.proofs.Cases.{not_true}
-use Rattle.mb_views.proofs.CorrectOne.{one_more}
+use Rattle.mb_model.proofs.PlanLaws.{one_more}
 
 -- ---- lists of different hosts
 

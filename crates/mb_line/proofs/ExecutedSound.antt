@@ -57,7 +57,7 @@ use Rattle.mb_known.proofs.Executing.{IsExecution}
 use Rattle.mb_line.proofs.Executions.{executed_so}
 use Rattle.mb_known.proofs.Parts.{accepted_fits, body_string}
 use Rattle.mb_model.specs.Passed.{PassesBody}
-use Rattle.mb_line.proofs.Fitting.{first_fits, first_all}
+use Rattle.mb_known.proofs.FirstBatches.{first_fits, first_all}
 use Rattle.mb_model.specs.Batches.{first_batch}
 use Rattle.mb_line.proofs.Batches.{shown_batches}
 use Rattle.mb_parts.specs.declared.batch.Batch.{Batch}

@@ -6,7 +6,6 @@ pub mod OneVote
 pub mod CountedVotes
 pub mod Committed
 pub mod Walks
-pub mod WalkEvents
 pub mod StepDone
 pub mod Moves
 pub mod WholeBatches
@@ -19,7 +18,6 @@ pub mod InstalledState
 pub mod Line
 pub mod ServedFits
 pub mod Batches
-pub mod Fitting
 pub mod PlanBatches
 pub mod SoundBatches
 pub mod HeldBatches

@@ -2,11 +2,10 @@
 --
 -- A batch of a given message that is rightly tagged is sound (`brought`): it has the values of the grammar, its string is hashed, and correct clients
 -- asked for its requests. What a log shows that was found usable is rightly tagged. What a host shows in its own VIEW_CHANGE is what it stamped before.
-use Rattle.std.proofs.Common.{◌≡◌, ℕ, zero, suc, true, ◌&&◌, not, List, [], ◌∷◌, ◌++◌, refl, sym, ap, subst, ◌∙◌, inl, inr, Option, Some, None}
-use Rattle.std.specs.Prelude.{◌==◌, map, take, reverse, filter, option_and_then, is_none, Contains}
+use Rattle.std.proofs.Common.{◌≡◌, ℕ, true, ◌&&◌, not, List, [], ◌∷◌, ◌++◌, refl, sym, ap, subst, ◌∙◌, inl, inr, Option, Some, None}
+use Rattle.std.specs.Prelude.{◌==◌, map, reverse, filter, option_and_then, is_none, Contains}
 use Rattle.std.specs.List.{AllByRecursion, flat_map}
 use Rattle.std.proofs.lemmas.Bool.{and_parts}
-use Rattle.std.proofs.lemmas.List.{reverse-append}
 use Rattle.std.proofs.lemmas.List.Concat.{flat_map-cons}
 use Rattle.mb_usig.specs.Tags.{request_tag}
 use Rattle.mb_usig.proofs.Laws.{same_bytes-true}
@@ -27,7 +26,7 @@ use Rattle.mb_model.specs.Verified.{verifies, is_rightly_tagged, are_rightly_tag
 use Rattle.mb_model.specs.UsableLogs.{is_whole, log_fault}
 use Rattle.mb_model.specs.Histories.{Entry, Accepted, Stamped, Jumped, Closed, Served, Executed, Installed, DroppedParts, LostPatience, Nudged, History, Identity, stamped as all_stamped}
 use Rattle.mb_model.specs.Held.{change_fault, is_current, change_in, arrived, changes_of, logs_of}
-use Rattle.mb_model.specs.OwnLog.{behind_opening, behind_change, behind, kept_forms, as_shown, log_kept, proof_of}
+use Rattle.mb_model.specs.OwnLog.{behind_opening, behind_change, kept_forms, as_shown, log_kept, proof_of}
 use Rattle.mb_model.specs.Sending.{next_ui}
 use Rattle.mb_model.specs.Making.{view_change}
 use Rattle.mb_model.proofs.Options.{if_some}
@@ -38,7 +37,8 @@ use Rattle.mb_theory.specs.Inside.{requests_in, bodies_in}
 use Rattle.mb_theory.specs.WorldEvents.{IsCorrect, IsCorrectClient}
 use Rattle.mb_theory.specs.World.{World, System, self_of}
 use Rattle.mb_theory.proofs.Lists.{all_append}
-use Rattle.mb_known.proofs.Cases.{same_whole, some_is, all_holds}
+use Rattle.mb_theory.proofs.KeptForms.{forms_keep}
+use Rattle.mb_known.proofs.Cases.{all_reverse, all_taken, same_whole, some_is, all_holds}
 use Rattle.mb_known.proofs.Rests.{Each}
 use Rattle.mb_known.proofs.Grown.{WasAsked}
 use Rattle.mb_known.proofs.Facts.{Facts}
@@ -69,49 +69,12 @@ module _ (R : Batch → Type 0) where
   opening_all (stamped.Prepare m) a = tt
   opening_all (stamped.Commit m) a = tt
   opening_all (stamped.Open m) a = tt
-  opening_all (stamped.Checkpoint m) a = tt
-  opening_all (stamped.ViewChange m) a = tt
-  opening_all (stamped.NewView m) a = tt
-  opening_all (stamped.Enter m) a = tt
-  opening_all (stamped.Join m) a = tt
+  opening_all x a = a
 
   change_all : (x : StampedMessage) → OfStamped x → OfStamped (behind_change x)
   change_all (stamped.ViewChange m) a = tt
   change_all (stamped.NewView m) a = tt
-  change_all (stamped.Prepare m) a = a
-  change_all (stamped.Commit m) a = a
-  change_all (stamped.Open m) a = a
-  change_all (stamped.Checkpoint m) a = tt
-  change_all (stamped.Enter m) a = tt
-  change_all (stamped.Join m) a = tt
-
-  behind_all : (m x : StampedMessage) → OfStamped x → OfStamped (behind m x)
-  behind_all (stamped.Open m) x a = opening_all x a
-  behind_all (stamped.Join m) x a = opening_all x a
-  behind_all (stamped.ViewChange m) x a = change_all x a
-  behind_all (stamped.Prepare m) x a = a
-  behind_all (stamped.Commit m) x a = a
-  behind_all (stamped.Checkpoint m) x a = a
-  behind_all (stamped.NewView m) x a = a
-  behind_all (stamped.Enter m) x a = a
-
-  mapped_all : (m : StampedMessage) (l : List StampedMessage) → AllByRecursion OfStamped l → AllByRecursion OfStamped (map (behind m) l)
-  mapped_all m [] a = tt
-  mapped_all m (x ∷ l) a = (behind_all m x a.0, mapped_all m l a.1)
-
-  kept_all : (l : List StampedMessage) → AllByRecursion OfStamped l → AllByRecursion OfStamped (kept_forms l)
-  unfolding kept_forms
-  kept_all [] a = tt
-  kept_all (m ∷ l) a = (a.0, mapped_all m (kept_forms l) (kept_all l a.1))
-
-  taken_all : (n : ℕ) (l : List StampedMessage) → AllByRecursion OfStamped l → AllByRecursion OfStamped (take n l)
-  taken_all zero l a = tt
-  taken_all (suc n) [] a = tt
-  taken_all (suc n) (x ∷ l) a = (a.0, taken_all n l a.1)
-
-  turned_all : (l : List StampedMessage) → AllByRecursion OfStamped l → AllByRecursion OfStamped (reverse l)
-  turned_all [] a = tt
-  turned_all (x ∷ l) a = subst (AllByRecursion OfStamped) (sym (reverse-append (x ∷ []) l)) (all_append OfStamped (reverse l) (x ∷ []) (turned_all l a.1) (a.0, tt))
+  change_all x a = a
 
   shown_all : (l : List StampedMessage) → AllByRecursion OfStamped l → AllShown R (map as_shown l)
   shown_all [] a = tt
@@ -119,7 +82,7 @@ module _ (R : Batch → Type 0) where
 
   -- the own log in a VIEW_CHANGE
   pub proof_all : {S : Type 0} (self : Identity S) (d : History) → AllByRecursion OfStamped (all_stamped d) → AllShown R (proof_of self d).entries
-  proof_all self d a = shown_all (reverse (log_kept self d)) (turned_all (log_kept self d) (taken_all _ (kept_forms (all_stamped d)) (kept_all (all_stamped d) a)))
+  proof_all self d a = shown_all (reverse (log_kept self d)) (all_reverse OfStamped (log_kept self d) (all_taken OfStamped _ (kept_forms (all_stamped d)) (forms_keep OfStamped opening_all change_all (all_stamped d) a)))
 
   pub logs_all : (changes : List ViewChange) → AllByRecursion OfChange changes → AllOfLogs R (logs_of changes)
   logs_all [] a = tt

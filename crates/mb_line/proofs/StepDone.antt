@@ -1,9 +1,7 @@
 -- What a step of a host leaves: a history that goes on, the slots that it executed since, and REPLYs that are stored replies of a moment.
 use Rattle.std.proofs.Common.{◌≡◌, ℕ, ◌⊎◌, true, false, List, [], ◌∷◌, ◌++◌, refl, sym, ap, ◌∙◌, inl, inr}
 use Rattle.std.specs.List.{AllByRecursion}
-use Rattle.std.proofs.lemmas.Bool.{cases_Bool}
 use Rattle.mb_parts.specs.declared.request.Request.{Request}
-use Rattle.mb_msg.specs.declared.event.Placed.{Placed}
 use Rattle.mb_msg.specs.declared.event.Slot.{Slot}
 use Rattle.mb_msg.specs.declared.message.Message.{Message}
 use Rattle.mb_msg.specs.declared.event.Event.{Event}
@@ -11,14 +9,14 @@ use Rattle.mb_model.specs.Histories.{Entry, Accepted, Stamped, Jumped, Closed, S
 use Rattle.mb_model.specs.Stable.{low_of}
 use Rattle.mb_model.specs.Execution.{parts_held}
 use Rattle.mb_model.specs.Sending.{Letter, Progress, begin, write, send, to_client}
-use Rattle.mb_model.specs.CarriedOut.{placed_in, with_reply, serve, serve_all, slot_for, with_slot}
+use Rattle.mb_model.specs.CarriedOut.{serve_all, slot_for, with_slot}
 use Rattle.mb_model.specs.Given.{stored_reply}
 use Rattle.mb_model.specs.HostStep.{transition}
 use Rattle.mb_theory.proofs.Lists.{all_append}
 use Rattle.mb_known.proofs.Cases.{all_more}
 use Rattle.mb_known.proofs.Moments.{IsPast}
-use Rattle.mb_line.proofs.Walks.{is_quiet, is_reply, stamp_keeps, IsWalked}
-use Rattle.mb_line.proofs.WalkEvents.{walked}
+use Rattle.mb_theory.proofs.Walks.{is_quiet, serves_keep}
+use Rattle.mb_line.proofs.Walks.{is_reply, stamp_keeps, IsWalked, walked}
 
 -- the executed slots of a piece of a history, oldest first
 unfoldable pub slots_in : History → List Slot
@@ -100,18 +98,9 @@ module _ {S : Type 0} (self : Identity S) where
       replies = one_letter x.history x.sent (to_client c (stored_reply self x.history c)) a.replies (inr (c, x.history, past_whole x.history, refl));
     }
 
-    answered : (p : Placed) (x : Progress) → IsDone x → IsDone (with_reply self p x)
-    answered p x a = elim (cases_Bool p.fresh) [
-      | inl fresh ↦ rw fresh (replies_done p.request.client x a)
-      | inr again ↦ rw again a
-    ]
-
     serves_done : (pos : ℕ) (rs : List Request) (x : Progress) → IsDone x → IsDone (serve_all self pos rs x)
-    unfolding serve_all slots_in
-    serves_done pos [] x a = a
-    serves_done pos (r ∷ rs) x a =
-        let p : Placed = placed_in self x.history r in
-        serves_done pos rs (serve self pos r x) (answered p (write (Served pos p) x) (written (Served pos p) x refl a))
+    unfolding slots_in
+    serves_done pos rs x a = serves_keep self IsDone (λ q p y b. written (Served q p) y refl b) replies_done pos rs x a
 
     slot_done : (slot : Slot) (x : Progress) → IsDone x → IsDone (with_slot self slot x)
     unfolding slots_in

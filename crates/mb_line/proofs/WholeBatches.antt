@@ -16,8 +16,8 @@ use Rattle.mb_theory.specs.WorldSteps.{world}
 use Rattle.mb_theory.proofs.KeptByEvents.{served_keep}
 use Rattle.mb_theory.proofs.KeptByWorlds.{world_keeps}
 use Rattle.mb_known.proofs.Moments.{IsPast}
-use Rattle.mb_line.proofs.Walks.{is_quiet, IsWalked}
-use Rattle.mb_line.proofs.WalkEvents.{walked}
+use Rattle.mb_theory.proofs.Walks.{is_quiet}
+use Rattle.mb_line.proofs.Walks.{IsWalked, walked}
 use Rattle.mb_line.proofs.StepDone.{past_more}
 
 -- Behind each entry but a served request and an executed batch no batch is partly served.

@@ -22,7 +22,7 @@ const MAX_SENT_BYTES: usize = 800_000;
 /// What a host stamped since its floor, oldest first, in the forms in which it is kept.
 ///
 /// It stands for three searches in the host's history: what it stamped, the floor certificate with which its log was cut last, and the most that
-/// its log ever held. The entry at index i has the counter start + 1 + i.
+/// its log ever held. A host appends what it stamps in order, so there the entry at index i has the counter start + 1 + i.
 #[derive(Drop)]
 pub struct OwnLog {
     shape: Shape,

@@ -235,6 +235,15 @@ fn checkpoints(alloc: Global, count: u8) -> Result<Items<Shown>, Fail> {
     Ok(entries)
 }
 
+/// So many VIEW_CHANGEs, at no right counter.
+fn departures(alloc: Global, count: u16) -> Result<Items<Shown>, Fail> {
+    let mut entries = Items::new(alloc);
+    for _ in 0..count {
+        entries.push(leave(1, ui(0, 5, &[0; 32])))?;
+    }
+    Ok(entries)
+}
+
 /// What a VIEW_CHANGE is found to be; None where it isn't one or a field has no allowed value.
 pub(crate) fn found_of(
     alloc: Global,
@@ -325,6 +334,9 @@ fn logs_have_whole_votes_right_tags_and_an_end(rt: HostRuntime) -> Result<(), Fa
     assert!(rt; found(alloc, three, 1, 1, 2, untagged) == at(0, 8));
     for (count, reason) in [(25, 9), (24, 3)] {
         assert!(rt; found(alloc, three, 0, 1, 2, checkpoints(alloc, count)?) == at(0, reason));
+    }
+    for (count, reason) in [(769, 9), (768, 3)] {
+        assert!(rt; found(alloc, three, 0, 1, 2, departures(alloc, count)?) == at(0, reason));
     }
     Ok(())
 }

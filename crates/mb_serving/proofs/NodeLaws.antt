@@ -1,10 +1,11 @@
 -- What serving says of a node, and which statuses it can have.
 use Rattle.std.proofs.Common.{◌≡◌, ℕ, ◌≤◌, ◌<◌, List, [], reverse, Option, Ok, Err, refl, sym, ap, subst, ◌∙◌, arith, ◌⊎◌, inl, inr}
-use Rattle.std.specs.Prelude.{Result, IsErrOf}
+use Rattle.std.specs.Prelude.{Contains, Result, IsErrOf}
 use Rattle.std.specs.Io.KnownBytes.{Appends}
 use Rattle.mb_answer.proofs.ConfigLaws.{same_config, lacks_none}
 use Rattle.mb_answer.specs.Clusters.{IsUnbroken}
-use Rattle.mb_answer.specs.Configs.{used, unused}
+use Rattle.mb_answer.specs.Configs.{used, unused, lack_statuses}
+use Rattle.mb_answer.proofs.Contained.{any_of}
 use Rattle.mb_answer.specs.Devices.{Device, LinkState}
 use Rattle.mb_base.specs.Shapes.{Bytes, host_count}
 use Rattle.mb_replica.specs.Represents as Represented
@@ -34,7 +35,7 @@ use Rattle.mb_node.specs.Serving.{AreDone, AreCutOff, Ends}
 use Rattle.mb_node.specs.Recording.{lines_of}
 use Rattle.mb_sched.specs.declared.configs.Config.{Config}
 use Rattle.mb_sched.specs.Records.{record_head}
-use Rattle.mb_serving.specs.Nodes.{outside, served_status, Fails, Begins, HasListened, events_of, IsWhole, IsServed, IsCutShort, Serves, stopped, exhausted, cut_short, headless, unopened, HostServes, serves, no_host, Nodes, IsNodeStatus}
+use Rattle.mb_serving.specs.Nodes.{outside, served_status, Fails, Begins, HasListened, events_of, IsWhole, IsServed, IsCutShort, Serves, stopped, exhausted, cut_short, headless, unopened, HostServes, serves, no_host, Nodes, IsNodeStatus, serving_statuses, node_statuses}
 use Rattle.mb_serving.specs.Records.{host_of}
 
 module _ (c : Config) (host budget : ℕ) (sink sink' : Device) (link link' : LinkState) (begun : Option Bytes) (head : Appends sink.bytes begun (record_head c host)) (receives : Receives) (heard : HasListened c host link link' receives) where
@@ -148,6 +149,23 @@ served_known (Err (stop.Budget n)) = inr (inr (inr refl))
 served_known (Err stop.LinkFault) = inr (inr (inl refl))
 served_known (Err stop.SinkFault) = inr (inl refl)
 served_known (Err stop.NoMemory) = inl (omega arith)
+
+served_in : (ended : Result (Unit {0}) ServeStop) → Contains serving_statuses (served_status ended)
+served_in (Ok done) = (0, omega arith, refl)
+served_in (Err (stop.Budget n)) = (5, omega arith, refl)
+served_in (Err stop.LinkFault) = (4, omega arith, refl)
+served_in (Err stop.SinkFault) = (3, omega arith, refl)
+served_in (Err stop.NoMemory) = (2, omega arith, refl)
+
+pub served_known_as : (ended : Result (Unit {0}) ServeStop) (status : ℕ) → status ≡ served_status ended → Contains serving_statuses status
+served_known_as ended status is = subst (Contains serving_statuses) (sym is) (served_in ended)
+
+pub serving_known : (status : ℕ) → Contains serving_statuses status → Contains node_statuses status
+serving_known status known =
+    any_of (Contains node_statuses) serving_statuses status ((0, omega arith, refl), ((1, omega arith, refl), ((3, omega arith, refl), ((5, omega arith, refl), ((6, omega arith, refl), ((7, omega arith, refl), tt)))))) known
+
+pub no_config_known : (status : ℕ) → Contains lack_statuses status → Contains node_statuses status
+no_config_known status lack = any_of (Contains node_statuses) lack_statuses status ((2, omega arith, refl), ((3, omega arith, refl), ((4, omega arith, refl), ((5, omega arith, refl), tt)))) lack
 
 pub node_is_not : (status n : ℕ) → IsNodeStatus status → 5 ≤ n → ¬ (n ≡ 6) → ¬ (n ≡ 7) → ¬ (n ≡ 9) → ¬ (status ≡ n)
 node_is_not status n (inl low) le six seven nine = λ is. absurd (omega (arith, low, le, is))

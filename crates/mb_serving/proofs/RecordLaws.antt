@@ -1,6 +1,6 @@
 -- What a record's text says keeps the limits of its lines, and a text is that of one record. Where all entries are own, none differs.
-use Rattle.std.proofs.Common.{◌≡◌, ℕ, ◌*◌, ◌≤◌, ◌<◌, ◌&&◌, leb, List, [], ◌∷◌, ◌++◌, map, reverse, codes, Option, Some, None, sym, ap, subst, ◌∙◌, append-nil, append_assoc, arith, ◌⊎◌, inl, inr}
-use Rattle.std.specs.Prelude.{slice_get, option_and_then}
+use Rattle.std.proofs.Common.{◌≡◌, ℕ, ◌*◌, ◌≤◌, ◌<◌, ◌&&◌, leb, List, [], ◌∷◌, ◌++◌, map, reverse, codes, Option, Some, None, refl, sym, ap, subst, ◌∙◌, append-nil, append_assoc, arith, ◌⊎◌, inl, inr}
+use Rattle.std.specs.Prelude.{Contains, slice_get, option_and_then}
 use Rattle.std.proofs.lemmas.Bool.{leb-true, and_parts}
 use Rattle.std.proofs.lemmas.List.{append_cancel_left, map-append, reverse-append}
 use Rattle.mb_base.specs.Shapes.{Bytes, is_within, max_faults, host_count}
@@ -21,7 +21,7 @@ use Rattle.mb_sched.proofs.ReadSteps.{ok_is, allowed}
 use Rattle.mb_sched.proofs.ReadWords.{some_is}
 use Rattle.mb_sched.proofs.RecordSpellings.{record_spelled}
 use Rattle.mb_answer.specs.Devices.{Device, IsToldBy, answered, unread, starved}
-use Rattle.mb_serving.specs.Records.{recorded_host, IsRecordText, IsOwnRecord, IsRetraced, Retraces, AnswersRecord, same, differs, AnswersRecordText, too_long, bad_line, right}
+use Rattle.mb_serving.specs.Records.{recorded_host, IsRecordText, IsOwnRecord, IsRetraced, Retraces, AnswersRecord, same, differs, AnswersRecordText, too_long, bad_line, right, retrace_statuses}
 use Rattle.mb_answer.proofs.ConfigLaws.{same_settings}
 use Rattle.mb_answer.proofs.Statuses.{said_completes}
 
@@ -126,3 +126,12 @@ pub record_answers_told : (text : Bytes) (status : ℕ) (out : Bytes) → Answer
 record_answers_told text status out (too_long long two text_is) = inl (omega (arith, two))
 record_answers_told text status out (bad_line n short fault two text_is) = inl (omega (arith, two))
 record_answers_told text status out (right r is answers) = record_told status out answers
+
+record_known : {r : _} (status : ℕ) (out : Bytes) → AnswersRecord r status out → Contains retrace_statuses status
+record_known status out (same own is text_is) = subst (Contains retrace_statuses) (sym is) (0, omega arith, refl)
+record_known status out (differs number recorded found first is text_is) = subst (Contains retrace_statuses) (sym is) (5, omega arith, refl)
+
+pub record_answers_known : (text : Bytes) (status : ℕ) (out : Bytes) → AnswersRecordText text status out → Contains retrace_statuses status
+record_answers_known text status out (too_long long is text_is) = subst (Contains retrace_statuses) (sym is) (1, omega arith, refl)
+record_answers_known text status out (bad_line n short fault is text_is) = subst (Contains retrace_statuses) (sym is) (1, omega arith, refl)
+record_answers_known text status out (right r is answers) = record_known status out answers

@@ -85,8 +85,15 @@ abbrev pub Nodes : Bytes → ℕ → ℕ → ℕ → Device → Device → Devic
 Nodes text host budget status source source' sink sink' before after = Uses text (λ c. HostServes c host budget status sink sink' before after) (before ≡ after) status source source' sink sink'
 
 -- the statuses of a node that has a config
+abbrev pub serving_statuses : List ℕ
+serving_statuses = 0 ∷ 1 ∷ 4 ∷ 6 ∷ 7 ∷ 9 ∷ []
+
 abbrev pub IsNodeStatus : ℕ → Type 0
 IsNodeStatus status = (status < 5) ⊎ ((status ≡ 6) ⊎ ((status ≡ 7) ⊎ (status ≡ 9)))
+
+-- those of the word `node`, which may have no config
+abbrev pub node_statuses : List ℕ
+node_statuses = 0 ∷ 1 ∷ 2 ∷ 4 ∷ 5 ∷ 6 ∷ 7 ∷ 9 ∷ []
 
 -- By the text of a config a host of its system serves, unless memory runs out or a device fails.
 abbrev pub IsServed : Bytes → ℕ → ℕ → Type 0 → Type 0

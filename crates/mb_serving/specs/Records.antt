@@ -1,5 +1,5 @@
 -- What is answered to the text of a record: whether each of its entries is that of its host's own step, from the start on.
-use Rattle.std.specs.Prelude.{◌≡◌, ℕ, ◌≤◌, ◌<◌, ◌⊎◌, ◌++◌, [], length, codes, Ok, Err}
+use Rattle.std.specs.Prelude.{◌≡◌, ℕ, ◌≤◌, ◌<◌, ◌⊎◌, ◌++◌, List, [], ◌∷◌, length, codes, Ok, Err}
 use Rattle.std.specs.Fmt.{decimal}
 use Rattle.hex.specs.Hex.{encode_lower}
 use Rattle.mb_base.specs.Shapes.{Bytes}
@@ -54,9 +54,9 @@ pub data AnswersRecordText (text : Bytes) (status : ℕ) (out : Bytes) : Type 0 
   bad_line : (n : ℕ) → length text ≤ max_record → record_of text ≡ Err n → status ≡ 2 → out ≡ bad_line_text n → AnswersRecordText text status out
   right : (r : Record) → IsRecordText text r → AnswersRecord r status out → AnswersRecordText text status out
 
--- the statuses of these answers
-abbrev pub IsRecordStatus : ℕ → Type 0
-IsRecordStatus status = (status ≡ 0) ⊎ ((status ≡ 2) ⊎ (status ≡ 10))
+-- the statuses of the word `retrace`
+abbrev pub retrace_statuses : List ℕ
+retrace_statuses = 0 ∷ 2 ∷ 4 ∷ 5 ∷ 6 ∷ 10 ∷ []
 
 -- ... it is written, or the text could not be read
 abbrev pub Retraces : Bytes → ℕ → Device → Device → Device → Device → Type 0

@@ -1,13 +1,13 @@
 //! The word `node`: a host of a config's system that serves over a link, and the record of what it does.
 
-ghost use Rattle.std.specs.Prelude.{◌≡◌, ◌+◌, ◌<◌, IfSome, IsErrOf};
+ghost use Rattle.std.specs.Prelude.{◌≡◌, ◌+◌, ◌<◌, Contains, IfSome, IsErrOf};
 ghost use Rattle.std.specs.Io.KnownBytes.{IsAtEnd};
 ghost use Rattle.mb_base.specs.Shapes.{host_count};
 ghost use Rattle.mb_edge.specs.Faults.{TellsFaults};
 ghost use Rattle.mb_edge.specs.Pieces.{ConsumesBetween};
 ghost use Rattle.mb_sched.specs.Configs.{max_config};
 ghost use Rattle.mb_answer.specs.Devices.{device, link_state};
-ghost use Rattle.mb_serving.specs.Nodes.{served_status, Begins, Serves, HostServes, Nodes, IsNodeStatus};
+ghost use Rattle.mb_serving.specs.Nodes.{served_status, Begins, Serves, HostServes, Nodes, IsNodeStatus, serving_statuses, node_statuses};
 
 use mb_answer::{
     BUDGET, DONE, LINK_FAULT, NO_MEMORY, SINK_FAULT, USAGE, USAGE_TEXT, config_from, say,
@@ -84,6 +84,7 @@ fn serve_as<K: Sink, L: Link>(
     ensures serves { HostServes config.now host events result (device (K.written sink.old) (K.faults sink.old)) (device (K.written sink.new) (K.faults sink.new))
         (link_state (L.received link.old) (L.sent link.old) (L.opens link.old) (L.faults link.old)) (link_state (L.received link.new) (L.sent link.new) (L.opens link.new) (L.faults link.new)) }
     ensures known { IsNodeStatus result }
+    ensures statuses { Contains serving_statuses result }
     ensures sink { TellsFaults (K.never_fails sink.old) (K.never_fails sink.new) (K.faults sink.old) (K.faults sink.new) (result ≡ 6) }
     ensures link { TellsFaults (L.never_fails link.old) (L.never_fails link.new) (L.faults link.old) (L.faults link.new) (result ≡ 7) }
 {
@@ -108,6 +109,7 @@ pub fn node<S: Source, K: Sink, L: Link>(
     ensures ended { result ≡ 0 → IsAtEnd (S.left source.new) }
     ensures limit { ConsumesBetween 0 (max_config + 1) (S.left source.old) (S.left source.new) }
     ensures known { ¬ (result ≡ 8) × ¬ (result ≡ 18) }
+    ensures statuses { Contains node_statuses result }
     ensures source { TellsFaults (S.never_fails source.old) (S.never_fails source.new) (S.faults source.old) (S.faults source.new) (result ≡ 5) }
     ensures sink { TellsFaults (K.never_fails sink.old) (K.never_fails sink.new) (K.faults sink.old) (K.faults sink.new) (result ≡ 6) }
     ensures link { TellsFaults (L.never_fails link.old) (L.never_fails link.new) (L.faults link.old) (L.faults link.new) (result ≡ 7) }

@@ -1,13 +1,13 @@
 //! The word `retrace`: whether each entry of a record is that of its host's own step.
 
-ghost use Rattle.std.specs.Prelude.{◌≡◌, ◌+◌, ◌<◌, IfOk, IfSome};
+ghost use Rattle.std.specs.Prelude.{◌≡◌, ◌+◌, ◌<◌, Contains, IfOk, IfSome};
 ghost use Rattle.std.specs.Io.KnownBytes.{IsAtEnd};
 ghost use Rattle.mb_base.specs.Shapes.{host_count};
 ghost use Rattle.mb_edge.specs.Faults.{TellsFaults};
 ghost use Rattle.mb_edge.specs.Pieces.{ConsumesBetween};
 ghost use Rattle.mb_sched.specs.Records.{max_record};
 ghost use Rattle.mb_answer.specs.Devices.{device, IsLow};
-ghost use Rattle.mb_serving.specs.Records.{AnswersRecord, AnswersRecordText, Retraces, same_text, differs_text};
+ghost use Rattle.mb_serving.specs.Records.{AnswersRecord, AnswersRecordText, Retraces, same_text, differs_text, retrace_statuses};
 
 use mb_answer::{Answer, DIFFERS, DONE, bad_line, respond, tell_unread, too_long};
 use mb_base::{Digest, NoMemory};
@@ -78,6 +78,7 @@ pub fn retrace<S: Source, K: Sink>(alloc: Global, source: &mut S, sink: &mut K) 
     ensures ended { result ≡ 0 → IsAtEnd (S.left source.new) }
     ensures limit { ConsumesBetween 0 (max_record + 1) (S.left source.old) (S.left source.new) }
     ensures low { IsLow result }
+    ensures statuses { Contains retrace_statuses result }
     ensures source { TellsFaults (S.never_fails source.old) (S.never_fails source.new) (S.faults source.old) (S.faults source.new) (result ≡ 5) }
     ensures sink { TellsFaults (K.never_fails sink.old) (K.never_fails sink.new) (K.faults sink.old) (K.faults sink.new) (result ≡ 6) }
 {

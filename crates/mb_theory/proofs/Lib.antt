@@ -2,6 +2,8 @@ pub mod Lists
 pub mod Marked
 pub mod Rising
 pub mod RoomForRules
+pub mod Walks
+pub mod KeptForms
 pub mod KeptByEvents
 pub mod KeptByWorlds
 pub mod Words

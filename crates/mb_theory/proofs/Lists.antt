@@ -1,8 +1,8 @@
 -- Elements and places of lists, and one element more at the end.
-use Rattle.std.proofs.Common.{◌≡◌, ℕ, zero, suc, ◌+◌, ◌<◌, List, [], ◌∷◌, ◌++◌, length, refl, ap, subst, ◌∙◌, inl, inr, ◌⊎◌, arith, Some}
-use Rattle.std.specs.Prelude.{slice_get, take}
+use Rattle.std.proofs.Common.{◌≡◌, ℕ, zero, suc, ◌+◌, ◌<◌, List, [], ◌∷◌, ◌++◌, length, reverse, refl, sym, ap, subst, ◌∙◌, inl, inr, ◌⊎◌, arith, Some}
+use Rattle.std.specs.Prelude.{slice_get, map, take}
 use Rattle.std.specs.List.{AllByRecursion}
-use Rattle.std.proofs.lemmas.List.{take_more}
+use Rattle.std.proofs.lemmas.List.{take_more, reverse-append}
 use Rattle.std.proofs.lemmas.Option.{get_or_from_slice_get, slice_get_within}
 use Rattle.mb_model.proofs.Members.{In}
 
@@ -12,6 +12,10 @@ module _ {A : Type 0} where
   pub all_append : (P : A → Type 0) (xs ys : List A) → AllByRecursion P xs → AllByRecursion P ys → AllByRecursion P (xs ++ ys)
   all_append P [] ys h k = k
   all_append P (x ∷ xs) ys h k = (h.0, all_append P xs ys h.1 k)
+
+  pub all_reverse : (P : A → Type 0) (l : List A) → AllByRecursion P l → AllByRecursion P (reverse l)
+  all_reverse P [] a = tt
+  all_reverse P (x ∷ l) a = subst (AllByRecursion P) (sym (reverse-append (x ∷ []) l)) (all_append P (reverse l) (x ∷ []) (all_reverse P l a.1) (a.0, tt))
 
   pub all_at : (P : A → Type 0) (xs : List A) (i : ℕ) (x : A) → AllByRecursion P xs → slice_get xs i ≡ Some x → P x
   all_at P [] i x h e = absurd cc
@@ -60,3 +64,7 @@ module _ {A : Type 0} where
   pub record IsLonger (short long : List A) : Type 0 where
     pub rest : List A
     pub is : short ++ rest ≡ long
+
+pub all_map : {A B : Type 0} (P : A → Type 0) (Q : B → Type 0) (f : A → B) → ((x : A) → P x → Q (f x)) → (l : List A) → AllByRecursion P l → AllByRecursion Q (map f l)
+all_map P Q f so [] a = tt
+all_map P Q f so (x ∷ l) a = (so x a.0, all_map P Q f so l a.1)

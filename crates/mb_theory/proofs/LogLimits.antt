@@ -14,7 +14,7 @@ use Rattle.mb_msg.specs.declared.transfer.StateMsg.{StateMsg}
 use Rattle.mb_msg.specs.declared.stamped.Stamped.{Stamped as StampedMessage}
 use Rattle.mb_model.specs.declared.known.Vote.{Vote}
 use Rattle.mb_model.specs.UsableLogs.{normal_limit, other_limit}
-use Rattle.mb_model.specs.Histories.{Entry, Accepted, Stamped, Jumped, Closed, Served, Executed, Installed, DroppedParts, LostPatience, Nudged, History, Identity, stamped as all_stamped, counter_of, view_of}
+use Rattle.mb_model.specs.Histories.{Entry, Accepted, Stamped, Served, Executed, History, Identity, stamped as all_stamped, counter_of, view_of}
 use Rattle.mb_model.specs.Stable.{low_of, log_floor, floor_counter, floor_from, cut_by, is_kept, checkpoint_in}
 use Rattle.mb_model.specs.OwnLog.{own_log, log_start, is_normal, is_unspent, has_room, has_other_room}
 use Rattle.mb_model.specs.Positions.{vote_of, vote_at, vote_by, open_vote_by, in_window, position_limit, counts_at}
@@ -70,24 +70,17 @@ module _ {S : Type 0} (self : Identity S) where
     | inr not_so ↦ rw not_so (omega arith)
   ]
 
-  stamped_same : (e : Entry) (d : History) → is_plain e ≡ true → all_stamped (e ∷ d) ≡ all_stamped d
+  pub stamped_same : (e : Entry) (d : History) → is_plain e ≡ true → all_stamped (e ∷ d) ≡ all_stamped d
   unfolding all_stamped
-  stamped_same (Accepted m) d plain = refl
   stamped_same (Stamped m) d plain = absurd cc
-  stamped_same (Jumped h f) d plain = refl
-  stamped_same (Closed h c) d plain = refl
-  stamped_same (Served pos placed) d plain = refl
   stamped_same (Executed slot) d plain = absurd cc
-  stamped_same (Installed pos parts) d plain = refl
-  stamped_same DroppedParts d plain = refl
-  stamped_same LostPatience d plain = refl
-  stamped_same Nudged d plain = refl
+  stamped_same e d plain = refl
 
-  state_same : (m : StateMsg) (d : History) → all_stamped (Accepted (message.State m) ∷ d) ≡ all_stamped d
+  pub state_same : (m : StateMsg) (d : History) → all_stamped (Accepted (message.State m) ∷ d) ≡ all_stamped d
   unfolding all_stamped
   state_same m d = refl
 
-  executed_same : (slot : Slot) (d : History) → all_stamped (Executed slot ∷ d) ≡ all_stamped d
+  pub executed_same : (slot : Slot) (d : History) → all_stamped (Executed slot ∷ d) ≡ all_stamped d
   unfolding all_stamped
   executed_same slot d = refl
 
@@ -108,19 +101,19 @@ module _ {S : Type 0} (self : Identity S) where
   abbrev pub InLimits : History → Type 0
   InLimits d = (count_by is_normal (own_log self d) ≤ normal_limit self.shape) × (count_by (λ m. not (is_normal m)) (own_log self d) ≤ other_limit)
 
-  begins_in_limits : InLimits []
+  pub begins_in_limits : InLimits []
   unfolding all_stamped log_floor
   begins_in_limits = (omega arith, omega arith)
 
-  same_limits : (e : Entry) (d : History) → all_stamped (e ∷ d) ≡ all_stamped d → InLimits d → InLimits (e ∷ d)
+  pub same_limits : (e : Entry) (d : History) → all_stamped (e ∷ d) ≡ all_stamped d → InLimits d → InLimits (e ∷ d)
   same_limits e d same x = (omega (arith, no_more is_normal e d same, x.0), omega (arith, no_more (λ m. not (is_normal m)) e d same, x.1))
 
-  normal_limits : (m : StampedMessage) (d : History) → is_normal m ≡ true → has_room self d ≡ true → InLimits d → InLimits (Stamped m ∷ d)
+  pub normal_limits : (m : StampedMessage) (d : History) → is_normal m ≡ true → has_room self d ≡ true → InLimits d → InLimits (Stamped m ∷ d)
   normal_limits m d kind room x =
       let free = ltb-true (count_by is_normal (own_log self d)) (normal_limit self.shape) (and_parts (nat_lt (count_by is_normal (own_log self d)) (normal_limit self.shape)) (is_unspent self d) room).0 in
       (omega (arith, one_more is_normal m d, one_where (is_normal m) kind, free), omega (arith, one_more (λ y. not (is_normal y)) m d, none_of_other (is_normal m) kind, x.1))
 
-  change_limits : (m : StampedMessage) (d : History) → is_normal m ≡ false → has_other_room self d ≡ true → InLimits d → InLimits (Stamped m ∷ d)
+  pub change_limits : (m : StampedMessage) (d : History) → is_normal m ≡ false → has_other_room self d ≡ true → InLimits d → InLimits (Stamped m ∷ d)
   change_limits m d kind room x =
       let free = ltb-true (count_by (λ y. not (is_normal y)) (own_log self d)) other_limit (and_parts (nat_lt (count_by (λ y. not (is_normal y)) (own_log self d)) other_limit) (is_unspent self d) room).0 in
       (omega (arith, one_more is_normal m d, none_where (is_normal m) kind, x.0), omega (arith, one_more (λ y. not (is_normal y)) m d, one_of_other (is_normal m) kind, free))

@@ -1,5 +1,6 @@
 -- What a status says of the text of a schedule, and which status has to come.
-use Rattle.std.proofs.Common.{◌≡◌, ℕ, ◌-◌, ◌<◌, length, sym, subst, ◌∙◌, arith, ◌⊎◌, inl, inr, Option}
+use Rattle.std.proofs.Common.{◌≡◌, ℕ, ◌-◌, ◌<◌, length, refl, sym, subst, ◌∙◌, arith, ◌⊎◌, inl, inr, Option}
+use Rattle.std.specs.Prelude.{Contains}
 use Rattle.std.specs.Io.KnownBytes.{Appends}
 use Rattle.std.proofs.lemmas.Option.{slice_get_within}
 use Rattle.mb_base.specs.Shapes.{Bytes}
@@ -11,6 +12,7 @@ use Rattle.mb_top.specs.Runs.{AreUnstopped, IsFirstStopped}
 use Rattle.mb_top.specs.Answers.{IsForgedText, certificate, tag, AnswersSchedule, bad_event, forged, replayed, Answers, too_long, bad_line, right}
 use Rattle.mb_answer.specs.Devices.{Device, Says, said, failed, cut_short, IsToldBy, answered, unread, starved}
 use Rattle.mb_top.specs.Responses.{Replays}
+use Rattle.mb_top.specs.Doings.{replay_statuses}
 use Rattle.mb_top.specs.Outcomes.{ReportsOn, TellsForged, IsComplete}
 use Rattle.mb_answer.proofs.Statuses.{said_completes}
 use Rattle.mb_top.proofs.OneSchedule.{same_schedule}
@@ -113,3 +115,13 @@ pub answers_told : (text : Bytes) (status : ℕ) (out : Bytes) → Answers text 
 answers_told text status out (too_long long two text_is) = inl (omega (arith, two))
 answers_told text status out (bad_line n short fault two text_is) = inl (omega (arith, two))
 answers_told text status out (right s is answers) = schedule_told status out answers
+
+schedule_known : {s : _} (status : ℕ) (out : Bytes) → AnswersSchedule s status out → Contains replay_statuses status
+schedule_known status out (bad_event e first is text_is) = subst (Contains replay_statuses) (sym is) (1, omega arith, refl)
+schedule_known status out (forged e told is) = subst (Contains replay_statuses) (sym is) (2, omega arith, refl)
+schedule_known status out (replayed all is text_is) = subst (Contains replay_statuses) (sym is) (0, omega arith, refl)
+
+pub answers_known : (text : Bytes) (status : ℕ) (out : Bytes) → Answers text status out → Contains replay_statuses status
+answers_known text status out (too_long long is text_is) = subst (Contains replay_statuses) (sym is) (1, omega arith, refl)
+answers_known text status out (bad_line n short fault is text_is) = subst (Contains replay_statuses) (sym is) (1, omega arith, refl)
+answers_known text status out (right s is answers) = schedule_known status out answers

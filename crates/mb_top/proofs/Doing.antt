@@ -1,5 +1,6 @@
 -- What a command does, by its words.
-use Rattle.std.proofs.Common.{◌≡◌, ℕ, ◌+◌, ◌≤◌, true, false, Option, Some, None, IfSome, sym, subst, ◌⊎◌, inl, inr}
+use Rattle.std.proofs.Common.{◌≡◌, ℕ, ◌+◌, ◌≤◌, true, false, Option, Some, None, IfSome, refl, sym, subst, arith, ◌⊎◌, inl, inr}
+use Rattle.std.specs.Prelude.{Contains}
 use Rattle.std.specs.Io.KnownBytes.{IsAtEnd}
 use Rattle.std.proofs.lemmas.Option.{IfSome_then}
 use Rattle.mb_base.specs.Shapes.{Bytes}
@@ -8,9 +9,11 @@ use Rattle.mb_top.specs.declared.command.Command.TheVariants.{Replay, Soak, Node
 use Rattle.mb_top.specs.Commands.{reads}
 use Rattle.mb_answer.specs.Clusters.{StayIdle, Clusters}
 use Rattle.mb_answer.specs.Devices.{Device, Devices, Says}
-use Rattle.mb_top.specs.Responses.{Replays, Soaks}
+use Rattle.mb_top.specs.Responses.{Replays, Soaks, summed_up, exhausted}
+use Rattle.mb_top.specs.Soaks.{soak_text}
+use Rattle.mb_answer.proofs.Statuses.{said_is}
 use Rattle.mb_serving.specs.Records.{Retraces}
-use Rattle.mb_top.specs.Doings.{DoesWith, Does, IsIdle}
+use Rattle.mb_top.specs.Doings.{DoesWith, Does, IsIdle, statuses}
 use Rattle.mb_serving.specs.Nodes.{Nodes}
 use Rattle.mb_answer.specs.Texts.{usage_text}
 
@@ -93,3 +96,15 @@ module _ (status : ℕ) (old new : Devices) where
   -- ... by the name under which it was asked
   pub does_asked : (o p : Option Command) → o ≡ p → Does p status old new → Does o status old new
   does_asked o p is does = subst (λ (q : Option Command). Does q status old new) (sym is) does
+
+-- ---- statuses
+
+pub statuses_asked : (o p : Option Command) (status : ℕ) → o ≡ p → Contains (statuses p) status → Contains (statuses o) status
+statuses_asked o p status is known = subst (λ (q : Option Command). Contains (statuses q) status) (sym is) known
+
+pub soak_known : (seed n status : ℕ) (sink sink' : Device) → Soaks seed n status sink sink' → Contains (statuses (Some (Soak seed n))) status
+soak_known seed n status sink sink' (summed_up says) = said_is (Contains (statuses (Some (Soak seed n)))) (1, omega arith, refl) (2, omega arith, refl) 0 (soak_text seed n) status sink sink' (0, omega arith, refl) says
+soak_known seed n status sink sink' (exhausted is same) = subst (Contains (statuses (Some (Soak seed n)))) (sym is) (1, omega arith, refl)
+
+pub usage_known : (status : ℕ) (sink sink' : Device) → Says 1 usage_text status sink sink' → Contains (statuses None) status
+usage_known status sink sink' says = said_is (Contains (statuses None)) (1, omega arith, refl) (2, omega arith, refl) 1 usage_text status sink sink' (0, omega arith, refl) says

@@ -1,5 +1,5 @@
 -- What is answered to a text: the status, and what is to be written.
-use Rattle.std.specs.Prelude.{◌≡◌, ℕ, ◌≤◌, ◌<◌, ◌⊎◌, length, Err}
+use Rattle.std.specs.Prelude.{◌≡◌, ℕ, ◌≤◌, ◌<◌, length, Err}
 use Rattle.mb_base.specs.Shapes.{Bytes}
 use Rattle.mb_sched.specs.declared.schedule.Schedule.{Schedule}
 use Rattle.mb_sched.specs.Report.{report_text}
@@ -36,7 +36,3 @@ pub data Answers (text : Bytes) (status : ℕ) (out : Bytes) : Type 0 where
   too_long : max_text < length text → status ≡ 2 → out ≡ too_long_text → Answers text status out
   bad_line : (n : ℕ) → length text ≤ max_text → schedule_of text ≡ Err n → status ≡ 2 → out ≡ bad_line_text n → Answers text status out
   right : (s : Schedule) → IsScheduleText text s → AnswersSchedule s status out → Answers text status out
-
--- the statuses of these answers
-abbrev pub IsAnswered : ℕ → Type 0
-IsAnswered status = (status ≡ 0) ⊎ ((status ≡ 2) ⊎ (status ≡ 3))

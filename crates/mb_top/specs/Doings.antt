@@ -1,5 +1,5 @@
 -- What each command does at the devices.
-use Rattle.std.specs.Prelude.{◌≡◌, ℕ, ◌+◌, ◌≤◌, Option, Some, None, IfSome}
+use Rattle.std.specs.Prelude.{◌≡◌, ℕ, ◌+◌, ◌≤◌, List, [], ◌∷◌, Option, Some, None, IfSome}
 use Rattle.std.specs.Io.KnownBytes.{IsAtEnd}
 use Rattle.mb_base.specs.Shapes.{Bytes}
 use Rattle.mb_sched.specs.Schedules.{max_text}
@@ -7,11 +7,11 @@ use Rattle.mb_sched.specs.Configs.{max_config}
 use Rattle.mb_sched.specs.Records.{max_record}
 use Rattle.mb_top.specs.declared.command.Command.{Command}
 use Rattle.mb_top.specs.declared.command.Command.TheVariants.{Replay, Soak, Node, Retrace, Cluster}
-use Rattle.mb_answer.specs.Clusters.{StayIdle, Clusters}
+use Rattle.mb_answer.specs.Clusters.{StayIdle, Clusters, cluster_statuses}
 use Rattle.mb_answer.specs.Devices.{Device, Devices, Says}
 use Rattle.mb_top.specs.Responses.{Replays, Soaks}
-use Rattle.mb_serving.specs.Records.{Retraces}
-use Rattle.mb_serving.specs.Nodes.{Nodes}
+use Rattle.mb_serving.specs.Records.{Retraces, retrace_statuses}
+use Rattle.mb_serving.specs.Nodes.{Nodes, node_statuses}
 use Rattle.mb_answer.specs.Texts.{usage_text}
 
 -- the most bytes that are taken from the source: those of the longest text and one more
@@ -22,6 +22,20 @@ most_read (Some (Soak seed n)) = 0
 most_read (Some (Node host n)) = max_config + 1
 most_read (Some Retrace) = max_record + 1
 most_read (Some (Cluster n)) = max_config + 1
+
+-- the statuses of the word `replay`
+abbrev pub replay_statuses : List ℕ
+replay_statuses = 0 ∷ 2 ∷ 3 ∷ 4 ∷ 5 ∷ 6 ∷ []
+
+-- The statuses of each command: 0 done, 1 no command or no such host, 2 a bad line or text, 3 something forged, 4 memory, 5 the source, 6 the sink, 7 the
+-- link, 8 the spawner, 9 a budget, 10 another entry, 18 a bad end.
+abbrev pub statuses : Option Command → List ℕ
+statuses None = 1 ∷ 4 ∷ 6 ∷ []
+statuses (Some Replay) = replay_statuses
+statuses (Some (Soak seed n)) = 0 ∷ 4 ∷ 6 ∷ []
+statuses (Some (Node host n)) = node_statuses
+statuses (Some Retrace) = retrace_statuses
+statuses (Some (Cluster n)) = cluster_statuses
 
 -- This is done with the text that the source tells. At status 0 the source was read to its end.
 pub record DoesWith (does : Bytes → Type 0) (status : ℕ) (old new : Device) : Type 0 where

@@ -1,6 +1,6 @@
 //! A whole schedule, and the answer to it.
 
-ghost use Rattle.std.specs.Prelude.{◌≡◌, ◌+◌, [], false, replicate, IfOk, IfSome};
+ghost use Rattle.std.specs.Prelude.{◌≡◌, ◌+◌, [], false, replicate, Contains, IfOk, IfSome};
 ghost use Rattle.std.specs.Io.KnownBytes.{IsAtEnd};
 ghost use Rattle.mb_answer.specs.Devices.{device, IsLow};
 ghost use Rattle.mb_edge.specs.Faults.{TellsFaults};
@@ -15,6 +15,7 @@ ghost use Rattle.mb_top.specs.Systems.{system_of};
 ghost use Rattle.mb_top.specs.Runs.{Runs, run_stop_of};
 ghost use Rattle.mb_top.specs.Answers.{AnswersSchedule, Answers};
 ghost use Rattle.mb_top.specs.Responses.{Replays};
+ghost use Rattle.mb_top.specs.Doings.{replay_statuses};
 
 use mb_answer::{Answer, DONE, bad_line, forged, forged_tag, respond, tell_unread, too_long};
 use mb_base::{Counter, Host, NoMemory};
@@ -176,6 +177,7 @@ pub(crate) fn replay<S: Source, K: Sink>(alloc: Global, source: &mut S, sink: &m
     ensures ended { result ≡ 0 → IsAtEnd (S.left source.new) }
     ensures limit { ConsumesBetween 0 (max_text + 1) (S.left source.old) (S.left source.new) }
     ensures low { IsLow result }
+    ensures statuses { Contains replay_statuses result }
     ensures source { TellsFaults (S.never_fails source.old) (S.never_fails source.new) (S.faults source.old) (S.faults source.new) (result ≡ 5) }
     ensures sink { TellsFaults (K.never_fails sink.old) (K.never_fails sink.new) (K.faults sink.old) (K.faults sink.new) (result ≡ 6) }
 {

@@ -1,6 +1,6 @@
 //! The call that `main` makes: the whole program, over any source, sink, link and spawner.
 
-ghost use Rattle.std.specs.Prelude.{◌≡◌, ℕ, ◌≤◌, ◌<◌, ◌⊎◌, true, length, map, string_bytes, Option, Some, None, IfSome};
+ghost use Rattle.std.specs.Prelude.{◌≡◌, ℕ, ◌≤◌, ◌<◌, ◌⊎◌, true, length, map, string_bytes, Option, Some, None, Contains, IfSome};
 ghost use Rattle.std.specs.Io.KnownBytes.{IsAtEnd};
 ghost use Rattle.mb_base.specs.Shapes.{Bytes};
 ghost use Rattle.mb_edge.specs.Faults.{Rose, TellsFaults};
@@ -20,7 +20,7 @@ ghost use Rattle.mb_top.specs.Soaks.{soak_of};
 ghost use Rattle.mb_serving.specs.Nodes.{Nodes, IsServed};
 ghost use Rattle.mb_answer.specs.Clusters.{Clusters, TellsBadEnds, IsRun};
 ghost use Rattle.mb_top.specs.Outcomes.{ReportsOn, TellsForged, IsComplete};
-ghost use Rattle.mb_top.specs.Doings.{Does, IsIdle, most_read};
+ghost use Rattle.mb_top.specs.Doings.{Does, IsIdle, most_read, statuses};
 
 use crate::command::{Command, command_in};
 use crate::replay::replay;
@@ -45,6 +45,7 @@ fn run<S: Source, K: Sink, L: Link, P: Spawner>(
         (spawner_state (P.starts spawner.old) (P.waits spawner.old) (P.faults spawner.old) (P.bad_ends spawner.old)))
         (devices (device (S.left source.new) (S.faults source.new)) (device (K.written sink.new) (K.faults sink.new)) (link_state (L.received link.new) (L.sent link.new) (L.opens link.new) (L.faults link.new))
         (spawner_state (P.starts spawner.new) (P.waits spawner.new) (P.faults spawner.new) (P.bad_ends spawner.new))) }
+    ensures statuses { Contains (statuses command) result }
     ensures limit { ConsumesBetween 0 (most_read command) (S.left source.old) (S.left source.new) }
     ensures source { TellsFaults (S.never_fails source.old) (S.never_fails source.new) (S.faults source.old) (S.faults source.new) (result ≡ 5) }
     ensures sink { TellsFaults (K.never_fails sink.old) (K.never_fails sink.new) (K.faults sink.old) (K.faults sink.new) (result ≡ 6) }
@@ -134,6 +135,8 @@ pub fn minbft<S: Source, K: Sink, L: Link, P: Spawner>(
     ensures cluster_complete { (n : ℕ) → command_of (map string_bytes words.now) ≡ Some (Command.Cluster n)
         → IfSome (S.left source.old) (λ text. IsRun text result (Rose (S.faults source.old) (S.faults source.new) ⊎ (Rose (K.faults sink.old) (K.faults sink.new) ⊎ (Rose (L.faults link.old) (L.faults link.new)
         ⊎ (Rose (P.faults spawner.old) (P.faults spawner.new) ⊎ Rose (P.bad_ends spawner.old) (P.bad_ends spawner.new)))))) }
+    // Each command has its statuses, whatever the source tells.
+    ensures statuses { Contains (statuses (command_of (map string_bytes words.now))) result }
     // At status 0 of a word that reads, the source was read to its end.
     ensures ended { IfSome (command_of (map string_bytes words.now)) (λ c. reads c ≡ true → result ≡ 0 → IsAtEnd (S.left source.new)) }
     // Only a node and a cluster use the link, and only a cluster the spawner.

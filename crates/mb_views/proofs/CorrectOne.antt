@@ -1,8 +1,8 @@
 -- Of f+1 different hosts one is correct, and what is issued in its name it stamped.
-use Rattle.std.proofs.Common.{◌≡◌, ℕ, zero, suc, ◌+◌, ◌≤◌, ◌<◌, Bool, true, false, ◌||◌, List, [], ◌∷◌, ◌++◌, length, refl, sym, ap, subst, ◌∙◌, inl, inr, arith, eqb, Some}
+use Rattle.std.proofs.Common.{◌≡◌, ℕ, ◌+◌, ◌≤◌, ◌<◌, Bool, true, false, List, [], ◌∷◌, ◌++◌, length, refl, sym, ap, subst, ◌∙◌, inl, inr, arith, eqb, Some}
 use Rattle.std.specs.Prelude.{◌==◌, nat_lt, map}
 use Rattle.std.specs.List.{list_any, AllByRecursion}
-use Rattle.std.proofs.lemmas.Bool.{and_parts, cases_Bool, eqb-true, eqb-false, ne_eqb, ltb-true, cases_lt}
+use Rattle.std.proofs.lemmas.Bool.{and_parts, cases_Bool, eqb-true, ne_eqb, ltb-true}
 use Rattle.std.proofs.lemmas.List.{length-map}
 use Rattle.mb_base.specs.Shapes.{Bytes, tally, quorum, host_count, max_faults, HasQuorum}
 use Rattle.mb_base.specs.declared.shape.Shape.{Shape}
@@ -17,6 +17,7 @@ use Rattle.mb_msg.specs.declared.stamped.Stamped.{Stamped as StampedMessage}
 use Rattle.mb_msg.specs.Stamps.{bare_of}
 use Rattle.mb_model.specs.Histories.{Stamped, History, said, stamped as all_stamped}
 use Rattle.mb_model.proofs.ByHost.{rising_tail}
+use Rattle.mb_model.proofs.PlanLaws.{one_more}
 use Rattle.mb_model.proofs.Quorums.{quorum_has_correct}
 use Rattle.mb_model.proofs.Members.{In, any_in}
 use Rattle.mb_theory.specs.WorldEvents.{IsCorrect}
@@ -26,25 +27,6 @@ use Rattle.mb_known.proofs.Cases.{not_true, some_is, then_some_of}
 use Rattle.mb_known.proofs.Facts.{Facts}
 
 -- ---- a rising list of hosts is as many hosts as it is long
-
-pub one_more : (p : ℕ → Bool) (a n : ℕ) → p a ≡ false → a < n → tally (λ h. (a == h) || p h) n ≡ 1 + tally p n
-one_more p a zero none lt = absurd (omega arith)
-one_more p a (suc n) none lt = elim (cases_Bool (eqb a n)) [
-  | inl same ↦
-      let e : a ≡ n = eqb-true a n same in
-      let here : p n ≡ false = rw e at none in
-      let rest : tally (λ h. (a == h) || p h) n ≡ tally p n = unchanged p a n (omega (arith, eqb-true a n same)) in
-      rw (same, here, rest) (omega arith)
-  | inr other ↦
-      let ne = eqb-false a n other in
-      rw (other, one_more p a n none (smaller a n lt ne)) (omega arith)
-] where
-  unchanged : (p : ℕ → Bool) (a n : ℕ) → n ≤ a → tally (λ h. (a == h) || p h) n ≡ tally p n
-  unchanged p a zero le = refl
-  unchanged p a (suc n) le = rw (ne_eqb a n (λ e. omega arith), unchanged p a n (omega arith)) refl
-
-  smaller : (a n : ℕ) → a < suc n → (a ≡ n → ⊥) → a < n
-  smaller a n lt ne = elim (cases_lt a n) [ inl less ↦ less | inr ge ↦ absurd (ne (omega arith)) ]
 
 module _ {A : Type 0} (host_of : A → ℕ) where
   abbrev pub has_host : List A → ℕ → Bool

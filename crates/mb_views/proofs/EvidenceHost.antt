@@ -19,7 +19,8 @@ use Rattle.mb_theory.specs.World.{World, System, stamps}
 use Rattle.mb_theory.specs.WorldRecord.{issued}
 use Rattle.mb_known.proofs.Cases.{all_holds, not_true}
 use Rattle.mb_known.proofs.Facts.{Facts}
-use Rattle.mb_views.proofs.CorrectOne.{one_more, has_host, as_many}
+use Rattle.mb_model.proofs.PlanLaws.{one_more}
+use Rattle.mb_views.proofs.CorrectOne.{has_host, as_many}
 
 module _ {S : Type 0} (system : System S) (w : World) (f : Facts system w) where
   unissued : (c : Claim) → stamps system.schedule w c.host ≡ [] → issued system.schedule w c ≡ true → ⊥

@@ -1,7 +1,7 @@
 -- All certificates that a correct host holds for bases have members that it knows: its stable certificate, the base of its plan, and what stored VIEW_CHANGEs
 -- and its own stamps show. One induction on the history.
-use Rattle.std.proofs.Common.{◌≡◌, ℕ, zero, suc, ◌&&◌, not, List, [], ◌∷◌, ◌++◌, refl, ap, subst, ◌∙◌, Option, Some, None}
-use Rattle.std.specs.Prelude.{◌==◌, ◌-◌, map, filter, take, reverse, is_none}
+use Rattle.std.proofs.Common.{◌≡◌, ℕ, ◌&&◌, not, List, [], ◌∷◌, ◌++◌, refl, ap, subst, ◌∙◌, Option, Some, None}
+use Rattle.std.specs.Prelude.{◌==◌, ◌-◌, map, filter, reverse, is_none}
 use Rattle.std.specs.List.{AllByRecursion}
 use Rattle.mb_parts.specs.declared.certificates.StableCert.{StableCert}
 use Rattle.mb_parts.specs.Claims.{evidence_claims}
@@ -20,7 +20,7 @@ use Rattle.mb_msg.specs.Plans.{plan_end, plan_digest}
 use Rattle.mb_msg.specs.Stamps.{bare_of}
 use Rattle.mb_model.specs.UsableLogs.{is_whole}
 use Rattle.mb_model.specs.Histories.{Entry, Accepted, Stamped, History, Identity, view_of, counter_of, stamped as all_stamped}
-use Rattle.mb_model.specs.OwnLog.{behind, behind_opening, behind_change, kept_forms, as_shown, log_start, log_kept, proof_of}
+use Rattle.mb_model.specs.OwnLog.{behind_opening, behind_change, kept_forms, as_shown, log_start, log_kept, proof_of}
 use Rattle.mb_model.specs.Held.{change_fault, is_current, change_in, arrived, changes_of, plan_from, plan_in_new_view, plan_in_open, gives_plan, plan_in, plan_held}
 use Rattle.mb_model.specs.Stable.{stable_of}
 use Rattle.mb_model.specs.Sending.{next_ui}
@@ -33,7 +33,8 @@ use Rattle.mb_steps.proofs.StepPlanBases.{all_filter, all_append}
 use Rattle.mb_theory.specs.Inside.{claims_in, change_claims, open_body_claims, new_view_claims, stamped_claims}
 use Rattle.mb_theory.specs.WorldEvents.{IsCorrect}
 use Rattle.mb_theory.specs.World.{World, System, self_of}
-use Rattle.mb_known.proofs.Cases.{all_reverse, none_some, same_whole}
+use Rattle.mb_theory.proofs.KeptForms.{forms_keep}
+use Rattle.mb_known.proofs.Cases.{all_reverse, all_taken, none_some, same_whole}
 use Rattle.mb_known.proofs.Facts.{Facts}
 use Rattle.mb_known.proofs.Moments.{IsPast}
 use Rattle.mb_views.proofs.HeldSound.{chosen_all}
@@ -62,48 +63,15 @@ module _ {S : Type 0} (system : System S) (w : World) (f : Facts system w) (h : 
   opening_known (stamped.Open m) k = λ c e. absurd cc
   opening_known (stamped.Prepare m) k = tt
   opening_known (stamped.Commit m) k = tt
-  opening_known (stamped.Checkpoint m) k = tt
-  opening_known (stamped.ViewChange m) k = tt
-  opening_known (stamped.NewView m) k = tt
-  opening_known (stamped.Enter m) k = tt
-  opening_known (stamped.Join m) k = k
+  opening_known x k = k
 
   change_known : (x : StampedMessage) → Entries x → Entries (behind_change x)
-  change_known (stamped.Open m) k = k
-  change_known (stamped.Prepare m) k = tt
-  change_known (stamped.Commit m) k = tt
-  change_known (stamped.Checkpoint m) k = tt
   change_known (stamped.ViewChange m) k = tt
   change_known (stamped.NewView m) k = tt
-  change_known (stamped.Enter m) k = tt
-  change_known (stamped.Join m) k = k
-
-  behind_known : (m x : StampedMessage) → Entries x → Entries (behind m x)
-  behind_known (stamped.Open m) x k = opening_known x k
-  behind_known (stamped.Join m) x k = opening_known x k
-  behind_known (stamped.ViewChange m) x k = change_known x k
-  behind_known (stamped.Prepare m) x k = k
-  behind_known (stamped.Commit m) x k = k
-  behind_known (stamped.Checkpoint m) x k = k
-  behind_known (stamped.NewView m) x k = k
-  behind_known (stamped.Enter m) x k = k
-
-  all_behind : (m : StampedMessage) (l : List StampedMessage) → AllByRecursion Entries l → AllByRecursion Entries (map (behind m) l)
-  all_behind m [] a = tt
-  all_behind m (x ∷ l) a = (behind_known m x a.0, all_behind m l a.1)
-
-  forms_known : (l : List StampedMessage) → AllByRecursion Entries l → AllByRecursion Entries (kept_forms l)
-  unfolding kept_forms
-  forms_known [] a = tt
-  forms_known (m ∷ l) a = (a.0, all_behind m (kept_forms l) (forms_known l a.1))
-
-  first_known : (n : ℕ) (l : List StampedMessage) → AllByRecursion Entries l → AllByRecursion Entries (take n l)
-  first_known zero l a = tt
-  first_known (suc n) [] a = tt
-  first_known (suc n) (x ∷ l) a = (a.0, first_known n l a.1)
+  change_known x k = k
 
   shown_known : (d : History) → AllByRecursion Entries (all_stamped d) → AllByRecursion (EntryKnown system w f h correct) (map as_shown (reverse (log_kept self d)))
-  shown_known d a = all_map (EntryKnown system w f h correct) as_shown (reverse (log_kept self d)) (all_reverse Entries (log_kept self d) (first_known (counter_of d - log_start self d) (kept_forms (all_stamped d)) (forms_known (all_stamped d) a)))
+  shown_known d a = all_map (EntryKnown system w f h correct) as_shown (reverse (log_kept self d)) (all_reverse Entries (log_kept self d) (all_taken Entries (counter_of d - log_start self d) (kept_forms (all_stamped d)) (forms_keep Entries opening_known change_known (all_stamped d) a)))
 
   -- ---- all that is held
 

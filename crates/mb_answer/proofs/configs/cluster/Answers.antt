@@ -2,7 +2,7 @@ use Rattle.std.proofs.Common.{refl, inr, arith}
 use Rattle.std.proofs.lemmas.Option.{IfSome_then}
 use Rattle.mb_edge.proofs.FaultLemmas.{tells_both, tells_none, tells_as}
 use Rattle.mb_answer.specs.Configs.{used, unused}
-use Rattle.mb_answer.proofs.ConfigLaws.{runs_cluster, cause_of, told_by, ends_told, no_ends}
+use Rattle.mb_answer.proofs.ConfigLaws.{runs_cluster, cause_of, told_by, ends_told, no_ends, run_known, lack_known}
 use Rattle.mb_answer.proofs.Statuses.{low_is_not}
 use Rattle.mb_answer.proofs.configs.cluster.Goals as goal
 
@@ -45,3 +45,9 @@ returns-in-Err-clause-spawner g c = tells_none _ (low_is_not c.in-Err.status 8 c
 
 pub returns-in-Err-clause-bad_ends : goal.returns-in-Err-clause-bad_ends
 returns-in-Err-clause-bad_ends g c = no_ends c.in-Err.status _ _ c.in-Err.ensures.low.0
+
+pub returns-in-Ok-clause-statuses : goal.returns-in-Ok-clause-statuses
+returns-in-Ok-clause-statuses g c = run_known c.run_cluster-ended.result _ c.run_status.ensures
+
+pub returns-in-Err-clause-statuses : goal.returns-in-Err-clause-statuses
+returns-in-Err-clause-statuses g c = lack_known c.in-Err.status c.in-Err.ensures.statuses

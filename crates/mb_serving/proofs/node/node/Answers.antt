@@ -3,7 +3,7 @@ use Rattle.std.proofs.lemmas.Option.{IfSome_then}
 use Rattle.mb_edge.proofs.FaultLemmas.{tells_both, tells_none, tells_as}
 use Rattle.mb_answer.specs.Configs.{used, unused}
 use Rattle.mb_answer.proofs.Statuses.{low_is_not}
-use Rattle.mb_serving.proofs.NodeLaws.{served_from, node_is_not, is_node_not}
+use Rattle.mb_serving.proofs.NodeLaws.{served_from, serving_known, no_config_known, node_is_not, is_node_not}
 use Rattle.mb_serving.proofs.node.node.Goals as goal
 
 pub returns-in-Ok-clause-told : goal.returns-in-Ok-clause-told
@@ -33,3 +33,9 @@ returns-in-Err-clause-known g c =
 
 pub returns-in-Err-clause-link : goal.returns-in-Err-clause-link
 returns-in-Err-clause-link g c = tells_none _ (low_is_not c.in-Err.status 7 c.in-Err.ensures.low.0 (omega arith) (λ x. absurd (omega (arith, x))))
+
+pub returns-in-Ok-clause-statuses : goal.returns-in-Ok-clause-statuses
+returns-in-Ok-clause-statuses g c = serving_known c.serve_as.result c.serve_as.ensures.statuses
+
+pub returns-in-Err-clause-statuses : goal.returns-in-Err-clause-statuses
+returns-in-Err-clause-statuses g c = no_config_known c.in-Err.status c.in-Err.ensures.statuses

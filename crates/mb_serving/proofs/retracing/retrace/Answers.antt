@@ -1,11 +1,12 @@
-use Rattle.std.proofs.Common.{Err, refl, ap, subst, ◌∙◌}
+use Rattle.std.proofs.Common.{Err, refl, ap, subst, ◌∙◌, arith}
+use Rattle.std.specs.Prelude.{Contains}
 use Rattle.std.proofs.lemmas.Option.{IfSome_then}
 use Rattle.std.proofs.lemmas.Result.{IfOk-weaker}
 use Rattle.mb_base.specs.Shapes.{Bytes}
 use Rattle.mb_sched.specs.Records.{max_record}
-use Rattle.mb_serving.specs.Records.{AnswersRecordText, too_long}
-use Rattle.mb_serving.proofs.RecordLaws.{record_answers_told}
-use Rattle.mb_answer.proofs.Statuses.{responded, unread_told, tells_read}
+use Rattle.mb_serving.specs.Records.{AnswersRecordText, too_long, retrace_statuses}
+use Rattle.mb_serving.proofs.RecordLaws.{record_answers_told, record_answers_known}
+use Rattle.mb_answer.proofs.Statuses.{responded, responded_is, unread_told, unread_is, tells_read}
 use Rattle.mb_serving.proofs.retracing.retrace.Goals as goal
 
 pub respond-requires : goal.respond-requires
@@ -26,3 +27,11 @@ returns-in-Err-clause-told g c =
 
 pub returns-in-Err-clause-source : goal.returns-in-Err-clause-source
 returns-in-Err-clause-source g c = tells_read _ _ c.in-Err.ensures.fault c.in-Err.ensures.later c.in-Err.ensures.sound c.in-Err.ensures.quiet (λ told. ap Err (c.tell_unread.ensures.source told))
+
+pub returns-in-Ok-clause-statuses : goal.returns-in-Ok-clause-statuses
+returns-in-Ok-clause-statuses g c =
+    responded_is (Contains retrace_statuses) (2, omega arith, refl) (4, omega arith, refl) c.answer_to_record.result _ _ _
+    (IfOk-weaker c.answer_to_record.result _ _ (λ a h. record_answers_known _ a.status a.text.items h) c.answer_to_record.ensures) c.respond.ensures.says c.respond.ensures.lacks
+
+pub returns-in-Err-clause-statuses : goal.returns-in-Err-clause-statuses
+returns-in-Err-clause-statuses g c = unread_is (Contains retrace_statuses) (2, omega arith, refl) (4, omega arith, refl) c.in-Err.stop _ _ _ (1, omega arith, refl) (3, omega arith, refl) c.tell_unread.ensures.told

@@ -75,3 +75,6 @@ returns-clause-idle g c = rw (← c.command_in.ensures.command) (is_idle _ _ _ _
 
 pub returns-clause-limit : goal.returns-clause-limit
 returns-clause-limit g c = rw (← c.command_in.ensures.command) c.run.ensures.limit
+
+pub returns-clause-statuses : goal.returns-clause-statuses
+returns-clause-statuses g c = rw (← c.command_in.ensures.command) c.run.ensures.statuses

@@ -5,7 +5,7 @@ use Rattle.mb_answer.proofs.Statuses.{low_is_not}
 use Rattle.mb_top.specs.Commands.{IsWithin}
 use Rattle.mb_top.specs.declared.command.Command.{Command}
 use Rattle.mb_top.specs.declared.command.Command.TheVariants.{Replay, Soak, Node, Retrace, Cluster}
-use Rattle.mb_top.proofs.Doing.{does_replay, does_soak, does_node, does_retrace, does_cluster, does_usage, does_asked}
+use Rattle.mb_top.proofs.Doing.{does_replay, does_soak, does_node, does_retrace, does_cluster, does_usage, does_asked, statuses_asked, soak_known, usage_known}
 use Rattle.mb_top.proofs.top.run.Goals as goal
 
 pub returns-in-Some-Replay-clause-does : goal.returns-in-Some-Replay-clause-does
@@ -14,6 +14,12 @@ returns-in-Some-Replay-clause-does g c =
     let named : c.in-Some-Replay.field-0 ≡ Replay = rw first at c.in-Some-Replay.field-0-is in
     let same : c.args.command ≡ Some Replay = first ∙ ap Some named in
     does_asked _ _ _ _ (Some Replay) same (does_replay _ _ _ c.replay.ensures.told c.replay.ensures.ended refl refl)
+
+pub returns-in-Some-Replay-clause-statuses : goal.returns-in-Some-Replay-clause-statuses
+returns-in-Some-Replay-clause-statuses g c =
+    let first : c.args.command ≡ Some c.in-Some-Replay.field-0 = c.in-Some-Replay.is in
+    let named : c.in-Some-Replay.field-0 ≡ Replay = rw first at c.in-Some-Replay.field-0-is in
+    statuses_asked _ (Some Replay) _ (first ∙ ap Some named) c.replay.ensures.statuses
 
 pub returns-in-Some-Replay-clause-link : goal.returns-in-Some-Replay-clause-link
 returns-in-Some-Replay-clause-link g c = tells_none _ (low_is_not _ 7 c.replay.ensures.low (omega arith) (λ x. absurd (omega (arith, x))))
@@ -38,6 +44,12 @@ returns-in-Some-Soak-clause-does g c =
     let same : c.args.command ≡ Some (Soak c.in-Some-Soak.seed c.in-Some-Soak.events) = first ∙ ap Some named in
     does_asked _ _ _ _ (Some (Soak c.in-Some-Soak.seed c.in-Some-Soak.events)) same (does_soak _ _ _ _ _ c.soak.ensures.told (subst (λ (o : Option Command). IfSome o IsWithin) same c.requires).1 refl refl)
 
+pub returns-in-Some-Soak-clause-statuses : goal.returns-in-Some-Soak-clause-statuses
+returns-in-Some-Soak-clause-statuses g c =
+    let first : c.args.command ≡ Some c.in-Some-Soak.field-0 = c.in-Some-Soak.is in
+    let named : c.in-Some-Soak.field-0 ≡ Soak c.in-Some-Soak.seed c.in-Some-Soak.events = rw first at c.in-Some-Soak.field-0-is in
+    statuses_asked _ (Some (Soak c.in-Some-Soak.seed c.in-Some-Soak.events)) _ (first ∙ ap Some named) (soak_known _ _ _ _ _ c.soak.ensures.told)
+
 pub returns-in-Some-Soak-clause-link : goal.returns-in-Some-Soak-clause-link
 returns-in-Some-Soak-clause-link g c = tells_none _ (low_is_not _ 7 c.soak.ensures.low (omega arith) (λ x. absurd (omega (arith, x))))
 
@@ -54,6 +66,12 @@ returns-in-Some-Node-clause-does g c =
     let same : c.args.command ≡ Some (Node c.in-Some-Node.host c.in-Some-Node.events) = first ∙ ap Some named in
     does_asked _ _ _ _ (Some (Node c.in-Some-Node.host c.in-Some-Node.events)) same (does_node _ _ _ _ _ c.node.ensures.told c.node.ensures.ended refl)
 
+pub returns-in-Some-Node-clause-statuses : goal.returns-in-Some-Node-clause-statuses
+returns-in-Some-Node-clause-statuses g c =
+    let first : c.args.command ≡ Some c.in-Some-Node.field-0 = c.in-Some-Node.is in
+    let named : c.in-Some-Node.field-0 ≡ Node c.in-Some-Node.host c.in-Some-Node.events = rw first at c.in-Some-Node.field-0-is in
+    statuses_asked _ (Some (Node c.in-Some-Node.host c.in-Some-Node.events)) _ (first ∙ ap Some named) c.node.ensures.statuses
+
 pub returns-in-Some-Node-clause-spawner : goal.returns-in-Some-Node-clause-spawner
 returns-in-Some-Node-clause-spawner g c = tells_none _ c.node.ensures.known.0
 
@@ -66,6 +84,12 @@ returns-in-Some-Retrace-clause-does g c =
     let named : c.in-Some-Retrace.field-0 ≡ Retrace = rw first at c.in-Some-Retrace.field-0-is in
     let same : c.args.command ≡ Some Retrace = first ∙ ap Some named in
     does_asked _ _ _ _ (Some Retrace) same (does_retrace _ _ _ c.retrace.ensures.told c.retrace.ensures.ended refl refl)
+
+pub returns-in-Some-Retrace-clause-statuses : goal.returns-in-Some-Retrace-clause-statuses
+returns-in-Some-Retrace-clause-statuses g c =
+    let first : c.args.command ≡ Some c.in-Some-Retrace.field-0 = c.in-Some-Retrace.is in
+    let named : c.in-Some-Retrace.field-0 ≡ Retrace = rw first at c.in-Some-Retrace.field-0-is in
+    statuses_asked _ (Some Retrace) _ (first ∙ ap Some named) c.retrace.ensures.statuses
 
 pub returns-in-Some-Retrace-clause-link : goal.returns-in-Some-Retrace-clause-link
 returns-in-Some-Retrace-clause-link g c = tells_none _ (low_is_not _ 7 c.retrace.ensures.low (omega arith) (λ x. absurd (omega (arith, x))))
@@ -83,8 +107,17 @@ returns-in-Some-Cluster-clause-does g c =
     let same : c.args.command ≡ Some (Cluster c.in-Some-Cluster.turns) = first ∙ ap Some named in
     does_asked _ _ _ _ (Some (Cluster c.in-Some-Cluster.turns)) same (does_cluster _ _ _ _ c.cluster.ensures.told c.cluster.ensures.ended)
 
+pub returns-in-Some-Cluster-clause-statuses : goal.returns-in-Some-Cluster-clause-statuses
+returns-in-Some-Cluster-clause-statuses g c =
+    let first : c.args.command ≡ Some c.in-Some-Cluster.field-0 = c.in-Some-Cluster.is in
+    let named : c.in-Some-Cluster.field-0 ≡ Cluster c.in-Some-Cluster.turns = rw first at c.in-Some-Cluster.field-0-is in
+    statuses_asked _ (Some (Cluster c.in-Some-Cluster.turns)) _ (first ∙ ap Some named) c.cluster.ensures.statuses
+
 pub returns-in-None-clause-does : goal.returns-in-None-clause-does
 returns-in-None-clause-does g c = does_asked _ _ _ _ _ c.in-None.is (does_usage _ _ _ c.say.ensures.says refl refl)
+
+pub returns-in-None-clause-statuses : goal.returns-in-None-clause-statuses
+returns-in-None-clause-statuses g c = statuses_asked _ _ _ c.in-None.is (usage_known _ _ _ c.say.ensures.says)
 
 pub returns-in-None-clause-link : goal.returns-in-None-clause-link
 returns-in-None-clause-link g c = tells_none _ (low_is_not _ 7 c.say.ensures.low (omega arith) (λ x. absurd (omega (arith, x))))

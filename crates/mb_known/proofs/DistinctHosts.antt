@@ -112,7 +112,7 @@ rising_count (m ∷ l) n d a =
     let low : m.ui.host < n = a.0 in
     one_more (has_host l) m.ui.host 0 n d.0 (omega arith) (omega (arith, low)) ∙ ap (λ (k : ℕ). 1 + k) (rising_count l n d.1 a.1) ∙ omega arith
 
-find_good : (P : ViewChange → Type 0) (t : ViewChange → Bool) (l : List ViewChange) → AllByRecursion P l → (m : ViewChange) → find t l ≡ Some m → P m × (t m ≡ true)
+pub find_good : (P : ViewChange → Type 0) (t : ViewChange → Bool) (l : List ViewChange) → AllByRecursion P l → (m : ViewChange) → find t l ≡ Some m → P m × (t m ≡ true)
 find_good P t [] a m e = absurd cc
 find_good P t (x ∷ l) a m e = elim (cases_Bool (t x)) [
   | inl here ↦ let is : x ≡ m = some_is x m (rw here at e) in (subst P is a.0, subst (λ (y : ViewChange). t y ≡ true) is here)
