@@ -150,6 +150,7 @@ fn read_whole(alloc: Global, shape: &Shape, bytes: &[u8]) -> Result<Message, Und
     let kind = fields.u8_in(REQUEST, STOP)?;
     let message = read_kind(alloc, shape, kind, &mut fields)?;
     if !fields.is_at_end() {
+        drop(message);
         return Err(Undecoded::Malformed { at: fields.place() });
     }
     Ok(message)
