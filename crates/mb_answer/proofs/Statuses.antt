@@ -6,8 +6,8 @@ use Rattle.mb_base.specs.declared.writing.NoMemory.{NoMemory}
 use Rattle.mb_edge.specs.Faults.{Rose, HasNoFault, TellsFaults}
 use Rattle.mb_edge.specs.declared.reading.ReadStop.{ReadStop}
 use Rattle.mb_edge.specs.declared.reading.ReadStop.TheVariants as stop
-use Rattle.mb_sched.specs.declared.schedule.BadText.{BadText}
-use Rattle.mb_sched.specs.declared.schedule.BadText.TheVariants as fault
+use Rattle.mb_sched.specs.declared.bad_text.BadText.{BadText}
+use Rattle.mb_sched.specs.declared.bad_text.BadText.TheVariants as fault
 use Rattle.mb_sched.specs.declared.configs.Config.{Config}
 use Rattle.mb_sched.specs.Configs.{max_config, config_of, config_contents}
 use Rattle.mb_sched.specs.TextLines.{ReadsText}

@@ -1,8 +1,8 @@
 -- What is answered to a text that says nothing.
 use Rattle.std.specs.Prelude.{◌≡◌, ℕ}
 use Rattle.mb_base.specs.Shapes.{Bytes}
-use Rattle.mb_sched.specs.declared.schedule.BadText.{BadText}
-use Rattle.mb_sched.specs.declared.schedule.BadText.TheVariants as fault
+use Rattle.mb_sched.specs.declared.bad_text.BadText.{BadText}
+use Rattle.mb_sched.specs.declared.bad_text.BadText.TheVariants as fault
 use Rattle.mb_answer.specs.Texts.{too_long_text, bad_line_text}
 
 abbrev pub IsRefusal : BadText → ℕ → Bytes → Type 0

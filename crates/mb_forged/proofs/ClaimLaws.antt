@@ -6,7 +6,7 @@ use Rattle.mb_usig.specs.Tags.{is_certified}
 use Rattle.mb_parts.specs.Bares.{Bare, bare_bytes}
 use Rattle.mb_parts.specs.Claims.{Claim}
 use Rattle.mb_model.specs.Verified.{verifies}
-use Rattle.mb_sched.specs.declared.schedule.Schedule.{Schedule}
+use Rattle.mb_schedule.specs.declared.schedule.Schedule.{Schedule}
 use Rattle.mb_theory.specs.World.{World}
 use Rattle.mb_theory.specs.WorldRecord.{issued}
 use Rattle.mb_theory.specs.Inside.{sender_claim}

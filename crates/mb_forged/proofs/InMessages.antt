@@ -14,7 +14,7 @@ use Rattle.mb_msg.specs.declared.message.Message.{Message}
 use Rattle.mb_msg.specs.declared.message.Message.TheVariants as message
 use Rattle.mb_msg.specs.Stamps.{as_stamped}
 use Rattle.mb_model.specs.Compared.{inside_some}
-use Rattle.mb_sched.specs.declared.schedule.Schedule.{Schedule}
+use Rattle.mb_schedule.specs.declared.schedule.Schedule.{Schedule}
 use Rattle.mb_theory.specs.World.{World}
 use Rattle.mb_theory.specs.Inside.{claims_in_stamped, stamped_claims, claims_in, requests_in}
 use Rattle.mb_theory.specs.Forged.{has_forged_tag}

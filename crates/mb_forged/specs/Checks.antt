@@ -24,7 +24,7 @@ use Rattle.mb_theory.specs.Inside.{sender_claim, named_claim}
 use Rattle.mb_forged.specs.declared.checker.Checker.{Checker}
 use Rattle.mb_forged.specs.declared.checker.ForgedClaim.{ForgedClaim}
 use Rattle.mb_forged.specs.Ledgers.{KeepsWorld}
-use Rattle.mb_sched.specs.declared.schedule.Schedule.{Schedule}
+use Rattle.mb_schedule.specs.declared.schedule.Schedule.{Schedule}
 use Rattle.mb_theory.specs.World.{World, stamps}
 use Rattle.mb_theory.specs.Forged.{is_forged_claim}
 

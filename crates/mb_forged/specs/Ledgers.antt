@@ -16,7 +16,7 @@ use Rattle.mb_msg.specs.declared.message.Message.{Message}
 use Rattle.mb_msg.specs.Spelling.{spelling}
 use Rattle.mb_forged.specs.declared.ledger.Ledger.{Ledger}
 use Rattle.mb_forged.specs.Asked.{HoldsAsked}
-use Rattle.mb_sched.specs.declared.schedule.Schedule.{Schedule}
+use Rattle.mb_schedule.specs.declared.schedule.Schedule.{Schedule}
 use Rattle.mb_theory.specs.World.{World, stamps}
 
 -- The bytes stand in the set.

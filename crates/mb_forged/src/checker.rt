@@ -36,7 +36,7 @@ impl<'a> Checker<'a> {
     ghost use Rattle.mb_base.specs.Shapes.{Bytes, host_count};
     ghost use Rattle.mb_parts.specs.Bares.{Bare, bare_bytes};
     ghost use Rattle.mb_parts.specs.Fits.{FitsBare};
-    ghost use Rattle.mb_sched.specs.declared.schedule.Schedule.{Schedule};
+    ghost use Rattle.mb_schedule.specs.declared.schedule.Schedule.{Schedule};
     ghost use Rattle.mb_theory.specs.World.{World};
     ghost use Rattle.mb_forged.specs.Checks.{AsksIn, first_forged};
 

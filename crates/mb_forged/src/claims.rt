@@ -10,7 +10,7 @@ ghost use Rattle.mb_msg.specs.AsStamped.{stamped_digest};
 ghost use Rattle.mb_msg.specs.Stamps.{as_stamped, ui_of as uis, ui_of_shown, bare_of as says, bare_of_shown};
 ghost use Rattle.mb_msg.specs.Fits.{FitsFields, FitsStamped, FitsShown, FitsCommit, FitsOpen, FitsJoin, FitsChangeBody, FitsViewChange, FitsNewViewBody, FitsLog};
 ghost use Rattle.mb_model.specs.Compared.{inside_some};
-ghost use Rattle.mb_sched.specs.declared.schedule.Schedule.{Schedule};
+ghost use Rattle.mb_schedule.specs.declared.schedule.Schedule.{Schedule};
 ghost use Rattle.mb_theory.specs.World.{World};
 ghost use Rattle.mb_theory.specs.Forged.{forged_claim};
 ghost use Rattle.mb_theory.specs.Inside.{sender_claim, named_claim, open_claims, join_claims, claims_in_shown, shown_claims, change_claims, member_claims, new_view_claims, claims_in_stamped, stamped_claims, claims_in};

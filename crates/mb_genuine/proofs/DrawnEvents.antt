@@ -6,8 +6,8 @@ use Rattle.std.proofs.Math.Nat.{mod-lt}
 use Rattle.mb_base.specs.Spelling.{number}
 use Rattle.mb_parts.specs.Fits.{FitsText}
 use Rattle.std.specs.Int.{w8, w16}
-use Rattle.mb_sched.specs.declared.schedule.WorldEvent.{WorldEvent}
-use Rattle.mb_sched.specs.declared.schedule.WorldEvent.TheVariants.{Give, Patience, Nudge, StampPrepare}
+use Rattle.mb_schedule.specs.declared.schedule.WorldEvent.{WorldEvent}
+use Rattle.mb_schedule.specs.declared.schedule.WorldEvent.TheVariants.{Give, Patience, Nudge, StampPrepare}
 use Rattle.mb_make.specs.Draws.{Generator, Draw, drawn, seeded, stepped, choice, detail, put, ask, cursor, passed, skips, gives_next, chosen, draw}
 
 -- An operation is short.

@@ -34,8 +34,8 @@ use Rattle.mb_model.specs.Batches.{batch_bytes_limit, has_place}
 use Rattle.mb_model.proofs.Members.{In}
 use Rattle.mb_steps.proofs.StepPlanBases.{all_append}
 use Rattle.mb_steps.proofs.StepRounds.{ui_under, bare_under}
-use Rattle.mb_sched.specs.declared.schedule.Schedule.{Schedule}
-use Rattle.mb_sched.specs.Limits.{is_faulty}
+use Rattle.mb_schedule.specs.declared.schedule.Schedule.{Schedule}
+use Rattle.mb_schedule.specs.Limits.{is_faulty}
 use Rattle.mb_theory.specs.Inside.{sender_claim, claims_in_stamped, stamped_claims, stamped_requests, requests_in}
 use Rattle.mb_theory.specs.World.{World, FaultyStamp, numbered, read, message_at, stamps}
 use Rattle.mb_theory.specs.WorldRecord.{issued}

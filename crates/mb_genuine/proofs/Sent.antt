@@ -6,8 +6,8 @@ use Rattle.mb_msg.specs.Spelling.{spelling}
 use Rattle.mb_model.specs.HostStep.{transition}
 use Rattle.mb_model.specs.Sending.{Letter}
 use Rattle.mb_model.proofs.Members.{In, in_contained}
-use Rattle.mb_sched.specs.declared.schedule.Schedule.{Schedule}
-use Rattle.mb_sched.specs.declared.schedule.WorldEvent.{WorldEvent}
+use Rattle.mb_schedule.specs.declared.schedule.Schedule.{Schedule}
+use Rattle.mb_schedule.specs.declared.schedule.WorldEvent.{WorldEvent}
 use Rattle.mb_theory.specs.World.{World, System, self_of, read}
 use Rattle.mb_theory.specs.WorldEvents.{IsCorrect}
 use Rattle.mb_theory.specs.WorldSteps.{happens, world}

@@ -25,11 +25,11 @@ use Rattle.mb_msg.proofs.Sizes.{request_short, small_request}
 use Rattle.mb_model.specs.Batches.{batch_bytes_limit, has_place}
 use Rattle.mb_model.proofs.ShapesFit.{shape_fits}
 use Rattle.mb_model.proofs.Members.{In, contained}
-use Rattle.mb_sched.specs.declared.schedule.Schedule.{Schedule}
-use Rattle.mb_sched.specs.declared.schedule.WorldEvent.{WorldEvent}
-use Rattle.mb_sched.specs.declared.schedule.WorldEvent.TheVariants.{Give, Take, Patience, Nudge, StampPrepare}
-use Rattle.mb_sched.specs.Schedules.{max_text}
-use Rattle.mb_sched.specs.Limits.{is_faulty, is_faulty_client, EventFits, IsSchedule}
+use Rattle.mb_schedule.specs.declared.schedule.Schedule.{Schedule}
+use Rattle.mb_schedule.specs.declared.schedule.WorldEvent.{WorldEvent}
+use Rattle.mb_schedule.specs.declared.schedule.WorldEvent.TheVariants.{Give, Take, Patience, Nudge, StampPrepare}
+use Rattle.mb_schedule.specs.Limits.{max_text}
+use Rattle.mb_schedule.specs.Limits.{is_faulty, is_faulty_client, EventFits, IsSchedule}
 use Rattle.mb_theory.specs.World.{World, System, numbered, if_read, read, message_at, nothing_happened, request_of}
 use Rattle.mb_theory.specs.WorldSteps.{happens, after, world}
 use Rattle.mb_theory.specs.FaultyHosts.{misfit}

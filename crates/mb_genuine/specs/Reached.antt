@@ -1,6 +1,6 @@
 -- A world to which events lead that nothing stopped.
 use Rattle.std.specs.Prelude.{◌≡◌, List, length}
-use Rattle.mb_sched.specs.declared.schedule.WorldEvent.{WorldEvent}
+use Rattle.mb_schedule.specs.declared.schedule.WorldEvent.{WorldEvent}
 use Rattle.mb_theory.specs.World.{World, System}
 use Rattle.mb_theory.specs.WorldSteps.{world}
 use Rattle.mb_theory.specs.Stops.{IsUnstopped}

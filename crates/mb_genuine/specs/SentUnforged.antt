@@ -5,7 +5,7 @@ use Rattle.mb_msg.specs.declared.message.Message.{Message}
 use Rattle.mb_msg.specs.Spelling.{spelling}
 use Rattle.mb_model.specs.HostStep.{transition}
 use Rattle.mb_model.specs.Sending.{Letter}
-use Rattle.mb_sched.specs.declared.schedule.WorldEvent.{WorldEvent}
+use Rattle.mb_schedule.specs.declared.schedule.WorldEvent.{WorldEvent}
 use Rattle.mb_theory.specs.World.{World, System, self_of, read}
 use Rattle.mb_theory.specs.WorldEvents.{IsCorrect}
 use Rattle.mb_theory.specs.WorldSteps.{happens}

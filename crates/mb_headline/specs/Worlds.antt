@@ -1,6 +1,6 @@
 -- What is promised of the events of a schedule, each promise by itself.
 use Rattle.std.specs.Prelude.{ℕ, ◌≤◌, length}
-use Rattle.mb_sched.specs.Limits.{IsSchedule}
+use Rattle.mb_schedule.specs.Limits.{IsSchedule}
 use Rattle.mb_theory.specs.Hashed.{HashesApart}
 use Rattle.mb_theory.specs.World.{System}
 use Rattle.mb_theory.specs.WorldSteps.{world}

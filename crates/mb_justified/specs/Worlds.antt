@@ -1,7 +1,7 @@
 -- What correct hosts did is justified and within its limits, and they are never blamed, in each world of a schedule.
 use Rattle.std.specs.Prelude.{◌≡◌, ℕ, ◌≤◌, length}
 use Rattle.mb_theory.specs.Hashed.{HashesApart}
-use Rattle.mb_sched.specs.Limits.{IsSchedule}
+use Rattle.mb_schedule.specs.Limits.{IsSchedule}
 use Rattle.mb_theory.specs.World.{World, System}
 use Rattle.mb_theory.specs.WorldSteps.{world}
 use Rattle.mb_theory.specs.Stops.{IsUnstopped}

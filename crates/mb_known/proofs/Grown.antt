@@ -18,8 +18,8 @@ use Rattle.mb_model.specs.Verified.{verifies, is_rightly_tagged}
 use Rattle.mb_model.specs.Histories.{History}
 use Rattle.mb_model.proofs.Members.{In, any_in}
 use Rattle.mb_theory.specs.Inside.{claims_in, strings_in, requests_in}
-use Rattle.mb_sched.specs.declared.schedule.Schedule.{Schedule}
-use Rattle.mb_sched.specs.Limits.{is_faulty_client}
+use Rattle.mb_schedule.specs.declared.schedule.Schedule.{Schedule}
+use Rattle.mb_schedule.specs.Limits.{is_faulty_client}
 use Rattle.mb_theory.specs.World.{World, System, self_of, read, stamps, state_strings_in}
 use Rattle.mb_theory.specs.WorldRecord.{issued}
 use Rattle.mb_theory.specs.Forged.{is_forged_claim, forged_claim, is_forged_request, has_forged_tag, was_asked}

@@ -26,10 +26,10 @@ use Rattle.mb_model.specs.Sending.{Letter, Progress}
 use Rattle.mb_model.specs.HostStep.{transition}
 use Rattle.mb_model.proofs.Members.{In, in_left, in_right}
 use Rattle.mb_theory.specs.Inside.{strings_in, claims_in}
-use Rattle.mb_sched.specs.declared.schedule.Name.TheVariants as name
-use Rattle.mb_sched.specs.declared.schedule.WorldEvent.{WorldEvent}
-use Rattle.mb_sched.specs.declared.schedule.WorldEvent.TheVariants.{Ask, Give, Take, Raw, Patience, Nudge, Sign, TagReply, TagWish, StampPrepare, StampCommit, StampCheckpoint, StampChange, StampAs, StampRaw}
-use Rattle.mb_sched.specs.Limits.{is_faulty, is_faulty_client}
+use Rattle.mb_schedule.specs.declared.schedule.Name.TheVariants as name
+use Rattle.mb_schedule.specs.declared.schedule.WorldEvent.{WorldEvent}
+use Rattle.mb_schedule.specs.declared.schedule.WorldEvent.TheVariants.{Ask, Give, Take, Raw, Patience, Nudge, Sign, TagReply, TagWish, StampPrepare, StampCommit, StampCheckpoint, StampChange, StampAs, StampRaw}
+use Rattle.mb_schedule.specs.Limits.{is_faulty, is_faulty_client}
 use Rattle.mb_theory.specs.World.{update, numbered, World, FaultyStamp, System, nothing_happened, self_of, read, stamps, steps, answered, give_host, give_client, client_reads, client_asks, heard, signal, arrives, made, request_of, given_strings, state_strings_in, with_tagged, is_tagged_message, Lost}
 use Rattle.mb_theory.specs.FaultyHosts.{stamp_as, stamp_some, stamp_content, stamp_bytes, content, prepare_of, commit_for, checkpoint_with, change_after, reply_of_host, wish_of_host}
 use Rattle.mb_theory.specs.WorldSteps.{where_faulty, with_message, stamps_some, happens, after, world}

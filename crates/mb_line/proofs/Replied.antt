@@ -8,7 +8,7 @@ use Rattle.mb_model.specs.Sending.{Letter}
 use Rattle.mb_model.specs.Given.{stored_reply}
 use Rattle.mb_model.specs.HostStep.{transition}
 use Rattle.mb_model.proofs.Members.{In, all_in}
-use Rattle.mb_sched.specs.Limits.{IsSchedule}
+use Rattle.mb_schedule.specs.Limits.{IsSchedule}
 use Rattle.mb_theory.specs.WorldEvents.{IsCorrect}
 use Rattle.mb_theory.specs.World.{World, System, self_of, with_tagged, is_tagged_message}
 use Rattle.mb_theory.specs.WorldSteps.{world}

@@ -6,7 +6,7 @@ use Rattle.mb_model.specs.Histories.{Executed}
 use Rattle.mb_model.specs.Positions.{exec_of}
 use Rattle.mb_theory.specs.Hashed.{HashesApart}
 use Rattle.mb_theory.specs.Headline.{IsService}
-use Rattle.mb_sched.specs.Limits.{IsSchedule}
+use Rattle.mb_schedule.specs.Limits.{IsSchedule}
 use Rattle.mb_theory.specs.WorldEvents.{IsCorrect}
 use Rattle.mb_theory.specs.World.{World, System}
 use Rattle.mb_theory.specs.WorldSteps.{world}

@@ -6,8 +6,8 @@ use Rattle.std.proofs.lemmas.Bool.{ne_eqb, eq-eqb, ltb-true, cases_lt, lt-ltb, l
 use Rattle.std.proofs.Math.Nat.{mod-eq_of_lt}
 use Rattle.mb_base.specs.Shapes.{Bytes}
 use Rattle.mb_base.specs.Spelling.{number}
-use Rattle.mb_sched.specs.declared.schedule.WorldEvent.{WorldEvent}
-use Rattle.mb_sched.specs.declared.schedule.WorldEvent.TheVariants.{Ask}
+use Rattle.mb_schedule.specs.declared.schedule.WorldEvent.{WorldEvent}
+use Rattle.mb_schedule.specs.declared.schedule.WorldEvent.TheVariants.{Ask}
 use Rattle.mb_make.specs.declared.maker.Maker.{Maker}
 use Rattle.mb_make.specs.Draws.{Generator, Represents, HasDrawn, drawn, stepped, choice, detail, ask, put, cursor, passed, skips, chosen, draw}
 

@@ -3,9 +3,9 @@ use Rattle.std.specs.Prelude.{◌≡◌, ℕ, zero, suc, ◌++◌, true, false, 
 use Rattle.mb_base.specs.Shapes.{max_faults, interval, client_count}
 use Rattle.mb_msg.specs.declared.message.Message.{Message}
 use Rattle.mb_msg.specs.declared.message.Message.TheVariants as message
-use Rattle.mb_sched.specs.declared.schedule.Schedule.{Schedule}
-use Rattle.mb_sched.specs.declared.schedule.WorldEvent.{WorldEvent}
-use Rattle.mb_sched.specs.declared.schedule.WorldEvent.TheVariants.{Give, Take}
+use Rattle.mb_schedule.specs.declared.schedule.Schedule.{Schedule}
+use Rattle.mb_schedule.specs.declared.schedule.WorldEvent.{WorldEvent}
+use Rattle.mb_schedule.specs.declared.schedule.WorldEvent.TheVariants.{Give, Take}
 use Rattle.mb_theory.specs.World.{World, System, message_at}
 use Rattle.mb_theory.specs.WorldSteps.{world}
 use Rattle.mb_make.specs.Draws.{Generator, seeded, draw}

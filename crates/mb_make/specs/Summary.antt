@@ -1,9 +1,9 @@
 -- What sums a report up: the greatest view, the longest log, and how many results were accepted.
 use Rattle.std.specs.Prelude.{ℕ, List, map, sum_by, Option, Some, None}
 use Rattle.mb_model.specs.EnabledRules.{greatest}
-use Rattle.mb_sched.specs.declared.report.ClientLine.{ClientLine}
-use Rattle.mb_sched.specs.declared.report.HostLine.{HostLine}
-use Rattle.mb_sched.specs.declared.report.HostState.{HostState}
+use Rattle.mb_schedule.specs.declared.report.ClientLine.{ClientLine}
+use Rattle.mb_schedule.specs.declared.report.HostLine.{HostLine}
+use Rattle.mb_schedule.specs.declared.report.HostState.{HostState}
 
 -- a number of a correct host's state; a faulty one has none
 abbrev pub of_state : (HostState → ℕ) → Option HostState → ℕ

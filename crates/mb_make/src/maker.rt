@@ -2,11 +2,11 @@
 
 ghost use Rattle.std.specs.Prelude.{◌≡◌, ◌<◌, ◌≤◌, ◌^◌, true, IfOk, OnOk, OnErr};
 ghost use Rattle.std.specs.Prelude.{◌%◌, ◌/◌, ◌∷◌, []};
-ghost use Rattle.mb_sched.specs.declared.schedule.WorldEvent.TheVariants.{StampPrepare};
+ghost use Rattle.mb_schedule.specs.declared.schedule.WorldEvent.TheVariants.{StampPrepare};
 ghost use Rattle.mb_make.specs.Draws.{Generator, Represents, HasDrawn, seeded, stepped as behind_step, draw as drawing, drawn, ask as asking, detail as detail_of, choice as choice_of, chosen as choosing, skips, gives_next};
 
 use mb_base::{Host, Items, NoMemory};
-use mb_sched::WorldEvent;
+use mb_schedule::WorldEvent;
 use std::alloc::Global;
 
 /// What the linear congruence multiplies by.

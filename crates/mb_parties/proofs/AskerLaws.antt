@@ -3,7 +3,7 @@ use Rattle.std.proofs.Common.{◌≡◌, ℕ, ◌+◌, ◌≤◌, List, [], ◌�
 use Rattle.std.specs.List.{slice_get}
 use Rattle.mb_base.specs.declared.shape.Shape.{Shape}
 use Rattle.mb_model.specs.Clients.{Asker, no_asker}
-use Rattle.mb_sched.specs.declared.schedule.Schedule.{Schedule}
+use Rattle.mb_schedule.specs.declared.schedule.Schedule.{Schedule}
 use Rattle.mb_client.specs.declared.asker.Asker.{Asker as Kept}
 use Rattle.mb_client.specs.Represents.{Represents}
 use Rattle.mb_theory.specs.World.{update}

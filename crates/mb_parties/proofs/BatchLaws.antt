@@ -11,7 +11,7 @@ use Rattle.mb_parts.specs.declared.request.Request.{Request}
 use Rattle.mb_parts.specs.Counted.{counted}
 use Rattle.mb_parts.specs.Spelling.{request_bytes}
 use Rattle.mb_model.specs.Batches.{has_place}
-use Rattle.mb_sched.specs.declared.schedule.Schedule.{Schedule}
+use Rattle.mb_schedule.specs.declared.schedule.Schedule.{Schedule}
 use Rattle.mb_theory.specs.World.{World as WorldState}
 use Rattle.mb_theory.specs.FaultyHosts.{request_at, misfit}
 use Rattle.mb_theory.specs.Stops.{WrongKind}

@@ -8,8 +8,8 @@ use Rattle.mb_base.specs.Shapes.{Bytes}
 use Rattle.mb_msg.specs.declared.stamped.Stamped.{Stamped}
 use Rattle.mb_msg.specs.Stamps.{as_stamped}
 use Rattle.mb_model.proofs.Options.{option_cases}
-use Rattle.mb_sched.specs.declared.schedule.Schedule.{Schedule}
-use Rattle.mb_sched.specs.Limits.{is_faulty}
+use Rattle.mb_schedule.specs.declared.schedule.Schedule.{Schedule}
+use Rattle.mb_schedule.specs.Limits.{is_faulty}
 use Rattle.mb_model.specs.Histories.{History}
 use Rattle.mb_theory.specs.World.{World as WorldState, System, FaultyStamp, read}
 use Rattle.mb_theory.specs.FaultyHosts.{stamped_after}

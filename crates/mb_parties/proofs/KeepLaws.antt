@@ -11,8 +11,8 @@ use Rattle.mb_msg.specs.declared.message.Message.{Message}
 use Rattle.mb_msg.specs.Spelling.{spelling}
 use Rattle.mb_model.specs.Histories.{History, stamped as all_stamped}
 use Rattle.mb_model.specs.Sending.{Letter, Progress}
-use Rattle.mb_sched.specs.declared.schedule.Schedule.{Schedule}
-use Rattle.mb_sched.specs.Limits.{is_faulty}
+use Rattle.mb_schedule.specs.declared.schedule.Schedule.{Schedule}
+use Rattle.mb_schedule.specs.Limits.{is_faulty}
 use Rattle.mb_replica.specs.declared.told.Outgoing.{Outgoing}
 use Rattle.mb_replica.specs.Told.{as_outgoing}
 use Rattle.mb_theory.specs.World.{World as WorldState, nothing_happened, FaultyStamp, update, stamps, partway}

@@ -4,7 +4,7 @@ use Rattle.std.specs.Option.{option_map}
 use Rattle.mb_base.specs.Shapes.{Bytes}
 use Rattle.mb_msg.specs.declared.normal.Reply.{Reply}
 use Rattle.mb_client.specs.Represents.{newest, result_of}
-use Rattle.mb_sched.specs.declared.report.LastResult.{LastResult}
+use Rattle.mb_schedule.specs.declared.report.LastResult.{LastResult}
 use Rattle.mb_parties.specs.Lines.{last_result}
 use Rattle.mb_parties.proofs.ListLaws.{some_is}
 

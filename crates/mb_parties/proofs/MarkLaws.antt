@@ -18,7 +18,7 @@ use Rattle.mb_msg.proofs.Messages.{message_again}
 use Rattle.mb_model.specs.Sending.{Letter}
 use Rattle.mb_model.proofs.Members.{In, contained}
 use Rattle.mb_model.proofs.ShapesFit.{shape_fits}
-use Rattle.mb_sched.specs.declared.schedule.Schedule.{Schedule}
+use Rattle.mb_schedule.specs.declared.schedule.Schedule.{Schedule}
 use Rattle.mb_theory.specs.World.{World as WorldState, update, numbered, read, stamps, is_tagged_message, with_tagged}
 use Rattle.mb_theory.proofs.Lists.{get_more}
 use Rattle.mb_theory.specs.Forged.{IsUnforged}

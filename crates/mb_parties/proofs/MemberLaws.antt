@@ -9,7 +9,7 @@ use Rattle.mb_model.specs.Histories.{History, Identity}
 use Rattle.mb_model.specs.HostStep.{transition}
 use Rattle.mb_steps.proofs.StepArises.{IsWhole}
 use Rattle.mb_searches.specs.Sound.{IsSound}
-use Rattle.mb_sched.specs.Limits.{is_faulty}
+use Rattle.mb_schedule.specs.Limits.{is_faulty}
 use Rattle.mb_core.specs.declared.replica.Replica.{Replica}
 use Rattle.mb_core.specs.Represents.{Represents, IsHost}
 use Rattle.mb_replica.specs.Represents.{IsTold, Serves}

@@ -11,8 +11,8 @@ use Rattle.mb_msg.specs.Spelling.{spelling}
 use Rattle.mb_msg.specs.Stamps.{bare_of, with_ui, as_message}
 use Rattle.mb_model.specs.Histories.{History}
 use Rattle.mb_steps.proofs.StepRounds.{bare_under}
-use Rattle.mb_sched.specs.declared.schedule.Schedule.{Schedule}
-use Rattle.mb_sched.specs.Limits.{is_faulty}
+use Rattle.mb_schedule.specs.declared.schedule.Schedule.{Schedule}
+use Rattle.mb_schedule.specs.Limits.{is_faulty}
 use Rattle.mb_core.specs.declared.replica.Replica.{Replica}
 use Rattle.mb_theory.specs.World.{World as WorldState, System, FaultyStamp, update}
 use Rattle.mb_theory.specs.FaultyHosts.{bare_bytes_of, faulty_message, faulty_ui, stamp_as, stamp_content, stamp_bytes}

@@ -2,7 +2,7 @@
 use Rattle.std.specs.Prelude.{◌≡◌, ℕ, ◌≤◌, List, Some, slice_get}
 use Rattle.mb_base.specs.declared.shape.Shape.{Shape}
 use Rattle.mb_model.specs.Clients.{Asker}
-use Rattle.mb_sched.specs.declared.schedule.Schedule.{Schedule}
+use Rattle.mb_schedule.specs.declared.schedule.Schedule.{Schedule}
 use Rattle.mb_client.specs.declared.asker.Asker.{Asker as Kept}
 use Rattle.mb_client.specs.Represents.{Represents}
 

@@ -5,11 +5,11 @@ use Rattle.mb_model.specs.Histories.{History, Identity, here}
 use Rattle.mb_model.specs.Stable.{low_of}
 use Rattle.mb_model.specs.OwnLog.{own_log, log_longest}
 use Rattle.mb_model.specs.Positions.{exec_of}
-use Rattle.mb_sched.specs.declared.report.HostLine.{HostLine}
-use Rattle.mb_sched.specs.declared.report.HostState.{HostState}
-use Rattle.mb_sched.specs.declared.report.ClientLine.{ClientLine}
-use Rattle.mb_sched.specs.declared.report.LastResult.{LastResult}
-use Rattle.mb_sched.specs.Limits.{is_faulty}
+use Rattle.mb_schedule.specs.declared.report.HostLine.{HostLine}
+use Rattle.mb_schedule.specs.declared.report.HostState.{HostState}
+use Rattle.mb_schedule.specs.declared.report.ClientLine.{ClientLine}
+use Rattle.mb_schedule.specs.declared.report.LastResult.{LastResult}
+use Rattle.mb_schedule.specs.Limits.{is_faulty}
 use Rattle.mb_theory.specs.World.{World, System, self_of}
 
 -- where a host stands

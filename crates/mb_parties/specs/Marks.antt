@@ -5,7 +5,7 @@ use Rattle.mb_base.specs.Shapes.{Bytes}
 use Rattle.mb_msg.specs.declared.message.Message.{Message}
 use Rattle.mb_msg.specs.Spelling.{spelling}
 use Rattle.mb_model.specs.Sending.{Letter}
-use Rattle.mb_sched.specs.declared.schedule.Schedule.{Schedule}
+use Rattle.mb_schedule.specs.declared.schedule.Schedule.{Schedule}
 use Rattle.mb_replica.specs.declared.told.Said.{Said}
 use Rattle.mb_replica.specs.declared.told.Outgoing.{Outgoing}
 use Rattle.mb_replica.specs.Told.{KnowsBytes}

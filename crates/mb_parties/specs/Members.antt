@@ -7,8 +7,8 @@ use Rattle.mb_model.specs.Histories.{History}
 use Rattle.mb_model.specs.Given.{Answer}
 use Rattle.mb_steps.proofs.StepArises.{IsWhole}
 use Rattle.mb_model.specs.HostStep.{transition}
-use Rattle.mb_sched.specs.declared.schedule.Schedule.{Schedule}
-use Rattle.mb_sched.specs.Limits.{is_faulty}
+use Rattle.mb_schedule.specs.declared.schedule.Schedule.{Schedule}
+use Rattle.mb_schedule.specs.Limits.{is_faulty}
 use Rattle.mb_core.specs.declared.replica.Replica.{Replica}
 use Rattle.mb_replica.specs.declared.told.Told.{Told}
 use Rattle.mb_core.specs.Represents.{Represents, IsAtRest}

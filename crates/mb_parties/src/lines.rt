@@ -6,7 +6,7 @@ ghost use Rattle.mb_base.specs.Shapes.{Bytes};
 ghost use Rattle.mb_base.specs.declared.shape.Shape.{Shape};
 ghost use Rattle.mb_model.specs.Histories.{History};
 ghost use Rattle.mb_model.specs.Clients.{Asker as Asking};
-ghost use Rattle.mb_sched.specs.declared.schedule.Schedule.{Schedule};
+ghost use Rattle.mb_schedule.specs.declared.schedule.Schedule.{Schedule};
 ghost use Rattle.mb_theory.specs.World.{World as WorldState, System, self_of};
 ghost use Rattle.mb_client.specs.Represents.{Represents};
 ghost use Rattle.mb_parties.specs.Askers.{RepresentsAskers};
@@ -17,7 +17,7 @@ use crate::members::Member;
 use mb_base::{Client, Host, Items};
 use mb_client::Asker;
 use mb_core::Replica;
-use mb_sched::{ClientLine, HostLine, HostState, LastResult, RefusedLine};
+use mb_schedule::{ClientLine, HostLine, HostState, LastResult, RefusedLine};
 use mb_service::Service;
 use std::alloc::{AllocError, Global};
 

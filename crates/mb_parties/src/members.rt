@@ -9,7 +9,7 @@ ghost use Rattle.mb_core.specs.Represents.{IsAtRest};
 ghost use Rattle.mb_replica.specs.Told.{KnowsEvent};
 ghost use Rattle.mb_core.specs.declared.replica.Replica.{Replica};
 ghost use Rattle.mb_parties.specs.declared.members.Member.TheVariants as member;
-ghost use Rattle.mb_sched.specs.Limits.{is_faulty};
+ghost use Rattle.mb_schedule.specs.Limits.{is_faulty};
 ghost use Rattle.mb_parties.specs.Hosts.{IsSystem, AreServices};
 ghost use Rattle.mb_parties.specs.Members.{AllRest, AllRun, AreOf, Goes, IsCorrectHost, IsMember, RepresentsMembers, StampedWithin, StepsAt, has_halted, shape_of, stamped_by};
 

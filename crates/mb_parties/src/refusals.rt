@@ -5,7 +5,7 @@ ghost use Rattle.mb_theory.specs.Refusals.{refusal_of};
 
 use mb_base::Items;
 use mb_msg::Outcome;
-use mb_sched::{RefusedLine, Word};
+use mb_schedule::{RefusedLine, Word};
 use std::alloc::{AllocError, Global};
 
 /// The line of an event, numbered from 1, at which a host answered this. None where that is no refusal. An error comes where memory runs out, and

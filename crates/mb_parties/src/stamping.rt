@@ -3,7 +3,7 @@
 ghost use Rattle.std.specs.Prelude.{◌≡◌, ◌<◌, ◌≤◌, ◌+◌, ◌-◌, ◌^◌, ◌++◌, ◌∷◌, [], ℕ, List, length, IfOk, OnOk};
 ghost use Rattle.mb_msg.specs.Fits.{FitsStamped};
 ghost use Rattle.mb_model.specs.Histories.{History};
-ghost use Rattle.mb_sched.specs.declared.schedule.Schedule.{Schedule};
+ghost use Rattle.mb_schedule.specs.declared.schedule.Schedule.{Schedule};
 ghost use Rattle.mb_theory.specs.World.{System, FaultyStamp};
 ghost use Rattle.mb_parties.specs.Members.{AllRun, AreOf, IsStamper, RepresentsMembers, StampedWithin};
 ghost use Rattle.mb_parties.specs.Stamping.{IsContentStamp, IsRawStamp, StampsContent, StampsBytes, kept_stamp};

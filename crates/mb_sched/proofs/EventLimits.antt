@@ -17,17 +17,17 @@ use Rattle.mb_base.specs.Shapes.{Bytes, is_within, max_faults, host_count, clien
 use Rattle.mb_base.specs.declared.shape.Shape.{Shape}
 use Rattle.mb_parts.specs.Fits.{IsCounter, IsPlace, IsPosition, IsDigest}
 use Rattle.mb_sched.specs.declared.header.Marks.{Marks}
-use Rattle.mb_sched.specs.declared.schedule.Name.{Name}
-use Rattle.mb_sched.specs.declared.schedule.Name.TheVariants as name
-use Rattle.mb_sched.specs.declared.schedule.Schedule.{Schedule}
-use Rattle.mb_sched.specs.declared.schedule.WorldEvent.{WorldEvent}
+use Rattle.mb_schedule.specs.declared.schedule.Name.{Name}
+use Rattle.mb_schedule.specs.declared.schedule.Name.TheVariants as name
+use Rattle.mb_schedule.specs.declared.schedule.Schedule.{Schedule}
+use Rattle.mb_schedule.specs.declared.schedule.WorldEvent.{WorldEvent}
 use Rattle.mb_sched.specs.Words.{pieces, words, is, decimal_value, is_decimal, number_in, named, host_in, client_in, name_in, is_hex, is_operation, bytes_of, operation_of, digest_of, all_of}
 use Rattle.mb_sched.specs.Lines.{◌>>=◌, numbered, read_line, lines, is_ended}
 use Rattle.mb_sched.specs.TextLines.{exact_line, keyword_line, all_lines}
 use Rattle.mb_sched.specs.EventLines.{message_in, seq_in, place_in, place_from_1, ask_of, give_of, take_of, raw_of, patience_of, nudge_of, sign_of, answer_of, reply_of, wish_of, tag_of, numbers_of, messages_of, prepare_of, commit_of, checkpoint_of, change_of, as_of, stamp_raw_of, stamped_of, stamp_of, event_line}
 use Rattle.mb_sched.specs.Headers.{is_host_name, rise, are_faulty, is_host_of, is_client_of, marks_of, faulty_named, faulty_by_name, faulty_line, HeaderContents, header_by, header_of}
 use Rattle.mb_sched.specs.Schedules.{line_number, events_from, with_events, contents, schedule_of, IsScheduleText}
-use Rattle.mb_sched.specs.Limits.{NameFits, EventFits, IsSchedule}
+use Rattle.mb_schedule.specs.Limits.{NameFits, EventFits, IsSchedule}
 use Rattle.mb_sched.proofs.ReadSteps.{okay, ok_is, bind_ok, numbered_ok, allowed}
 use Rattle.mb_sched.proofs.ReadWords.{some_is, bind_some, as_many}
 use Rattle.mb_sched.proofs.FaultyMarks.{mark_at, few_marked}

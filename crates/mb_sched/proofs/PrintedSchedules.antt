@@ -11,18 +11,18 @@ use Rattle.mb_base.specs.Shapes.{Bytes, max_faults, interval, client_count, host
 use Rattle.mb_base.specs.declared.shape.Shape.{Shape}
 use Rattle.mb_parts.specs.Fits.{IsCounter, IsPlace, IsPosition}
 use Rattle.mb_sched.specs.declared.header.Marks.{Marks}
-use Rattle.mb_sched.specs.declared.schedule.Name.{Name}
-use Rattle.mb_sched.specs.declared.schedule.Name.TheVariants as name
-use Rattle.mb_sched.specs.declared.schedule.Schedule.{Schedule}
-use Rattle.mb_sched.specs.declared.schedule.WorldEvent.{WorldEvent}
-use Rattle.mb_sched.specs.declared.schedule.WorldEvent.TheVariants.{Ask, Give, Take, Raw, Patience, Nudge, Sign, TagReply, TagWish, StampPrepare, StampCommit, StampCheckpoint, StampChange, StampAs, StampRaw}
+use Rattle.mb_schedule.specs.declared.schedule.Name.{Name}
+use Rattle.mb_schedule.specs.declared.schedule.Name.TheVariants as name
+use Rattle.mb_schedule.specs.declared.schedule.Schedule.{Schedule}
+use Rattle.mb_schedule.specs.declared.schedule.WorldEvent.{WorldEvent}
+use Rattle.mb_schedule.specs.declared.schedule.WorldEvent.TheVariants.{Ask, Give, Take, Raw, Patience, Nudge, Sign, TagReply, TagWish, StampPrepare, StampCommit, StampCheckpoint, StampChange, StampAs, StampRaw}
 use Rattle.mb_sched.specs.Words.{words, digest_of, host_in, client_in, name_in, all_of}
 use Rattle.mb_sched.specs.Lines.{◌>>=◌, lines, is_ended, read_line}
 use Rattle.mb_sched.specs.TextLines.{all_lines}
 use Rattle.mb_sched.specs.Headers.{is_host_name, rise, are_faulty, marks_of, faulty_line, header_by, header_of, HeaderContents}
 use Rattle.mb_sched.specs.EventLines.{message_in, seq_in, place_in, place_from_1, numbers_of, messages_of, event_line}
 use Rattle.mb_sched.specs.Schedules.{Contents, with_events, events_from, schedule_of, contents}
-use Rattle.mb_sched.specs.Limits.{NameFits, EventFits, IsSchedule}
+use Rattle.mb_schedule.specs.Limits.{NameFits, EventFits, IsSchedule}
 use Rattle.mb_sched.specs.Printing.{host_name, client_name}
 use Rattle.mb_sched.specs.ScheduleText.{line_text, name_text, marked, event_words, event_text, schedule_text, IsPrintable, KeepsLimits}
 use Rattle.mb_sched.proofs.FaultyMarks.{mark_at, marked_rise, hosts_named, host_marks, client_marks}

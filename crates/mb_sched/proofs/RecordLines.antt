@@ -5,8 +5,8 @@ use Rattle.std.proofs.lemmas.Bool.{ne_eqb}
 use Rattle.mb_base.specs.Shapes.{Bytes}
 use Rattle.mb_msg.specs.declared.event.Event.{Event}
 use Rattle.mb_sched.specs.declared.records.Entry.{Entry}
-use Rattle.mb_sched.specs.declared.schedule.BadText.{BadText}
-use Rattle.mb_sched.specs.declared.schedule.BadText.TheVariants as text
+use Rattle.mb_sched.specs.declared.bad_text.BadText.{BadText}
+use Rattle.mb_sched.specs.declared.bad_text.BadText.TheVariants as text
 use Rattle.mb_sched.specs.Words.{is}
 use Rattle.mb_sched.specs.Lines.{lines, is_ended, ◌>>=◌, numbered, Faults}
 use Rattle.mb_sched.specs.Records.{event_said, entry_by, end_by, entries_from, next_entry}

@@ -2,8 +2,8 @@
 use Rattle.std.proofs.Common.{◌≡◌, ℕ, zero, suc, List, [], ◌∷◌, drop, codes, Result, Ok, refl}
 use Rattle.std.specs.Prelude.{slice_get}
 use Rattle.mb_base.specs.Shapes.{Bytes}
-use Rattle.mb_sched.specs.declared.schedule.BadText.{BadText}
-use Rattle.mb_sched.specs.declared.schedule.BadText.TheVariants as text
+use Rattle.mb_sched.specs.declared.bad_text.BadText.{BadText}
+use Rattle.mb_sched.specs.declared.bad_text.BadText.TheVariants as text
 use Rattle.mb_sched.specs.declared.records.Entry.{Entry}
 use Rattle.mb_sched.specs.Lines.{lines, is_ended, ◌>>=◌, read_line, Faults}
 use Rattle.mb_sched.specs.Settings.{SettingsContents, settings_of}

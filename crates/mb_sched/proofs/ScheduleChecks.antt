@@ -2,8 +2,8 @@
 use Rattle.std.proofs.Common.{◌≡◌, ◌∷◌, ◌++◌, [], true, false, Ok, Err, codes, refl, replicate}
 use Rattle.hex.proofs.OnLiterals.{hex_on_literals}
 use Rattle.mb_base.specs.Shapes.{Bytes}
-use Rattle.mb_sched.specs.declared.schedule.Name.TheVariants as name
-use Rattle.mb_sched.specs.declared.schedule.WorldEvent.TheVariants.{Ask, Give, Raw, StampPrepare}
+use Rattle.mb_schedule.specs.declared.schedule.Name.TheVariants as name
+use Rattle.mb_schedule.specs.declared.schedule.WorldEvent.TheVariants.{Ask, Give, Raw, StampPrepare}
 use Rattle.mb_sched.specs.Headers.{header_by, are_faulty}
 use Rattle.mb_sched.specs.EventLines.{event_line}
 use Rattle.mb_sched.specs.Schedules.{schedule_of}

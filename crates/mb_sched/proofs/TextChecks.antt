@@ -7,9 +7,9 @@ use Rattle.hex.specs.Hex.{encode_with}
 use Rattle.mb_base.specs.Shapes.{Bytes}
 use Rattle.mb_msg.specs.declared.event.Placed.{Placed}
 use Rattle.mb_parts.specs.declared.floor.Phase.TheVariants.{Changing, Entered, Open}
-use Rattle.mb_sched.specs.declared.report.HostLine.{HostLine}
-use Rattle.mb_sched.specs.declared.report.Report.{Report}
-use Rattle.mb_sched.specs.declared.report.Word.TheVariants.{BadUi, Stale, NeedBody}
+use Rattle.mb_schedule.specs.declared.report.HostLine.{HostLine}
+use Rattle.mb_schedule.specs.declared.report.Report.{Report}
+use Rattle.mb_schedule.specs.declared.report.Word.TheVariants.{BadUi, Stale, NeedBody}
 use Rattle.mb_sched.specs.Report.{report_text}
 
 -- a host that executed one request in view 0

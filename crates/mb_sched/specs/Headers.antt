@@ -4,8 +4,8 @@ use Rattle.std.specs.List.{list_any, count_by, range_with_len}
 use Rattle.mb_base.specs.Shapes.{Bytes, max_faults, interval, client_count}
 use Rattle.mb_sched.specs.declared.header.Header.{Header}
 use Rattle.mb_sched.specs.declared.header.Marks.{Marks}
-use Rattle.mb_sched.specs.declared.schedule.Name.{Name}
-use Rattle.mb_sched.specs.declared.schedule.Name.TheVariants.{Host, Client}
+use Rattle.mb_schedule.specs.declared.schedule.Name.{Name}
+use Rattle.mb_schedule.specs.declared.schedule.Name.TheVariants.{Host, Client}
 use Rattle.mb_sched.specs.Words.{words, is, number_in, name_in, all_of, digest_of}
 use Rattle.mb_sched.specs.Lines.{◌>>=◌, read_line}
 use Rattle.mb_sched.specs.TextLines.{exact_line, keyword_line}

@@ -3,7 +3,6 @@ pub mod Lines
 pub mod EventLines
 pub mod Headers
 pub mod Schedules
-pub mod Limits
 pub mod ScheduleText
 pub mod Printing
 pub mod Report

@@ -7,14 +7,14 @@ use Rattle.mb_msg.specs.declared.event.Placed.{Placed}
 use Rattle.mb_msg.specs.declared.event.Slot.{Slot}
 use Rattle.mb_parts.specs.declared.floor.Phase.{Phase}
 use Rattle.mb_parts.specs.declared.floor.Phase.TheVariants.{Changing, Entered, Open}
-use Rattle.mb_sched.specs.declared.report.ClientLine.{ClientLine}
-use Rattle.mb_sched.specs.declared.report.HostLine.{HostLine}
-use Rattle.mb_sched.specs.declared.report.HostState.{HostState}
-use Rattle.mb_sched.specs.declared.report.LastResult.{LastResult}
-use Rattle.mb_sched.specs.declared.report.RefusedLine.{RefusedLine}
-use Rattle.mb_sched.specs.declared.report.Report.{Report}
-use Rattle.mb_sched.specs.declared.report.Word.{Word}
-use Rattle.mb_sched.specs.declared.report.Word.TheVariants.{Malformed, BadUi, BadTag, Stale, Ahead, Illegal, Convicted, NeedBody, LaterView, BeyondWindow, Unusable, WrongDigest, BadState, Old, OtherSeq}
+use Rattle.mb_schedule.specs.declared.report.ClientLine.{ClientLine}
+use Rattle.mb_schedule.specs.declared.report.HostLine.{HostLine}
+use Rattle.mb_schedule.specs.declared.report.HostState.{HostState}
+use Rattle.mb_schedule.specs.declared.report.LastResult.{LastResult}
+use Rattle.mb_schedule.specs.declared.report.RefusedLine.{RefusedLine}
+use Rattle.mb_schedule.specs.declared.report.Report.{Report}
+use Rattle.mb_schedule.specs.declared.report.Word.{Word}
+use Rattle.mb_schedule.specs.declared.report.Word.TheVariants.{Malformed, BadUi, BadTag, Stale, Ahead, Illegal, Convicted, NeedBody, LaterView, BeyondWindow, Unusable, WrongDigest, BadState, Old, OtherSeq}
 use Rattle.mb_sched.specs.Printing.{client_name, host_name, line_of, hex_word}
 
 -- whether a request changed the state

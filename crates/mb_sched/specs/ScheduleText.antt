@@ -5,12 +5,12 @@ use Rattle.std.specs.Str.{byte}
 use Rattle.std.specs.Fmt.{decimal}
 use Rattle.hex.specs.Hex.{encode_lower, IsBytes}
 use Rattle.mb_base.specs.Shapes.{Bytes, max_faults, interval, client_count}
-use Rattle.mb_sched.specs.declared.schedule.Schedule.{Schedule}
-use Rattle.mb_sched.specs.declared.schedule.WorldEvent.{WorldEvent}
-use Rattle.mb_sched.specs.declared.schedule.WorldEvent.TheVariants.{Ask, Give, Take, Raw, Patience, Nudge, Sign, TagReply, TagWish, StampPrepare, StampCommit, StampCheckpoint, StampChange, StampAs, StampRaw}
-use Rattle.mb_sched.specs.declared.schedule.Name.{Name}
-use Rattle.mb_sched.specs.declared.schedule.Name.TheVariants as name
-use Rattle.mb_sched.specs.Limits.{IsSchedule}
+use Rattle.mb_schedule.specs.declared.schedule.Schedule.{Schedule}
+use Rattle.mb_schedule.specs.declared.schedule.WorldEvent.{WorldEvent}
+use Rattle.mb_schedule.specs.declared.schedule.WorldEvent.TheVariants.{Ask, Give, Take, Raw, Patience, Nudge, Sign, TagReply, TagWish, StampPrepare, StampCommit, StampCheckpoint, StampChange, StampAs, StampRaw}
+use Rattle.mb_schedule.specs.declared.schedule.Name.{Name}
+use Rattle.mb_schedule.specs.declared.schedule.Name.TheVariants as name
+use Rattle.mb_schedule.specs.Limits.{IsSchedule}
 use Rattle.mb_sched.specs.Printing.{client_name, host_name, hex_word}
 
 -- words with a space between each two, and the LF behind them

@@ -1,19 +1,16 @@
 -- What a whole text says: a schedule, or the number of its first line that is bad.
 use Rattle.std.specs.Prelude.{◌≡◌, ℕ, ◌+◌, ◌*◌, ◌≤◌, ◌<◌, Bool, List, length, drop, Result, Ok, Err}
 use Rattle.mb_base.specs.Shapes.{Bytes, max_faults, interval, client_count}
-use Rattle.mb_sched.specs.declared.schedule.BadText.{BadText}
-use Rattle.mb_sched.specs.declared.schedule.BadText.TheVariants as text
-use Rattle.mb_sched.specs.declared.schedule.Schedule.{Schedule}
-use Rattle.mb_sched.specs.declared.schedule.WorldEvent.{WorldEvent}
+use Rattle.mb_sched.specs.declared.bad_text.BadText.{BadText}
+use Rattle.mb_sched.specs.declared.bad_text.BadText.TheVariants as text
+use Rattle.mb_schedule.specs.declared.schedule.Schedule.{Schedule}
+use Rattle.mb_schedule.specs.declared.schedule.WorldEvent.{WorldEvent}
+use Rattle.mb_schedule.specs.Limits.{max_text}
 use Rattle.mb_sched.specs.Words.{words}
 use Rattle.mb_sched.specs.Lines.{lines, is_ended, ◌>>=◌}
 use Rattle.mb_sched.specs.TextLines.{all_lines}
 use Rattle.mb_sched.specs.Headers.{HeaderContents, header_of}
 use Rattle.mb_sched.specs.EventLines.{event_line}
-
--- the most bytes that a text may have
-abbrev pub max_text : ℕ
-max_text = 16777216
 
 -- the number of the line of an event; events count from 1
 abbrev pub line_number : ℕ → ℕ

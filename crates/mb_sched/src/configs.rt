@@ -9,9 +9,9 @@ ghost use Rattle.mb_base.specs.Shapes.{Bytes};
 ghost use Rattle.mb_sched.specs.Spellings.{SpellsConfig};
 ghost use Rattle.mb_sched.specs.Configs.{ConfigContents, max_config, op_line, config_of, config_contents, op_text, config_text, ConfigFits};
 
+use crate::bad_text::BadText;
 use crate::lines::Lines;
 use crate::printing::hex_word;
-use crate::schedule::BadText;
 use crate::settings::{print_settings, read_settings};
 use crate::text_lines::word_behind;
 use crate::words::operation_of;

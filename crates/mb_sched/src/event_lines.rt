@@ -5,12 +5,12 @@ ghost use Rattle.mb_base.specs.Shapes.{host_count, client_count};
 ghost use Rattle.mb_sched.specs.Words.{words, texts, after};
 ghost use Rattle.mb_sched.specs.EventLines.{message_in, seq_in, place_in, place_from_1, ask_of, give_of, take_of, raw_of, patience_of, nudge_of, sign_of, answer_of, reply_of, wish_of, tag_of, numbers_of, messages_of, prepare_of, commit_of, checkpoint_of, change_of, as_of, stamp_raw_of, stamped_of, stamp_of, event_by, event_line};
 
-use crate::schedule::WorldEvent;
 use crate::words::{
     bytes_of, client_in, digest_of, host_in, is_word, name_in, number_in, operation_of, words_of,
 };
 use mb_base::{Client, Host, Items, NoMemory, Seq, Shape};
 use mb_parts::MAX_REQUESTS;
+use mb_schedule::WorldEvent;
 use std::alloc::Global;
 
 /// The greatest view and the greatest position, 2^63 - 1.

@@ -8,11 +8,12 @@ ghost use Rattle.mb_sched.specs.Words.{words, words_behind, all_of, name_in};
 ghost use Rattle.mb_sched.specs.Lines.{lines, is_ended, read_line, Answers};
 ghost use Rattle.mb_sched.specs.Headers.{is_host_name, is_before, rise, are_faulty, is_host_of, is_client_of, marks_of, faulty_line, header_by, header_of, header_contents};
 
+use crate::bad_text::BadText;
 use crate::lines::Lines;
-use crate::schedule::{BadText, Name};
 use crate::text_lines::{read_key, read_number, read_title};
 use crate::words::{cut, is_word, name_in};
 use mb_base::{Client, Host, Items, Key, NoMemory, Shape};
+use mb_schedule::Name;
 use std::alloc::Global;
 
 /// A mark for each host, and one for each client.

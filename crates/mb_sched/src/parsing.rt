@@ -3,16 +3,18 @@
 ghost use Rattle.std.specs.Prelude.{◌≡◌, ◌≤◌, length};
 ghost use Rattle.mb_base.specs.Shapes.{Bytes, host_count, client_count};
 ghost use Rattle.mb_sched.specs.Lines.{lines, is_ended, Answers};
-ghost use Rattle.mb_sched.specs.declared.schedule.Schedule.{Schedule};
+ghost use Rattle.mb_schedule.specs.declared.schedule.Schedule.{Schedule};
 ghost use Rattle.mb_sched.specs.ScheduleText.{KeepsLimits, schedule_text};
-ghost use Rattle.mb_sched.specs.Schedules.{events_from, schedule_of, contents, IsScheduleText, Parses, max_text};
-ghost use Rattle.mb_sched.specs.Limits.{IsSchedule};
+ghost use Rattle.mb_sched.specs.Schedules.{events_from, schedule_of, contents, IsScheduleText, Parses};
+ghost use Rattle.mb_schedule.specs.Limits.{max_text};
+ghost use Rattle.mb_schedule.specs.Limits.{IsSchedule};
 
+use crate::bad_text::BadText;
 use crate::event_lines::event_line;
 use crate::header::{Header, Marks, read_header};
 use crate::lines::Lines;
-use crate::schedule::{BadText, Schedule, WorldEvent};
 use mb_base::{Items, Shape};
+use mb_schedule::{Schedule, WorldEvent};
 use std::alloc::Global;
 
 #[cfg(test)]

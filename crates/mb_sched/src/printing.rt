@@ -5,9 +5,9 @@ ghost use Rattle.std.specs.List.{flat_map};
 ghost use Rattle.mb_sched.specs.Printing.{line_of, hex_word, spaced_number};
 ghost use Rattle.mb_sched.specs.Report.{report_text, placed_line, placed_lines, slot_lines, refused_line, host_line, client_lines, result_line, word_name, phase_name, fresh_name};
 
-use crate::report::{ClientLine, HostLine, HostState, LastResult, RefusedLine, Report, Word};
 use mb_base::{Client, Host, NoMemory, Pos};
 use mb_msg::{Phase, Placed, Slot};
+use mb_schedule::{ClientLine, HostLine, HostState, LastResult, RefusedLine, Report, Word};
 use std::alloc::Global;
 use std::fmt::Write;
 

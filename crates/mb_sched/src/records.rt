@@ -14,10 +14,10 @@ ghost use Rattle.mb_sched.specs.declared.records.Entry.{Entry};
 ghost use Rattle.mb_sched.specs.Configs.{config_settings};
 ghost use Rattle.mb_sched.specs.Records.{RecordContents, max_record, id_line, event_said, entry_of, end_by, entries_from, next_entry, record_of, record_contents, event_words, entry_text, record_head, with_entries, record_text, RecordFits};
 
+use crate::bad_text::BadText;
 use crate::configs::Config;
 use crate::lines::Lines;
 use crate::printing::hex_word;
-use crate::schedule::BadText;
 use crate::settings::{print_settings, read_settings};
 use crate::text_lines::{read_number, word_behind};
 use crate::words::{bytes_of, digest_of, is_word, number_in, words_of};

@@ -2,13 +2,13 @@
 
 ghost use Rattle.std.specs.Prelude.{◌≡◌, ◌∷◌, ◌++◌, map, decimal, IfOk, OnOk, string_bytes};
 ghost use Rattle.std.specs.List.{flat_map};
-ghost use Rattle.mb_sched.specs.declared.schedule.WorldEvent.TheVariants as variant;
+ghost use Rattle.mb_schedule.specs.declared.schedule.WorldEvent.TheVariants as variant;
 ghost use Rattle.mb_sched.specs.Printing.{host_name, client_name};
 ghost use Rattle.mb_sched.specs.ScheduleText.{line_text, spaced, marked, faulty_text, event_text, schedule_text};
 
 use crate::printing::{hex_word, print_numbers};
-use crate::schedule::{Name, Schedule, WorldEvent};
 use mb_base::{Client, Digest, Host, NoMemory, Pos, Seq, View};
+use mb_schedule::{Name, Schedule, WorldEvent};
 use std::alloc::Global;
 use std::fmt::Write;
 

@@ -5,8 +5,8 @@ ghost use Rattle.std.specs.Option.{option_copied};
 ghost use Rattle.mb_sched.specs.Lines.{lines, is_ended, Answers};
 ghost use Rattle.mb_sched.specs.Settings.{settings_by, settings_of, settings_contents, settings_text};
 
+use crate::bad_text::BadText;
 use crate::lines::Lines;
-use crate::schedule::BadText;
 use crate::text_lines::{read_key, read_number, read_title};
 use mb_base::{Key, NoMemory, Shape};
 use std::alloc::Global;

@@ -6,7 +6,7 @@ ghost use Rattle.mb_sched.specs.Words.{number_in, digest_of};
 ghost use Rattle.mb_sched.specs.Lines.{read_line, Answers};
 ghost use Rattle.mb_sched.specs.TextLines.{exact_line, word_behind, keyword_line};
 
-use crate::schedule::BadText;
+use crate::bad_text::BadText;
 use crate::words::{digest_of, is_word, number_in, words_of};
 use mb_base::Key;
 

@@ -7,10 +7,10 @@ ghost use Rattle.std.specs.Str.{bytes_eq};
 ghost use Rattle.mb_base.specs.Shapes.{host_count, client_count};
 ghost use Rattle.mb_sched.specs.Words.{pieces, words, texts, decimal_value, is_decimal, number_in, named, host_in, client_in, name_in, is_lower_hex_digit, is_hex, is_operation, bytes_of, operation_of, digest_of};
 
-use crate::schedule::Name;
 use arrayvec::ArrayVec;
 use hex::{FromHex, FromHexError};
 use mb_base::{Client, Host, Items, Key, NoMemory, Shape};
+use mb_schedule::Name;
 use std::alloc::Global;
 
 /// Where the first separator stands.

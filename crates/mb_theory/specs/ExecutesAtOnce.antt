@@ -8,7 +8,7 @@ use Rattle.mb_msg.specs.declared.normal.Commit.{Commit}
 use Rattle.mb_msg.specs.declared.change.Open.{Open}
 use Rattle.mb_msg.specs.declared.change.Plan.{Plan}
 use Rattle.mb_model.specs.declared.known.KnownSlot.{KnownSlot}
-use Rattle.mb_sched.specs.declared.schedule.WorldEvent.{WorldEvent}
+use Rattle.mb_schedule.specs.declared.schedule.WorldEvent.{WorldEvent}
 use Rattle.mb_theory.specs.WorldEvents.{IsCorrect}
 use Rattle.mb_theory.specs.World.{World, System, self_of}
 use Rattle.mb_theory.specs.WorldSteps.{happens}

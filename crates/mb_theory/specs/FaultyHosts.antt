@@ -23,7 +23,7 @@ use Rattle.mb_model.specs.UsableLogs.{normal_limit, other_limit}
 use Rattle.mb_model.specs.Plans.{no_base}
 use Rattle.mb_model.specs.OwnLog.{kept_forms, as_shown}
 use Rattle.mb_model.specs.Sending.{no_ui}
-use Rattle.mb_sched.specs.declared.schedule.Schedule.{Schedule}
+use Rattle.mb_schedule.specs.declared.schedule.Schedule.{Schedule}
 use Rattle.mb_theory.specs.World.{update, World, read, message_at, made}
 
 -- ---- what an event has a faulty host stamp, before it has an identifier

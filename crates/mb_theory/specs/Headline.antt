@@ -6,7 +6,7 @@ use Rattle.mb_parts.specs.Fits.{FitsText}
 use Rattle.mb_model.specs.Service.{Machine}
 use Rattle.mb_model.specs.States.{Snapshots, service_parts}
 use Rattle.mb_theory.specs.Hashed.{HashesApart}
-use Rattle.mb_sched.specs.Limits.{IsSchedule}
+use Rattle.mb_schedule.specs.Limits.{IsSchedule}
 use Rattle.mb_theory.specs.WorldEvents.{IsCorrect}
 use Rattle.mb_theory.specs.World.{World, System, self_of}
 use Rattle.mb_theory.specs.WorldSteps.{world}

@@ -9,7 +9,7 @@ use Rattle.mb_msg.specs.Reading.{message_of}
 use Rattle.mb_msg.specs.declared.event.Event.TheVariants as host
 use Rattle.mb_msg.specs.declared.event.Outcome.{Outcome}
 use Rattle.mb_msg.specs.declared.event.Outcome.TheVariants as outcome
-use Rattle.mb_sched.specs.declared.schedule.WorldEvent.{WorldEvent}
+use Rattle.mb_schedule.specs.declared.schedule.WorldEvent.{WorldEvent}
 use Rattle.mb_theory.specs.WorldEvents.{IsCorrect}
 use Rattle.mb_theory.specs.World.{OfHost, World, System}
 use Rattle.mb_theory.specs.WorldSteps.{happens}

@@ -4,9 +4,9 @@ use Rattle.mb_msg.specs.declared.event.Outcome.{Outcome}
 use Rattle.mb_msg.specs.declared.event.Outcome.TheVariants as outcome
 use Rattle.mb_model.specs.Clients.{Taken}
 use Rattle.mb_model.specs.Clients as client
-use Rattle.mb_sched.specs.declared.report.RefusedLine.{RefusedLine}
-use Rattle.mb_sched.specs.declared.report.Word.{Word}
-use Rattle.mb_sched.specs.declared.report.Word.TheVariants as word
+use Rattle.mb_schedule.specs.declared.report.RefusedLine.{RefusedLine}
+use Rattle.mb_schedule.specs.declared.report.Word.{Word}
+use Rattle.mb_schedule.specs.declared.report.Word.TheVariants as word
 use Rattle.mb_theory.specs.World.{Seen, OfHost, OfClient, Unread, Made, Lost}
 
 abbrev pub refused_line : ℕ → Word → List ℕ → Option RefusedLine

@@ -24,8 +24,8 @@ use Rattle.mb_model.specs.HostStep.{transition}
 use Rattle.mb_model.specs.Clients.{Asker, Taken, no_asker, asks, taken, takes}
 use Rattle.mb_theory.specs.Inside.{strings_in}
 use Rattle.mb_model.specs.Compared.{inside_some}
-use Rattle.mb_sched.specs.declared.schedule.Schedule.{Schedule}
-use Rattle.mb_sched.specs.Limits.{is_faulty, is_faulty_client}
+use Rattle.mb_schedule.specs.declared.schedule.Schedule.{Schedule}
+use Rattle.mb_schedule.specs.Limits.{is_faulty, is_faulty_client}
 
 -- what an event answers
 pub data Seen : Type 0 where

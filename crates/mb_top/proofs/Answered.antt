@@ -5,7 +5,7 @@ use Rattle.std.specs.Io.KnownBytes.{Appends}
 use Rattle.std.proofs.lemmas.Option.{slice_get_within}
 use Rattle.mb_base.specs.Shapes.{Bytes}
 use Rattle.mb_edge.specs.Faults.{Rose}
-use Rattle.mb_sched.specs.declared.schedule.Schedule.{Schedule}
+use Rattle.mb_schedule.specs.declared.schedule.Schedule.{Schedule}
 use Rattle.mb_sched.specs.Schedules.{IsScheduleText}
 use Rattle.mb_theory.specs.Stops.{WorldStop}
 use Rattle.mb_top.specs.Runs.{AreUnstopped, IsFirstStopped}

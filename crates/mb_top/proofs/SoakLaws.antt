@@ -2,8 +2,8 @@
 use Rattle.std.proofs.Common.{◌≡◌, ℕ, zero, suc, ◌+◌, ◌<◌, ◌≤◌, true, false, length, Option, Some, None, Err, add-one, refl, sym, ap, subst, ◌∙◌, arith}
 use Rattle.std.specs.List.{slice_get}
 use Rattle.mb_kv.specs.Pairs.{Pairs}
-use Rattle.mb_sched.specs.declared.schedule.WorldEvent.{WorldEvent}
-use Rattle.mb_sched.specs.Limits.{EventFits}
+use Rattle.mb_schedule.specs.declared.schedule.WorldEvent.{WorldEvent}
+use Rattle.mb_schedule.specs.Limits.{EventFits}
 use Rattle.mb_theory.specs.World.{World as State}
 use Rattle.mb_theory.specs.Stops.{stop_of}
 use Rattle.mb_theory.specs.Hashed.{HashesApart}

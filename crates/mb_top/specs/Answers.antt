@@ -1,9 +1,10 @@
 -- What is answered to a text: the status, and what is to be written.
 use Rattle.std.specs.Prelude.{◌≡◌, ℕ, ◌≤◌, ◌<◌, length, Err}
 use Rattle.mb_base.specs.Shapes.{Bytes}
-use Rattle.mb_sched.specs.declared.schedule.Schedule.{Schedule}
+use Rattle.mb_schedule.specs.declared.schedule.Schedule.{Schedule}
 use Rattle.mb_sched.specs.Report.{report_text}
-use Rattle.mb_sched.specs.Schedules.{max_text, line_number, schedule_of, IsScheduleText}
+use Rattle.mb_sched.specs.Schedules.{line_number, schedule_of, IsScheduleText}
+use Rattle.mb_schedule.specs.Limits.{max_text}
 use Rattle.mb_theory.specs.Stops.{Forged, ForgedTag}
 use Rattle.mb_world.specs.Reports.{report_of}
 use Rattle.mb_answer.specs.Texts.{too_long_text, bad_line_text, forged_text, forged_tag_text}

@@ -2,7 +2,7 @@
 use Rattle.std.specs.Prelude.{◌≡◌, ℕ, ◌+◌, ◌≤◌, List, [], ◌∷◌, Option, Some, None, IfSome}
 use Rattle.std.specs.Io.KnownBytes.{IsAtEnd}
 use Rattle.mb_base.specs.Shapes.{Bytes}
-use Rattle.mb_sched.specs.Schedules.{max_text}
+use Rattle.mb_schedule.specs.Limits.{max_text}
 use Rattle.mb_sched.specs.Configs.{max_config}
 use Rattle.mb_sched.specs.Records.{max_record}
 use Rattle.mb_top.specs.declared.command.Command.{Command}

@@ -1,8 +1,8 @@
 -- What becomes of a schedule's events: all happen, or something stands in the way of one, and of none before it. Events count from 1.
 use Rattle.std.specs.Prelude.{◌≡◌, ℕ, ◌-◌, ◌≤◌, Bool, true, false, length, Some, Result, Ok, Err, slice_get}
 use Rattle.mb_kv.specs.Pairs.{Pairs}
-use Rattle.mb_sched.specs.declared.schedule.Schedule.{Schedule}
-use Rattle.mb_sched.specs.declared.schedule.WorldEvent.{WorldEvent}
+use Rattle.mb_schedule.specs.declared.schedule.Schedule.{Schedule}
+use Rattle.mb_schedule.specs.declared.schedule.WorldEvent.{WorldEvent}
 use Rattle.mb_theory.specs.Stops.{WorldStop as Stop, NotFaulty, NoSuchMessage, WrongKind, Forged, ForgedTag, stop_of, IsUnstopped}
 use Rattle.mb_service.specs.declared.service.Service.{Ghosts}
 use Rattle.mb_world.specs.declared.seen.WorldStop.{WorldStop}

@@ -4,8 +4,8 @@ use Rattle.std.proofs.Common.{lit≤}
 use Rattle.std.specs.Fmt.{decimal}
 use Rattle.mb_base.specs.Shapes.{Bytes}
 use Rattle.mb_base.specs.declared.shape.Shape.{Shape}
-use Rattle.mb_sched.specs.declared.report.Report.{Report}
-use Rattle.mb_sched.specs.declared.schedule.Schedule.{Schedule}
+use Rattle.mb_schedule.specs.declared.report.Report.{Report}
+use Rattle.mb_schedule.specs.declared.schedule.Schedule.{Schedule}
 use Rattle.mb_world.specs.Reports.{report_of}
 use Rattle.mb_make.specs.Soaks.{events_drawn}
 use Rattle.mb_make.specs.Summary.{greatest_view, longest_log, all_accepted}

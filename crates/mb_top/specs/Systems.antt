@@ -4,7 +4,7 @@ use Rattle.mb_kv.specs.Pairs.{Pairs}
 use Rattle.mb_kv.specs.Operations.{after, answer}
 use Rattle.mb_kv.specs.Snapshots.{part_of, restored}
 use Rattle.mb_cache.specs.Represents.{machine_of, snapshots_of}
-use Rattle.mb_sched.specs.declared.schedule.Schedule.{Schedule}
+use Rattle.mb_schedule.specs.declared.schedule.Schedule.{Schedule}
 use Rattle.mb_theory.specs.World.{World, System}
 use Rattle.mb_theory.specs.WorldSteps.{world as any_world}
 

@@ -5,9 +5,9 @@ ghost use Rattle.std.specs.Io.KnownBytes.{IsAtEnd};
 ghost use Rattle.mb_answer.specs.Devices.{device, IsLow};
 ghost use Rattle.mb_edge.specs.Faults.{TellsFaults};
 ghost use Rattle.mb_edge.specs.Pieces.{ConsumesBetween};
-ghost use Rattle.mb_sched.specs.Limits.{IsSchedule};
+ghost use Rattle.mb_schedule.specs.Limits.{IsSchedule};
 ghost use Rattle.mb_sched.specs.Report.{report_text};
-ghost use Rattle.mb_sched.specs.Schedules.{max_text};
+ghost use Rattle.mb_schedule.specs.Limits.{max_text};
 ghost use Rattle.mb_theory.specs.World.{World as WorldState, nothing_happened};
 ghost use Rattle.mb_world.specs.Reports.{report_of};
 ghost use Rattle.mb_world.specs.Tables.{RepresentsWorld};
@@ -21,7 +21,8 @@ use mb_answer::{Answer, DONE, bad_line, forged, forged_tag, respond, tell_unread
 use mb_base::{Counter, Host, NoMemory};
 use mb_edge::{Sink, Source, read_all};
 use mb_kv::Kv;
-use mb_sched::{BadText, MAX_TEXT, Schedule, parse_schedule, print_report};
+use mb_sched::{BadText, MAX_TEXT, parse_schedule, print_report};
+use mb_schedule::Schedule;
 use mb_world::{World, WorldStop};
 use std::alloc::{AllocError, Global};
 

@@ -19,7 +19,7 @@ use mb_base::{Key, NoMemory, Shape, View};
 use mb_edge::Sink;
 use mb_kv::Kv;
 use mb_make::Maker;
-use mb_sched::{ClientLine, HostLine, Report, WorldEvent};
+use mb_schedule::{ClientLine, HostLine, Report, WorldEvent};
 use mb_world::{World, WorldStop};
 use std::alloc::Global;
 

@@ -5,7 +5,7 @@ ghost use Rattle.std.specs.Io.KnownBytes.{IsAtEnd};
 ghost use Rattle.mb_base.specs.Shapes.{Bytes};
 ghost use Rattle.mb_edge.specs.Faults.{Rose, TellsFaults};
 ghost use Rattle.mb_edge.specs.Pieces.{ConsumesBetween};
-ghost use Rattle.mb_sched.specs.declared.schedule.Schedule.{Schedule};
+ghost use Rattle.mb_schedule.specs.declared.schedule.Schedule.{Schedule};
 ghost use Rattle.mb_sched.specs.Schedules.{IsScheduleText};
 ghost use Rattle.mb_theory.specs.Hashed.{HashesApart};
 ghost use Rattle.mb_theory.specs.Headline.{Promises};

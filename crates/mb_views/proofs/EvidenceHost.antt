@@ -13,7 +13,7 @@ use Rattle.mb_parts.specs.Certificates.{is_evidence}
 use Rattle.mb_parts.specs.Issued.{is_issued}
 use Rattle.mb_model.proofs.Members.{In, any_in, in_map}
 use Rattle.mb_model.proofs.Quorums.{quorum_has_correct}
-use Rattle.mb_sched.specs.Limits.{is_faulty}
+use Rattle.mb_schedule.specs.Limits.{is_faulty}
 use Rattle.mb_theory.specs.WorldEvents.{IsCorrect}
 use Rattle.mb_theory.specs.World.{World, System, stamps}
 use Rattle.mb_theory.specs.WorldRecord.{issued}

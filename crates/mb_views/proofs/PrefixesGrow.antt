@@ -19,7 +19,7 @@ use Rattle.mb_parts.specs.Issued.{stamped_prefix}
 use Rattle.mb_parts.proofs.CertificateLaws.{ordered_more, inner_more}
 use Rattle.mb_parts.proofs.LongestOrdered.{prefix_whole, longest}
 use Rattle.mb_theory.specs.World.{World, System, stamps}
-use Rattle.mb_sched.specs.declared.schedule.Schedule.{Schedule}
+use Rattle.mb_schedule.specs.declared.schedule.Schedule.{Schedule}
 use Rattle.mb_theory.specs.WorldRecord.{issued, prefix}
 use Rattle.mb_known.proofs.Grown.{Grows, issued_grows}
 use Rattle.mb_known.proofs.Facts.{Facts}

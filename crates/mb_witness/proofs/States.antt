@@ -7,7 +7,7 @@ use Rattle.mb_msg.specs.Bodies.{body_digest}
 use Rattle.mb_msg.specs.Spelling.{spelling, floors_body_bytes}
 use Rattle.mb_msg.specs.declared.message.Message.TheVariants as message
 use Rattle.mb_model.specs.Histories.{Accepted, Installed, History}
-use Rattle.mb_sched.specs.declared.schedule.Schedule.{Schedule}
+use Rattle.mb_schedule.specs.declared.schedule.Schedule.{Schedule}
 use Rattle.mb_theory.specs.World.{World, nothing_happened}
 use Rattle.mb_theory.specs.Justification.{IsJustified, IsJustifiedState, IsKnown}
 use Rattle.mb_theory.proofs.WorldsOnLiterals.{worlds_on_literals}

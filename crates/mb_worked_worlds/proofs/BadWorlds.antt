@@ -19,7 +19,7 @@ use Rattle.mb_model.specs.Service.{reply_of, batch_of}
 use Rattle.mb_model.specs.States.{state_digest}
 use Rattle.mb_model.specs.Histories.{Entry, Stamped, Closed, Executed, Installed, History}
 use Rattle.mb_model.specs.Clients.{no_asker}
-use Rattle.mb_sched.specs.Limits.{IsSchedule}
+use Rattle.mb_schedule.specs.Limits.{IsSchedule}
 use Rattle.mb_theory.specs.Hashed.{HashesApart}
 use Rattle.mb_theory.specs.World.{World, System, nothing_happened}
 use Rattle.mb_theory.specs.WorldSteps.{world}

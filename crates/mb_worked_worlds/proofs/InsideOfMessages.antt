@@ -15,8 +15,8 @@ use Rattle.mb_msg.specs.declared.stamped.Shown.TheVariants as shown
 use Rattle.mb_msg.specs.declared.stamped.Stamped.{Stamped}
 use Rattle.mb_msg.specs.declared.stamped.Stamped.TheVariants as stamped
 use Rattle.mb_msg.specs.Spelling.{spelling}
-use Rattle.mb_sched.specs.declared.schedule.Name.TheVariants as name
-use Rattle.mb_sched.specs.declared.schedule.WorldEvent.TheVariants.{Raw}
+use Rattle.mb_schedule.specs.declared.schedule.Name.TheVariants as name
+use Rattle.mb_schedule.specs.declared.schedule.WorldEvent.TheVariants.{Raw}
 use Rattle.mb_theory.specs.Inside.{claims_in}
 use Rattle.mb_theory.specs.WorldSteps.{world}
 use Rattle.mb_theory.proofs.WorldsOnLiterals.{worlds_on_literals}

@@ -9,7 +9,7 @@ use Rattle.mb_base.specs.Shapes.{Bytes}
 use Rattle.mb_usig.proofs.OnLiterals.{tags_on_literals}
 use Rattle.mb_parts.specs.Fits.{FitsText}
 use Rattle.mb_model.proofs.Hex.{unhex}
-use Rattle.mb_sched.specs.Limits.{EventFits, IsSchedule}
+use Rattle.mb_schedule.specs.Limits.{EventFits, IsSchedule}
 use Rattle.mb_theory.specs.Hashed.{HashesApart}
 use Rattle.mb_theory.specs.WorldSteps.{world}
 use Rattle.mb_theory.specs.Stops.{IsUnstopped, stop_of}

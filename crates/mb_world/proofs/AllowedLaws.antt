@@ -8,7 +8,7 @@ use Rattle.std.proofs.lemmas.Option.{same_Some, none-some}
 use Rattle.mb_base.specs.Shapes.{Bytes}
 use Rattle.mb_msg.specs.declared.message.Message.{Message}
 use Rattle.mb_model.proofs.Options.{option_cases}
-use Rattle.mb_sched.specs.declared.schedule.Schedule.{Schedule}
+use Rattle.mb_schedule.specs.declared.schedule.Schedule.{Schedule}
 use Rattle.mb_theory.specs.World.{World as WorldState, numbered, read, message_at}
 use Rattle.mb_theory.specs.Forged.{forged_claim, has_forged_tag}
 use Rattle.mb_theory.specs.Stops.{WorldStop as Stop, Forged, ForgedTag, to_correct}

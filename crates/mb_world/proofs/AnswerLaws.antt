@@ -2,8 +2,8 @@
 use Rattle.std.proofs.Common.{◌≡◌, Option, None, Result, Ok, Err, IfOk, refl}
 use Rattle.std.specs.Option.{option_or}
 use Rattle.mb_msg.specs.declared.stamped.Stamped.{Stamped}
-use Rattle.mb_sched.specs.declared.schedule.Schedule.{Schedule}
-use Rattle.mb_sched.specs.declared.schedule.WorldEvent.{WorldEvent}
+use Rattle.mb_schedule.specs.declared.schedule.Schedule.{Schedule}
+use Rattle.mb_schedule.specs.declared.schedule.WorldEvent.{WorldEvent}
 use Rattle.mb_theory.specs.World.{World as WorldState}
 use Rattle.mb_theory.specs.Stops.{WorldStop as Stop, name_stop, missing_stop, stop_of}
 use Rattle.mb_world.specs.declared.seen.WorldStop.{WorldStop}

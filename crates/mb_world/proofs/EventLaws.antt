@@ -5,12 +5,12 @@ use Rattle.mb_base.specs.Shapes.{Bytes, host_count}
 use Rattle.mb_msg.specs.declared.stamped.Stamped.{Stamped}
 use Rattle.mb_msg.specs.declared.message.Message.TheVariants as message
 use Rattle.mb_msg.specs.Spelling.{spelling}
-use Rattle.mb_sched.specs.declared.schedule.Name.{Name}
-use Rattle.mb_sched.specs.declared.schedule.Name.TheVariants as name
-use Rattle.mb_sched.specs.declared.schedule.WorldEvent.{WorldEvent}
-use Rattle.mb_sched.specs.declared.schedule.WorldEvent.TheVariants.{Ask, Give, Take, Raw, Patience, Nudge, Sign, TagReply, TagWish, StampPrepare, StampCommit, StampCheckpoint, StampChange, StampAs, StampRaw}
+use Rattle.mb_schedule.specs.declared.schedule.Name.{Name}
+use Rattle.mb_schedule.specs.declared.schedule.Name.TheVariants as name
+use Rattle.mb_schedule.specs.declared.schedule.WorldEvent.{WorldEvent}
+use Rattle.mb_schedule.specs.declared.schedule.WorldEvent.TheVariants.{Ask, Give, Take, Raw, Patience, Nudge, Sign, TagReply, TagWish, StampPrepare, StampCommit, StampCheckpoint, StampChange, StampAs, StampRaw}
 use Rattle.mb_base.specs.declared.shape.Shape.{Shape}
-use Rattle.mb_sched.specs.Limits.{EventFits, is_faulty, is_faulty_client}
+use Rattle.mb_schedule.specs.Limits.{EventFits, is_faulty, is_faulty_client}
 use Rattle.mb_theory.specs.World.{World as WorldState, System, made, request_of}
 use Rattle.mb_theory.specs.WorldEvents.{culprit, is_faulty_name}
 use Rattle.mb_theory.specs.WorldSteps.{happens}

@@ -3,9 +3,9 @@ use Rattle.std.proofs.Common.{◌≡◌, ℕ, List, length, map, refl, ap, ◌�
 use Rattle.std.specs.List.{range_with_len}
 use Rattle.mb_base.specs.Shapes.{host_count, client_count}
 use Rattle.mb_msg.specs.declared.event.Slot.{Slot}
-use Rattle.mb_sched.specs.declared.report.RefusedLine.{RefusedLine}
-use Rattle.mb_sched.specs.declared.report.HostLine.{HostLine}
-use Rattle.mb_sched.specs.declared.report.ClientLine.{ClientLine}
+use Rattle.mb_schedule.specs.declared.report.RefusedLine.{RefusedLine}
+use Rattle.mb_schedule.specs.declared.report.HostLine.{HostLine}
+use Rattle.mb_schedule.specs.declared.report.ClientLine.{ClientLine}
 use Rattle.mb_theory.specs.World.{World as WorldState, System}
 use Rattle.mb_service.specs.declared.service.Service.{Ghosts}
 use Rattle.mb_parties.specs.Lines.{host_line, client_line}

@@ -6,12 +6,12 @@ use Rattle.std.specs.Option.{option_or}
 use Rattle.mb_base.specs.Shapes.{Bytes, host_count}
 use Rattle.mb_msg.specs.declared.stamped.Stamped.{Stamped}
 use Rattle.mb_msg.specs.Stamps.{as_stamped}
-use Rattle.mb_sched.specs.declared.schedule.Name.{Name}
-use Rattle.mb_sched.specs.declared.schedule.Name.TheVariants as name
-use Rattle.mb_sched.specs.declared.schedule.Schedule.{Schedule}
-use Rattle.mb_sched.specs.declared.schedule.WorldEvent.{WorldEvent}
-use Rattle.mb_sched.specs.declared.schedule.WorldEvent.TheVariants.{Ask, Give, Take, Raw, Patience, Nudge, Sign, TagReply, TagWish, StampPrepare, StampCommit, StampCheckpoint, StampChange, StampAs, StampRaw}
-use Rattle.mb_sched.specs.Limits.{EventFits, NameFits}
+use Rattle.mb_schedule.specs.declared.schedule.Name.{Name}
+use Rattle.mb_schedule.specs.declared.schedule.Name.TheVariants as name
+use Rattle.mb_schedule.specs.declared.schedule.Schedule.{Schedule}
+use Rattle.mb_schedule.specs.declared.schedule.WorldEvent.{WorldEvent}
+use Rattle.mb_schedule.specs.declared.schedule.WorldEvent.TheVariants.{Ask, Give, Take, Raw, Patience, Nudge, Sign, TagReply, TagWish, StampPrepare, StampCommit, StampCheckpoint, StampChange, StampAs, StampRaw}
+use Rattle.mb_schedule.specs.Limits.{EventFits, NameFits}
 use Rattle.mb_base.specs.declared.shape.Shape.{Shape}
 use Rattle.mb_parties.proofs.ListLaws.{some_is}
 use Rattle.mb_theory.specs.World.{World as WorldState, numbered}

@@ -10,8 +10,8 @@ use Rattle.mb_base.specs.declared.shape.Shape.{Shape}
 use Rattle.mb_msg.specs.declared.event.Event.TheVariants as event
 use Rattle.mb_model.specs.Clients.{Asker}
 use Rattle.mb_model.specs.Given.{Answer}
-use Rattle.mb_sched.specs.declared.schedule.Schedule.{Schedule}
-use Rattle.mb_sched.specs.Limits.{is_faulty, is_faulty_client}
+use Rattle.mb_schedule.specs.declared.schedule.Schedule.{Schedule}
+use Rattle.mb_schedule.specs.Limits.{is_faulty, is_faulty_client}
 use Rattle.mb_core.specs.declared.replica.Replica.{Replica}
 use Rattle.mb_replica.specs.declared.told.Outgoing.{Outgoing}
 use Rattle.mb_replica.specs.declared.told.Told.{Told}

@@ -5,9 +5,9 @@ use Rattle.mb_base.specs.Shapes.{host_count}
 use Rattle.mb_msg.specs.declared.message.Message.{Message}
 use Rattle.mb_msg.specs.declared.stamped.Stamped.{Stamped}
 use Rattle.mb_msg.specs.Stamps.{as_stamped}
-use Rattle.mb_sched.specs.declared.schedule.Schedule.{Schedule}
-use Rattle.mb_sched.specs.declared.schedule.WorldEvent.{WorldEvent}
-use Rattle.mb_sched.specs.declared.schedule.WorldEvent.TheVariants.{StampPrepare, StampCommit, StampCheckpoint, StampChange, StampAs}
+use Rattle.mb_schedule.specs.declared.schedule.Schedule.{Schedule}
+use Rattle.mb_schedule.specs.declared.schedule.WorldEvent.{WorldEvent}
+use Rattle.mb_schedule.specs.declared.schedule.WorldEvent.TheVariants.{StampPrepare, StampCommit, StampCheckpoint, StampChange, StampAs}
 use Rattle.mb_theory.specs.World.{World}
 use Rattle.mb_theory.specs.FaultyHosts.{prepare_of, commit_for, checkpoint_with, content, change_after}
 use Rattle.std.specs.Option.{option_or}

@@ -2,7 +2,7 @@
 use Rattle.std.specs.Prelude.{length, map}
 use Rattle.std.specs.List.{range_with_len}
 use Rattle.mb_base.specs.Shapes.{host_count, client_count}
-use Rattle.mb_sched.specs.declared.report.Report.{Report}
+use Rattle.mb_schedule.specs.declared.report.Report.{Report}
 use Rattle.mb_theory.specs.Refusals.{refusals}
 use Rattle.mb_theory.specs.World.{World, System}
 use Rattle.mb_parties.specs.Lines.{host_line, client_line}

@@ -3,7 +3,7 @@ use Rattle.std.specs.Prelude.{◌≡◌, ℕ, false}
 use Rattle.mb_msg.specs.declared.event.Event.{Event}
 use Rattle.mb_model.specs.Given.{Answer}
 use Rattle.mb_model.specs.HostStep.{transition}
-use Rattle.mb_sched.specs.Limits.{is_faulty}
+use Rattle.mb_schedule.specs.Limits.{is_faulty}
 use Rattle.mb_theory.specs.World.{World, System, self_of, partway}
 use Rattle.mb_parties.specs.Marks.{AreSentClean}
 

@@ -1,7 +1,7 @@
 -- What the code's world is: a world of the definitions, table by table.
 use Rattle.std.specs.Prelude.{◌≡◌, ℕ, true, false, List, ◌∷◌, length, Result, Ok, Err}
 use Rattle.mb_base.specs.Shapes.{Bytes}
-use Rattle.mb_sched.specs.declared.schedule.Schedule.{Schedule}
+use Rattle.mb_schedule.specs.declared.schedule.Schedule.{Schedule}
 use Rattle.mb_theory.specs.Refusals.{refusals}
 use Rattle.mb_theory.specs.World.{World as WorldState, System, Seen as Answer}
 use Rattle.mb_genuine.specs.Reached.{IsReached}

@@ -11,7 +11,7 @@ use mb_forged::{Checker, ForgedClaim, change_with, checkpoint_with, commit_for, 
 use mb_msg::{Batch, Message, Stamped, Undecoded, decode};
 use mb_parties::{Member, mark_of};
 use mb_parts::{MAX_BATCH, Part, Request, Requests};
-use mb_sched::{Name, WorldEvent};
+use mb_schedule::{Name, WorldEvent};
 use mb_service::Service;
 use std::alloc::Global;
 
@@ -55,7 +55,7 @@ impl<V: Service + Drop> World<V> {
     ghost use Rattle.mb_parts.specs.Fits.{IsPosition, FitsBatch, FitsRequest};
     ghost use Rattle.mb_msg.specs.Fits.{Fits, FitsStamped};
     ghost use Rattle.mb_msg.specs.Stamps.{as_stamped};
-    ghost use Rattle.mb_sched.specs.Limits.{EventFits, NameFits, is_faulty};
+    ghost use Rattle.mb_schedule.specs.Limits.{EventFits, NameFits, is_faulty};
     ghost use Rattle.mb_theory.specs.World.{World as WorldState, System, numbered, read, message_at};
     ghost use Rattle.mb_theory.specs.WorldEvents.{is_faulty_name};
     ghost use Rattle.mb_theory.specs.FaultyHosts.{commit_for, content, misfit, batch_from, request_at, stamped_after, change_after, is_sendable_change};

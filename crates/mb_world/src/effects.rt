@@ -7,18 +7,18 @@ use mb_base::{Client, Digest, Duplicate, Host, Items, NoMemory};
 use mb_msg::Event;
 use mb_parties::{add_messages, extend_line, mark_of, note_sent, note_step, step_at};
 use mb_replica::Told;
-use mb_sched::Name;
+use mb_schedule::Name;
 use mb_service::Service;
 use std::alloc::Global;
 
 impl<V: Service + Drop> World<V> {
     ghost use Rattle.std.specs.Prelude.{◌≡◌, ◌<◌, ◌+◌, ◌-◌, ◌^◌, ◌++◌, true, false, None, reverse, filter_map, IfOk, OnOk};
     ghost use Rattle.mb_base.specs.Shapes.{client_count, host_count};
-    ghost use Rattle.mb_sched.specs.declared.schedule.WorldEvent.TheVariants.{Give, Take, Raw};
+    ghost use Rattle.mb_schedule.specs.declared.schedule.WorldEvent.TheVariants.{Give, Take, Raw};
     ghost use Rattle.mb_model.specs.Given.{Answer};
     ghost use Rattle.mb_replica.specs.Represents.{IsTold};
     ghost use Rattle.mb_replica.specs.Told.{KnowsBytes, KnowsEvent};
-    ghost use Rattle.mb_sched.specs.Limits.{is_faulty, NameFits};
+    ghost use Rattle.mb_schedule.specs.Limits.{is_faulty, NameFits};
     ghost use Rattle.mb_msg.specs.declared.event.Event.TheVariants.{Given};
     ghost use Rattle.mb_theory.specs.World.{World as WorldState, System, arrives, lost_or, steps, stepped, numbered, answered, update, give_host, give_client, signal};
     ghost use Rattle.mb_theory.specs.WorldSteps.{with_message, happens};

@@ -3,7 +3,7 @@
 use crate::world::World;
 use mb_base::{Items, NoMemory, duplicate_all};
 use mb_parties::{client_lines, host_lines, refused_lines};
-use mb_sched::Report;
+use mb_schedule::Report;
 use mb_service::Service;
 use std::alloc::Global;
 

@@ -3,12 +3,12 @@
 use crate::world::World;
 use mb_base::NoMemory;
 use mb_parties::note_clean;
-use mb_sched::Name;
+use mb_schedule::Name;
 use mb_service::Service;
 
 impl<V: Service + Drop> World<V> {
     ghost use Rattle.std.specs.Prelude.{◌≡◌, false, OnOk};
-    ghost use Rattle.mb_sched.specs.Limits.{NameFits};
+    ghost use Rattle.mb_schedule.specs.Limits.{NameFits};
     ghost use Rattle.mb_theory.specs.World.{World as WorldState, System};
     ghost use Rattle.mb_theory.specs.WorldEvents.{is_faulty_name};
     ghost use Rattle.mb_parties.specs.Marks.{IsCleanAt};

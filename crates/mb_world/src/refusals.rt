@@ -9,7 +9,7 @@ use crate::seen::Seen;
 use mb_base::NoMemory;
 use mb_client::Taken;
 use mb_parties::{outcome_line, refused_line};
-use mb_sched::{RefusedLine, Word};
+use mb_schedule::{RefusedLine, Word};
 use std::alloc::{AllocError, Global};
 
 /// Appends the line of an event's answer, where that is a refusal.

@@ -3,7 +3,7 @@
 use mb_base::{Counter, Host, NoMemory};
 use mb_client::Taken;
 use mb_msg::Outcome;
-use mb_sched::Name;
+use mb_schedule::Name;
 use std::alloc::AllocError;
 
 /// What an event answers.

@@ -13,7 +13,7 @@ use mb_core::Replica;
 use mb_forged::Ledger;
 use mb_msg::{Event, Slot, Stamped};
 use mb_parties::{Mark, Member, askers, new_members, pens};
-use mb_sched::{RefusedLine, WorldEvent};
+use mb_schedule::{RefusedLine, WorldEvent};
 use mb_service::Service;
 use mb_usig::{Pen, Usig};
 use std::alloc::Global;
@@ -60,7 +60,7 @@ impl<V: Service + Drop> World<V> {
     ghost use Rattle.std.specs.Prelude.{◌≡◌, ◌<◌, ◌+◌, ◌-◌, ◌^◌, false, true, length, option_copied, is_some, None, IfOk, IfSome, OnOk};
     ghost use Rattle.mb_base.specs.Shapes.{client_count, host_count};
     ghost use Rattle.mb_msg.specs.Fits.{FitsStamped};
-    ghost use Rattle.mb_sched.specs.Limits.{EventFits};
+    ghost use Rattle.mb_schedule.specs.Limits.{EventFits};
     ghost use Rattle.mb_theory.specs.World.{World as WorldState, System, nothing_happened, numbered};
     ghost use Rattle.mb_theory.specs.WorldSteps.{happens};
     ghost use Rattle.mb_theory.specs.Stops.{stop_of};

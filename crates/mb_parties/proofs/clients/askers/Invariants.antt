@@ -1,6 +1,6 @@
 use Rattle.std.proofs.Common.{◌≡◌, length}
 use Rattle.mb_model.specs.Clients.{no_asker}
-use Rattle.mb_sched.specs.declared.schedule.Schedule.{Schedule}
+use Rattle.mb_schedule.specs.declared.schedule.Schedule.{Schedule}
 use Rattle.mb_parties.specs.Askers.{AskedWithin, AreOfShape, RepresentsAskers}
 use Rattle.mb_parties.proofs.clients.askers.Given as goal
 

@@ -2,7 +2,7 @@ use Rattle.std.proofs.Common.{ℕ, ◌≡◌, ◌++◌, ◌∷◌, [], List, len
 use Rattle.std.specs.List.{range_with_len}
 use Rattle.std.proofs.lemmas.Option.{slice_get_read}
 use Rattle.std.proofs.lemmas.List.FromFn.{map-range_with_len_more}
-use Rattle.mb_sched.specs.declared.report.HostLine.{HostLine}
+use Rattle.mb_schedule.specs.declared.report.HostLine.{HostLine}
 use Rattle.mb_parties.specs.Lines.{host_line}
 use Rattle.mb_parties.proofs.lines.host_lines.Goals as goal
 

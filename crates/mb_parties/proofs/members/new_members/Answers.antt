@@ -1,7 +1,7 @@
 use Rattle.std.proofs.Common.{◌≡◌, ◌∙◌, ◌∷◌, List, Bool, false, length, get_or, sym, ap, arith}
 use Rattle.std.specs.Vec.Iter.{into_iter_items}
 use Rattle.std.proofs.lemmas.Option.{unwrap_or-slice_get}
-use Rattle.mb_sched.specs.Limits.{is_faulty}
+use Rattle.mb_schedule.specs.Limits.{is_faulty}
 use Rattle.mb_parties.proofs.LeftLaws.{drop_one, one_longer}
 use Rattle.mb_parties.proofs.MemberLaws.{member_made, runs_push, of_push, within_push}
 use Rattle.mb_parties.proofs.members.new_members.Goals as goal

@@ -1,7 +1,8 @@
 use Rattle.std.proofs.Common.{◌≡◌, ◌+◌, ◌≤◌, length}
 use Rattle.mb_base.specs.Shapes.{host_count, client_count}
 use Rattle.mb_sched.specs.Lines.{lines, is_ended}
-use Rattle.mb_sched.specs.Schedules.{events_from, max_text}
+use Rattle.mb_sched.specs.Schedules.{events_from}
+use Rattle.mb_schedule.specs.Limits.{max_text}
 use Rattle.mb_sched.proofs.AllLines.{with_front}
 use Rattle.mb_sched.proofs.parsing.read_events.Given as goal
 

@@ -1,6 +1,6 @@
 use Rattle.std.proofs.Common.{Err, subst, ap, ◌∙◌}
 use Rattle.std.proofs.lemmas.Result.{IfOk-weaker}
-use Rattle.mb_sched.specs.declared.schedule.BadText.{BadText}
+use Rattle.mb_sched.specs.declared.bad_text.BadText.{BadText}
 use Rattle.mb_sched.specs.Records.{max_record, record_of, record_contents}
 use Rattle.mb_sched.specs.TextLines.{ReadsText}
 use Rattle.mb_answer.specs.Texts.{bad_line_text}

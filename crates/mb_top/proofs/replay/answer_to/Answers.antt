@@ -1,6 +1,6 @@
 use Rattle.std.proofs.Common.{subst, ap, ◌∙◌}
 use Rattle.std.proofs.lemmas.Result.{IfOk-weaker}
-use Rattle.mb_sched.specs.declared.schedule.BadText.{BadText}
+use Rattle.mb_sched.specs.declared.bad_text.BadText.{BadText}
 use Rattle.mb_sched.specs.Schedules.{IsFault}
 use Rattle.mb_sched.proofs.EventLimits.{schedule_fits}
 use Rattle.mb_answer.specs.Texts.{bad_line_text}

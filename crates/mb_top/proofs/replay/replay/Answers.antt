@@ -3,7 +3,7 @@ use Rattle.std.specs.Prelude.{Contains}
 use Rattle.std.proofs.lemmas.Option.{IfSome_then}
 use Rattle.std.proofs.lemmas.Result.{IfOk-weaker}
 use Rattle.mb_base.specs.Shapes.{Bytes}
-use Rattle.mb_sched.specs.Schedules.{max_text}
+use Rattle.mb_schedule.specs.Limits.{max_text}
 use Rattle.mb_top.specs.Answers.{Answers, too_long}
 use Rattle.mb_top.proofs.Answered.{answers_told, answers_known}
 use Rattle.mb_top.specs.Doings.{replay_statuses}

@@ -1,4 +1,4 @@
-use Rattle.mb_sched.specs.declared.report.HostLine.{HostLine}
+use Rattle.mb_schedule.specs.declared.report.HostLine.{HostLine}
 use Rattle.mb_make.specs.Summary.{of_state}
 use Rattle.mb_top.proofs.Summaries.{greatest_more, greatest_whole}
 use Rattle.mb_top.proofs.soak.greatest_of.Goals as goal

@@ -7,7 +7,7 @@ use Rattle.mb_usig.specs.Tags.{same_bytes, reply_text, signed_reply, reply_tag}
 use Rattle.mb_usig.specs.Trusted.{Signer}
 use Rattle.mb_msg.specs.Fits.{FitsReply, FitsFields}
 use Rattle.mb_msg.specs.declared.message.Message.TheVariants as message
-use Rattle.mb_sched.specs.Limits.{is_faulty}
+use Rattle.mb_schedule.specs.Limits.{is_faulty}
 use Rattle.mb_theory.specs.World.{stamps}
 use Rattle.mb_theory.specs.Forged.{was_tagged}
 use Rattle.mb_forged.proofs.TagLaws.{faulty_clean, made_clean, verified_decides}

@@ -2,7 +2,7 @@ use Rattle.std.proofs.Common.{◌≡◌, false, Bool, get_or, sym, ap, ◌∙◌
 use Rattle.std.proofs.lemmas.Option.{unwrap_or-slice_get}
 use Rattle.mb_usig.specs.Tags.{same_bytes, wish_tag}
 use Rattle.mb_msg.specs.declared.message.Message.TheVariants as message
-use Rattle.mb_sched.specs.Limits.{is_faulty}
+use Rattle.mb_schedule.specs.Limits.{is_faulty}
 use Rattle.mb_theory.specs.World.{stamps}
 use Rattle.mb_theory.specs.Forged.{was_tagged}
 use Rattle.mb_forged.proofs.TagLaws.{faulty_clean, made_clean, verified_decides}

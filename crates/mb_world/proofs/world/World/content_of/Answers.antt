@@ -4,8 +4,8 @@ use Rattle.std.proofs.lemmas.Result.{err_from_is_err_and}
 use Rattle.mb_parts.specs.declared.batch.Batch.{Batch}
 use Rattle.mb_msg.specs.declared.stamped.Stamped.{Stamped}
 use Rattle.mb_msg.specs.Stamps.{as_stamped}
-use Rattle.mb_sched.specs.declared.schedule.Name.TheVariants as name
-use Rattle.mb_sched.specs.Limits.{is_faulty}
+use Rattle.mb_schedule.specs.declared.schedule.Name.TheVariants as name
+use Rattle.mb_schedule.specs.Limits.{is_faulty}
 use Rattle.mb_theory.specs.WorldEvents.{culprit}
 use Rattle.mb_theory.specs.FaultyHosts.{commit_for, is_sendable_change, misfit}
 use Rattle.mb_theory.specs.Stops.{WrongKind, content_stop}

@@ -2,7 +2,7 @@ use Rattle.std.proofs.Common.{◌≡◌, ◌∙◌, ◌<◌, true, false, length
 use Rattle.std.specs.List.{slice_get}
 use Rattle.std.proofs.lemmas.Option.{slice_get_read}
 use Rattle.mb_usig.specs.Trusted.{Trusted}
-use Rattle.mb_sched.specs.Limits.{is_faulty}
+use Rattle.mb_schedule.specs.Limits.{is_faulty}
 use Rattle.mb_parties.specs.declared.members.Member.TheVariants as member
 use Rattle.mb_parties.proofs.ChangeLaws.{member_at}
 use Rattle.mb_world.proofs.world.World.trusted.Goals as goal

@@ -1,14 +1,17 @@
--- What the text of a schedule can hold.
+-- What a schedule can hold.
 use Rattle.std.specs.Prelude.{◌≡◌, ℕ, ◌≤◌, ◌<◌, ◌^◌, Bool, false, length, Some, slice_get, unwrap_or}
 use Rattle.mb_base.specs.Shapes.{host_count, client_count, max_faults, tally}
 use Rattle.mb_base.specs.declared.shape.Shape.{Shape}
 use Rattle.mb_parts.specs.Fits.{IsCounter, IsPlace, IsPosition, IsDigest, FitsText}
-use Rattle.mb_sched.specs.declared.schedule.Name.{Name}
-use Rattle.mb_sched.specs.declared.schedule.Name.TheVariants as name
-use Rattle.mb_sched.specs.declared.schedule.Schedule.{Schedule}
-use Rattle.mb_sched.specs.declared.schedule.WorldEvent.{WorldEvent}
-use Rattle.mb_sched.specs.declared.schedule.WorldEvent.TheVariants.{Ask, Give, Take, Raw, Patience, Nudge, Sign, TagReply, TagWish, StampPrepare, StampCommit, StampCheckpoint, StampChange, StampAs, StampRaw}
-use Rattle.mb_sched.specs.Schedules.{max_text}
+use Rattle.mb_schedule.specs.declared.schedule.Name.{Name}
+use Rattle.mb_schedule.specs.declared.schedule.Name.TheVariants as name
+use Rattle.mb_schedule.specs.declared.schedule.Schedule.{Schedule}
+use Rattle.mb_schedule.specs.declared.schedule.WorldEvent.{WorldEvent}
+use Rattle.mb_schedule.specs.declared.schedule.WorldEvent.TheVariants.{Ask, Give, Take, Raw, Patience, Nudge, Sign, TagReply, TagWish, StampPrepare, StampCommit, StampCheckpoint, StampChange, StampAs, StampRaw}
+
+-- The most bytes that its text may have.
+abbrev pub max_text : ℕ
+max_text = 16777216
 
 -- The header lists the host as faulty.
 abbrev pub is_faulty : Schedule → ℕ → Bool

@@ -1,7 +1,6 @@
 //! A schedule: the system, who is faulty in it, and what happens.
 
-use mb_base::{Client, Counter, Digest, Host, Items, Key, NoMemory, Pos, Seq, Shape, View};
-use std::alloc::AllocError;
+use mb_base::{Client, Counter, Digest, Host, Items, Key, Pos, Seq, Shape, View};
 
 /// A host or a client.
 #[derive(Clone, Copy, Debug, PartialEq, Eq)]
@@ -107,37 +106,4 @@ pub struct Schedule {
     /// For each client, whether it is faulty.
     pub faulty_clients: Items<bool>,
     pub events: Items<WorldEvent>,
-}
-
-/// Why a text is no schedule. Lines count from 1.
-#[derive(Clone, Copy, Debug, PartialEq, Eq)]
-pub enum BadText {
-    /// The text has more bytes than its kind may have: 67,108,864 for a record, 16,777,216 for a schedule or a config.
-    TooLong,
-    /// The first line that breaks the grammar, or is missing.
-    BadLine { number: u32 },
-    /// Memory ran out. It is the one answer that says nothing of its cause.
-    NoMemory,
-}
-
-impl From<AllocError> for BadText {
-    ghost use Rattle.std.specs.Prelude.{◌≡◌};
-    ghost use Rattle.mb_sched.specs.declared.schedule.BadText.TheVariants as text;
-
-    ghost from_gives = { λ _ e. e ≡ text.NoMemory };
-
-    fn from(_e: AllocError) -> BadText {
-        BadText::NoMemory
-    }
-}
-
-impl From<NoMemory> for BadText {
-    ghost use Rattle.std.specs.Prelude.{◌≡◌};
-    ghost use Rattle.mb_sched.specs.declared.schedule.BadText.TheVariants as text;
-
-    ghost from_gives = { λ _ e. e ≡ text.NoMemory };
-
-    fn from(_e: NoMemory) -> BadText {
-        BadText::NoMemory
-    }
 }
