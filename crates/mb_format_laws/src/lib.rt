@@ -25,6 +25,3 @@ pub fn tags_say_all()
 pub fn marks_follow()
     ensures { MarksFollow }
 {}
-
-#[cfg(test)]
-mod tests;

@@ -51,8 +51,3 @@ pub use new_view::{NewViewFault, check_new_view};
 pub use planning::{PlanFault, plan_of};
 pub use shown::{BadProof, usable};
 pub use tags::{are_tagged, is_tagged};
-
-#[cfg(test)]
-mod shown_tests;
-#[cfg(test)]
-mod tests;

@@ -19,9 +19,6 @@ use mb_base::{Items, Key, NoMemory, Shape};
 use std::alloc::Global;
 use std::fmt::Write;
 
-#[cfg(test)]
-mod tests;
-
 /// The most bytes that the text of a config may have.
 pub const MAX_CONFIG: usize = 16_777_216;
 

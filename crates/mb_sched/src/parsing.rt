@@ -17,9 +17,6 @@ use mb_base::{Items, Shape};
 use mb_schedule::{Schedule, WorldEvent};
 use std::alloc::Global;
 
-#[cfg(test)]
-mod tests;
-
 /// The most bytes that the text of a schedule may have.
 pub const MAX_TEXT: usize = 16_777_216;
 

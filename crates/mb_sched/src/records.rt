@@ -26,9 +26,6 @@ use mb_msg::Event;
 use std::alloc::Global;
 use std::fmt::Write;
 
-#[cfg(test)]
-mod tests;
-
 /// The most bytes that the text of a record may have.
 pub const MAX_RECORD: usize = 67_108_864;
 
