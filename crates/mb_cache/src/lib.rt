@@ -11,6 +11,3 @@ pub use mb_model::LastReply;
 pub use mb_service::Restore;
 pub use state_digest::digest;
 pub use table::Table;
-
-#[cfg(test)]
-mod tests;

@@ -27,6 +27,3 @@ pub use evidence::CheckEvidence;
 pub use fault::{CertFault, Why};
 pub use floor::CheckFloor;
 pub use stable::CheckStable;
-
-#[cfg(test)]
-mod tests;

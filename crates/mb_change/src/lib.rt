@@ -25,6 +25,3 @@ pub use change::Change;
 pub use due::ChangeDue;
 pub use held_plan::HeldPlan;
 pub use laws::{rules_agree, tables_answer, tables_begin, tables_follow};
-
-#[cfg(test)]
-mod tests;

@@ -12,6 +12,3 @@ mod text;
 pub use asker::Asker;
 pub use laws::accepted_results_have_a_quorum;
 pub use taken::Taken;
-
-#[cfg(test)]
-mod tests;

@@ -23,6 +23,3 @@ pub use outside::{Failed, Sink, Source};
 pub use reading::{PIECE, ReadStop, read_all};
 pub use spawner::{Child, Spawner, Start};
 pub use writing::{WriteStop, write_all};
-
-#[cfg(test)]
-mod tests;

@@ -15,6 +15,3 @@ mod shelved;
 pub use laws::tables_answer_for_histories;
 pub use parts::{Kept, Missing, Parts};
 pub use shelf::Shelf;
-
-#[cfg(test)]
-mod tests;

@@ -15,6 +15,3 @@ pub use limits::{HEADER_LEN, MAX_COUNT, PIECE};
 pub use mb_base::MESSAGE_LIMIT;
 pub use pushed::Pushed;
 pub use reassembler::Reassembler;
-
-#[cfg(test)]
-mod tests;

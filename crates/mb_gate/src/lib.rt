@@ -34,6 +34,3 @@ pub use gate::Gate;
 pub use laws::gates_keep_lists_in_order;
 pub use mb_parts::{Floor, Mark, Phase};
 pub use offer::Offer;
-
-#[cfg(test)]
-mod tests;

@@ -16,6 +16,3 @@ mod snapshots;
 pub use fetching::Fetched;
 pub use keeper::Keeper;
 pub use mb_cache::Accept;
-
-#[cfg(test)]
-mod tests;

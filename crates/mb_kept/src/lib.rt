@@ -10,6 +10,3 @@ mod floors;
 mod stable;
 
 pub use checkpoints::Checkpoints;
-
-#[cfg(test)]
-mod tests;

@@ -16,6 +16,3 @@ mod unread;
 pub use kv::Kv;
 pub use laws::kv_is_replicable;
 pub use limits::{MAX_KEY, MAX_KEYS, MAX_VALUE};
-
-#[cfg(test)]
-mod tests;

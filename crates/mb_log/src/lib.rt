@@ -23,6 +23,3 @@ mod proof;
 pub use laws::logs_answer_for_histories;
 pub use log::OwnLog;
 pub use proof::Proof;
-
-#[cfg(test)]
-mod tests;

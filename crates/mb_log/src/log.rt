@@ -223,7 +223,7 @@ fn normal_limit(shape: &Shape) -> u32
 }
 
 /// The counter of a host's floor in the first member of a certificate, 0 where there is none.
-pub(crate) fn counter_for(host: Host, cert: &FloorCert) -> Counter
+fn counter_for(host: Host, cert: &FloorCert) -> Counter
     ensures { result ≡ floor_counter host (Some cert.now) }
 {
     match cert.members.as_slice().first() {

@@ -7,6 +7,3 @@
 mod maker;
 
 pub use maker::Maker;
-
-#[cfg(test)]
-mod tests;

@@ -17,6 +17,3 @@ pub use laws::{rules_are_lent, tables_answer_for_histories};
 pub use mb_votes::Vote;
 pub use mb_window::Refused;
 pub use normal::Normal;
-
-#[cfg(test)]
-mod tests;

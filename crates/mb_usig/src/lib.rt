@@ -9,6 +9,3 @@ mod usig;
 pub use keyed_hash::hmac;
 pub use pen::Pen;
 pub use usig::{Spent, Usig};
-
-#[cfg(test)]
-mod tests;

@@ -10,6 +10,3 @@ mod votes;
 pub use mb_model::Vote;
 pub use mb_window::Refused;
 pub use votes::Votes;
-
-#[cfg(test)]
-mod tests;
