@@ -1,6 +1,6 @@
 use Rattle.std.proofs.Common.{◌≡◌, ◌*◌, ◌/◌, ◌∙◌, ap, arith}
 use Rattle.mb_base.specs.Shapes.{interval}
-use Rattle.mb_kept.proofs.tests.raise.Goals as goal
+use Rattle.mb_tables_tests.proofs.kept.raise.Goals as goal
 
 pub raise-requires-clause-multiple : goal.raise-requires-clause-multiple
 raise-requires-clause-multiple c =
