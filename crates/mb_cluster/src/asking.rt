@@ -9,11 +9,11 @@ ghost use Rattle.mb_cluster.specs.Writes.{WritesLine};
 
 use crate::lines::result_line;
 use crate::listener::Listener;
-use crate::posting::{Post, first_failure};
+use crate::posting::{Post, encode_own, first_failure};
 use crate::stop::{ClusterStop, link_stop};
 use mb_base::{Items, Key, NoMemory, Shape};
 use mb_edge::{Failed, Got, Link, Sink, write_all};
-use mb_msg::{Message, Reply, Stop, encode};
+use mb_msg::{Message, Reply, Stop};
 use mb_usig::Pen;
 use std::alloc::Global;
 
@@ -220,7 +220,7 @@ fn stop_message(alloc: Global, shape: &Shape, secret: &Key) -> Result<Vec<u8>, N
     ensures short { IfOk result (λ v. length v.items ≤ MESSAGE_LIMIT) }
 {
     let tag = Pen::new(secret, 0).tag_stop();
-    let bytes = encode(alloc, shape, &Message::Stop(Stop { tag }))?;
+    let bytes = encode_own(alloc, shape, Message::Stop(Stop { tag }))?;
     Ok(bytes)
 }
 

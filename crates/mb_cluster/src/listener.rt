@@ -8,10 +8,11 @@ ghost use Rattle.mb_msg.specs.Reading.{message_of};
 ghost use Rattle.mb_cluster.specs.Hearing.{as_reply, reply_or_none};
 ghost use Rattle.mb_cluster.specs.Joins.{Joins};
 
+use crate::posting::encode_own;
 use mb_base::{Key, NoMemory, Shape};
 use mb_client::{Asker, Taken};
 use mb_frag::{Pushed, Reassembler};
-use mb_msg::{Message, Reply, Undecoded, decode, encode};
+use mb_msg::{Message, Reply, Undecoded, decode};
 use std::alloc::Global;
 
 /// The client's side of a system.
@@ -62,7 +63,7 @@ impl Listener {
     {
         let request = self.asker.ask(alloc, op)?;
         self.most = 0;
-        let bytes = encode(alloc, &self.shape, &Message::Request(request))?;
+        let bytes = encode_own(alloc, &self.shape, Message::Request(request))?;
         Ok(bytes)
     }
 

@@ -1,15 +1,18 @@
 //! Messages to every host.
 
-ghost use Rattle.std.specs.Prelude.{◌≡◌, ◌≤◌, ◌%◌, ◌+◌, ◌^◌, ℕ, List, length, map, Ok, Err, OnOk, IsErrOf};
+ghost use Rattle.std.specs.Prelude.{◌≡◌, ◌≤◌, ◌%◌, ◌+◌, ◌^◌, ℕ, List, length, map, Ok, Err, IfOk, OnOk, IsErrOf};
 ghost use Rattle.mb_base.specs.Shapes.{Bytes};
+ghost use Rattle.mb_msg.specs.Fits.{Fits};
+ghost use Rattle.mb_msg.specs.Spelling.{spelling};
 ghost use Rattle.mb_edge.specs.Told.{with_more};
 ghost use Rattle.mb_edge.specs.Faults.{TellsFaults};
 ghost use Rattle.mb_cluster.specs.Posts.{next_number, to_host, to_all, AreSome};
 ghost use Rattle.mb_cluster.specs.Sends.{SendsSome, first_failure};
 
-use mb_base::{Host, Items};
+use mb_base::{Host, Items, NoMemory, Shape};
 use mb_edge::{Failed, Link};
 use mb_frag::{MESSAGE_LIMIT, cut};
+use mb_msg::{Message, encode};
 use std::alloc::Global;
 
 /// The client program as a peer.
@@ -49,6 +52,21 @@ impl Post {
         }
         sent
     }
+}
+
+/// The bytes of a message that nobody needs behind that. It is dropped here, by one call: one that goes out of scope is dropped in place, kind by
+/// kind, at each exit.
+pub(crate) fn encode_own(
+    alloc: Global,
+    shape: &Shape,
+    message: Message,
+) -> Result<Vec<u8>, NoMemory>
+    requires { Fits shape.now message }
+    ensures text { IfOk result (λ v. v.items ≡ spelling message) }
+{
+    let bytes = encode(alloc, shape, &message);
+    drop(message);
+    bytes
 }
 
 /// The first of two failures.

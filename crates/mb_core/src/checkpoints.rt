@@ -36,12 +36,13 @@ pub(crate) fn checkpoint<V: Service + Drop>(
         body: Body::Whole(Floors { floors }),
         ui: NO_UI,
     };
+    let kept = checkpoint.duplicate(alloc)?;
     let signed = sign(replica, alloc, Stamped::Checkpoint(checkpoint))?;
-    let Stamped::Checkpoint(own) = &signed.message else {
-        return Ok(());
+    let own = Checkpoint {
+        ui: signed.ui,
+        ..kept
     };
-    let own = own.duplicate(alloc)?;
-    replica.keep_checkpoint(alloc, own)?;
+    let signed = replica.keep_checkpoint(alloc, own).and(Ok(signed))?;
     publish(replica, alloc, signed.message, signed.body, done)?;
     replica.cut_log(alloc)
 }

@@ -4,6 +4,9 @@
 //! host is behind and the event was a Nudge or a STATE, or the stable position rose. The rules and the FETCH follow what was taken. What a host
 //! holds, and what each given message does to it, is in `mb_replica`. For each kind of message that a rule stamps there is one file.
 //!
+//! A message that nobody needs any more is given to `drop`, which is one call. One that goes out of scope is dropped in place, kind by kind, at each
+//! exit at which it lives, and all of that is proved each time.
+//!
 //! | Files | Have |
 //! |---|---|
 //! | `replica`, `events`, `patience`, `nudges` | a host, its step, and the three sorts of events |

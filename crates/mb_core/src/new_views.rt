@@ -48,8 +48,8 @@ pub(crate) fn announce<V: Service + Drop>(
     };
     let message = new_view(replica, changes, &plan);
     let signed = sign(replica, alloc, message)?;
-    hold_own(replica, alloc, &signed.message, signed.body)?;
-    replica.hold_plan(alloc, view, plan)?;
+    let signed = hold_own(replica, alloc, &signed.message, signed.body).and(Ok(signed))?;
+    let signed = replica.hold_plan(alloc, view, plan).and(Ok(signed))?;
     replica.count_opens(view);
     publish(replica, alloc, signed.message, signed.body, done)
 }

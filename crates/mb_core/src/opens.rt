@@ -48,7 +48,7 @@ pub(crate) fn open<V: Service + Drop>(
         return Ok(());
     };
     let signed = sign(replica, alloc, message)?;
-    carry_on(replica, alloc, view, &evidence)?;
+    let signed = carry_on(replica, alloc, view, &evidence).and(Ok(signed))?;
     hold_own_evidence(replica, evidence);
     publish(replica, alloc, signed.message, signed.body, done)
 }

@@ -14,13 +14,13 @@ ghost use Rattle.mb_steps.proofs.StepArises.{Adds};
 ghost use Rattle.mb_searches.specs.Sound.{IsSound};
 ghost use Rattle.mb_standing.specs.Stands.{GatesStand};
 ghost use Rattle.mb_replica.specs.Represents.{IsHost, Represents};
-ghost use Rattle.mb_replica.specs.Told.{as_outgoing};
+ghost use Rattle.mb_replica.specs.Told.{as_outgoing, said_of};
 ghost use Rattle.mb_replica.specs.Between.{WritesCounter, WritesStamp};
 ghost use Rattle.mb_core.specs.Signed.{IsSigned};
 
-use mb_base::{Counter, Digest, NoMemory, Ui};
+use mb_base::{Counter, Digest, Items, NoMemory, Ui};
 use mb_msg::Stamped;
-use mb_replica::{Done, ReplicaState};
+use mb_replica::{Done, ReplicaState, Said};
 use mb_service::Service;
 use std::alloc::Global;
 
@@ -38,6 +38,8 @@ const NORMAL: u8 = 2;
 const OTHER: u8 = 7;
 
 /// A message that this host has bound to its counter, with the digest of its body.
+///
+/// Where what is done with it fails, `and(Ok(signed))` drops it.
 #[derive(Drop)]
 pub(crate) struct Signed {
     pub(crate) message: Stamped,
@@ -81,12 +83,35 @@ pub(crate) fn sign<V: Service + Drop>(
     ensures signed { (me : Identity V) (d : History) → IsHost me replica.old → replica.old.agreement.usig.counter ≡ counter_of d → IfOk result (λ s. IsSigned (signed me d message) s) }
     ensures writes { OnOk result (WritesCounter replica.old replica.new) }
 {
+    match said_of(replica, alloc, &message) {
+        Ok(said) => {
+            let ui = next_ui(replica, said.bare.as_slice());
+            Ok(Signed {
+                message: message.with_ui(ui),
+                ui,
+                body: said.body,
+            })
+        }
+        Err(cause) => {
+            drop(message);
+            Err(cause)
+        }
+    }
+}
+
+/// What is to be stamped in a message.
+fn said_of<V: Service + Drop>(
+    replica: &ReplicaState<V>,
+    alloc: Global,
+    message: &Stamped,
+) -> Result<Said, NoMemory>
+    requires { FitsStamped replica.now.agreement.shape message.now }
+    ensures { IfOk result (λ s. s ≡ said_of message.now) }
+{
     let body = message.body_digest(alloc, &replica.agreement.shape)?;
     let bare = message.bare_with(alloc, &replica.agreement.shape, &body)?;
-    let ui = next_ui(replica, bare.as_slice());
-    Ok(Signed {
-        message: message.with_ui(ui),
-        ui,
+    Ok(Said {
+        bare: Items::from_vec(bare),
         body,
     })
 }
@@ -120,7 +145,9 @@ pub(crate) fn publish<V: Service + Drop>(
     ensures gates { (me : Identity V) (d : History) → IsHost me replica.old → IsSound me d → Adds me d (StampedEntry message) → GatesStand me replica.old.agreement.gates.items d → OnOk result (GatesStand me replica.new.agreement.gates.items (StampedEntry message ∷ d)) }
     ensures writes { OnOk result (WritesStamp replica.old replica.new) }
 {
-    replica.send_stamped(alloc, &message, body, done)?;
+    let message = replica
+        .send_stamped(alloc, &message, body, done)
+        .and(Ok(message))?;
     replica.gate_follows(replica.agreement.host, &message.mark());
     replica.agreement.log.append_with(message, body);
     Ok(())

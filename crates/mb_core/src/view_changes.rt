@@ -44,7 +44,7 @@ pub(crate) fn change_view<V: Service + Drop>(
     let message = view_change(replica, alloc, view)?;
     let signed = sign(replica, alloc, message)?;
     wish_own(replica, view);
-    store_own(replica, alloc, &signed.message)?;
+    let signed = store_own(replica, alloc, &signed.message).and(Ok(signed))?;
     clear_votes(replica);
     replica.count_opens(view);
     publish(replica, alloc, signed.message, signed.body, done)

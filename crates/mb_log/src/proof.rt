@@ -4,7 +4,7 @@ use mb_base::Items;
 use mb_msg::{FloorCert, Shown, StableCert};
 
 /// What a VIEW_CHANGE shows of a log.
-#[derive(Debug, PartialEq, Drop)]
+#[derive(Drop)]
 pub struct Proof {
     /// The certificate with which the log was cut last.
     pub floor: Option<FloorCert>,

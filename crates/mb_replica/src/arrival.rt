@@ -27,7 +27,7 @@ pub(crate) struct Checked {
 }
 
 impl Arrival {
-    ghost use Rattle.std.specs.Prelude.{◌≡◌, IfOk};
+    ghost use Rattle.std.specs.Prelude.{◌≡◌, IfOk, IfErr, Ok, Err};
     ghost use Rattle.mb_parts.specs.Bares.{bare_bytes};
     ghost use Rattle.mb_msg.specs.Fits.{FitsStamped};
     ghost use Rattle.mb_msg.specs.Stamps.{bare_of};
@@ -45,12 +45,39 @@ impl Arrival {
         requires known { KnowsBody known.now message }
         ensures { IfOk result (λ a. IsArrival shape.now a × (a.message ≡ message)) }
     {
-        Ok(Arrival {
-            ui: message.ui(),
-            mark: message.mark(),
-            body: body_of(alloc, shape, &message, known)?,
-            message,
-        })
+        match body_of(alloc, shape, &message, known) {
+            Ok(body) => Ok(Arrival {
+                ui: message.ui(),
+                mark: message.mark(),
+                body,
+                message,
+            }),
+            Err(cause) => {
+                drop(message);
+                Err(cause)
+            }
+        }
+    }
+
+    /// This message, and why it is refused, where it is. Where memory ran out, it is dropped.
+    pub(crate) fn with_refusal(
+        self,
+        refusal: Result<Option<Outcome>, NoMemory>,
+    ) -> Result<Checked, NoMemory>
+        ensures arrival { IfOk result (λ c. c.arrival ≡ self) }
+        ensures refusal { IfOk result (λ c. refusal ≡ Ok c.refusal) }
+        ensures error { IfErr result (λ e. refusal ≡ Err e) }
+    {
+        match refusal {
+            Ok(refusal) => Ok(Checked {
+                arrival: self,
+                refusal,
+            }),
+            Err(cause) => {
+                drop(self);
+                Err(cause)
+            }
+        }
     }
 
     /// This message, with the digests that `Stamped::with_digests` has it keep. An error is want of memory.

@@ -38,7 +38,7 @@ impl<V: Service + Drop> ReplicaState<V> {
         let state = self
             .keeper
             .state_message(alloc, self.agreement.host, m.pos, m.first)?;
-        self.send(alloc, To::Host(m.host), &Message::State(state), done)?;
+        self.send_own(alloc, To::Host(m.host), Message::State(state), done)?;
         Ok(Outcome::Took)
     }
 
@@ -64,7 +64,7 @@ impl<V: Service + Drop> ReplicaState<V> {
         ensures { (me : Identity V) (x : Progress) → StandsAt me self.now done.old x → missing ≡ missing_of me x.history → OnOk result (StandsAt me self.now done.new (send (to_host (asked_host me x.history) (fetch me x.history)) x)) }
     {
         let message = self.fetch(missing);
-        self.send(alloc, To::Host(self.agreement.asked), &message, done)
+        self.send_own(alloc, To::Host(self.agreement.asked), message, done)
     }
 
     fn fetch(&self, missing: Option<u8>) -> Message

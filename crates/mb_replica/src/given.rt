@@ -82,7 +82,10 @@ impl<V: Service + Drop> ReplicaState<V> {
     {
         match message.into_stamped() {
             Ok(stamped) => Ok(Answer::of(self.give_stamped(alloc, stamped, known)?)),
-            Err(_reply) => Ok(Answer::of(Outcome::Idle)),
+            Err(reply) => {
+                drop(reply);
+                Ok(Answer::of(Outcome::Idle))
+            }
         }
     }
 }

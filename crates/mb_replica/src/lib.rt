@@ -6,6 +6,9 @@
 //!
 //! For each kind of message there is one file: why it is refused, and what it does where it is not.
 //!
+//! A message that nobody needs any more is given to `drop`, which is one call. One that goes out of scope is dropped in place, kind by kind, at each
+//! exit at which it lives, and all of that is proved each time.
+//!
 //! | Files | Have |
 //! |---|---|
 //! | `state`, `agreement`, `beginning` | a host, and where it stands |

@@ -64,7 +64,7 @@ impl<V: Service + Drop> ReplicaState<V> {
             return Ok(outcome);
         }
         let message = self.log_for(alloc, m)?;
-        self.send(alloc, To::Host(m.host), &message, done)?;
+        self.send_own(alloc, To::Host(m.host), message, done)?;
         Ok(Outcome::Took)
     }
 
@@ -103,7 +103,7 @@ impl<V: Service + Drop> ReplicaState<V> {
         ensures { (me : Identity V) (x : Progress) → StandsAt me self.now done.old x → OnOk result (StandsAt me self.now done.new (send (to_all (resend me x.history)) x)) }
     {
         let message = self.resend(alloc)?;
-        self.send(alloc, To::All, &message, done)
+        self.send_own(alloc, To::All, message, done)
     }
 
     fn resend(&self, alloc: Global) -> Result<Message, NoMemory>

@@ -95,6 +95,23 @@ impl<V: Service + Drop> ReplicaState<V> {
         done.push(to, encode(alloc, &self.agreement.shape, message)?, None)
     }
 
+    /// Sends a message, and drops it.
+    pub(crate) fn send_own(
+        &self,
+        alloc: Global,
+        to: To,
+        message: Message,
+        done: &mut Done,
+    ) -> Result<(), NoMemory>
+        requires fits { Fits self.now.agreement.shape message }
+        requires plain { as_stamped message ≡ None }
+        ensures { (me : Identity V) (x : Progress) (served : List Placed) → StandsServing me self.now done.old served x → OnOk result (StandsServing me self.now done.new served (send (record { to = to; says = message }) x)) }
+    {
+        let sent = self.send(alloc, to, &message, done);
+        drop(message);
+        sent
+    }
+
     /// Sends a stamped message to all, with the digest of its body.
     pub fn send_stamped(
         &self,

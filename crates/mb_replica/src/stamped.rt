@@ -46,6 +46,7 @@ impl<V: Service + Drop> ReplicaState<V> {
             }
             Some(outcome) => {
                 self.closing(outcome, &checked.arrival.ui);
+                drop(checked);
                 Ok(outcome)
             }
         }
@@ -58,13 +59,14 @@ impl<V: Service + Drop> ReplicaState<V> {
         ensures arrives { IfOk result (λ c. IsArrival self.now.agreement.shape c.arrival × (c.arrival.message ≡ arrival.message)) }
         ensures refusal { (me : Identity V) (d : History) → Represents me self.now d → IfOk result (λ c. c.refusal ≡ stamped_refusal me d c.arrival.message) }
     {
-        let refusal = self.identifier_refusal(alloc, &arrival)?;
-        if refusal.is_some() {
-            return Ok(Checked { arrival, refusal });
+        let refusal = self.identifier_refusal(alloc, &arrival);
+        let checked = arrival.with_refusal(refusal)?;
+        if checked.refusal.is_some() {
+            return Ok(checked);
         }
-        let arrival = arrival.with_digests(alloc, &self.agreement.shape)?;
-        let refusal = self.kind_refusal(alloc, &arrival.message)?;
-        Ok(Checked { arrival, refusal })
+        let arrival = checked.arrival.with_digests(alloc, &self.agreement.shape)?;
+        let refusal = self.kind_refusal(alloc, &arrival.message);
+        arrival.with_refusal(refusal)
     }
 
     /// Of an ENTER and of a JOIN the gate asks all that there is.

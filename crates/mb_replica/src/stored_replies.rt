@@ -35,7 +35,7 @@ impl<V: Service + Drop> ReplicaState<V> {
         match self.keeper.reply(client) {
             Some((seq, pos, answer)) => {
                 let message = self.reply(alloc, client, seq, pos, answer)?;
-                self.send(alloc, To::Client(client), &message, done)
+                self.send_own(alloc, To::Client(client), message, done)
             }
             None => Ok(()),
         }

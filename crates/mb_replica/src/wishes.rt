@@ -66,6 +66,6 @@ impl<V: Service + Drop> ReplicaState<V> {
         requires { Wishes self.now }
         ensures { (me : Identity V) (x : Progress) → StandsAt me self.now done.old x → OnOk result (StandsAt me self.now done.new (send (to_all (wish me x.history)) x)) }
     {
-        self.send(alloc, To::All, &self.wish(), done)
+        self.send_own(alloc, To::All, self.wish(), done)
     }
 }

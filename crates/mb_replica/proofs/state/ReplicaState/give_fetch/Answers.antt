@@ -24,8 +24,8 @@ returns-in-Some g c = λ me x s.
     let has = c.has_snapshot-has_snapshot.ensures ∙ ap is_some (s.represents.tables.shelf.finds c.args.m.now.pos) in
     gives_as me r c.args.done.now c.in-Some.outcome (answer c.in-Some.outcome x) (give_fetch me c.args.m.now x) (fetch_refused me x c.args.m.now c.in-Some.outcome (c.in-Some.ensures me x.history s.represents has)) (refl, s)
 
-pub send-requires-clause-fits : goal.send-requires-clause-fits
-send-requires-clause-fits g c =
+pub send_own-requires-clause-fits : goal.send_own-requires-clause-fits
+send_own-requires-clause-fits g c =
     let t = c.requires.history in
     let r = c.args.self.now in
     let m = c.args.m.now in
@@ -42,7 +42,7 @@ pub returns : goal.returns
 returns g c = λ me x s.
     let r = c.args.self.now in
     let m = c.args.m.now in
-    let done = c.send.new.done in
+    let done = c.send_own.new.done in
     let rep = s.represents in
     let d = x.history in
     let has = c.has_snapshot-has_snapshot.ensures ∙ ap is_some (rep.tables.shelf.finds m.pos) in
@@ -51,6 +51,6 @@ returns g c = λ me x s.
     let all : List Bytes = unwrap_or (snapshot_of me d m.pos) [] in
     let host : me.host ≡ c.args.self.now.agreement.host = rep.who.host in
     let says : message.State c.in_ok-state.state ≡ state_message me m.pos m.first all = c.in_ok-state.ensures.stands me parts host (shelf_has me r d rep m none) ∙ ap (state_message me m.pos m.first) (parts_sent me r d rep m none) in
-    let sent : StandsAt me r done (send (to_host m.host (state_message me m.pos m.first all)) x) = subst (λ (l : Message). StandsAt me r done (send (to_host m.host l) x)) says (c.in_ok-send.ensures me x [] s) in
+    let sent : StandsAt me r done (send (to_host m.host (state_message me m.pos m.first all)) x) = subst (λ (l : Message). StandsAt me r done (send (to_host m.host l) x)) says (c.in_ok-send_own.ensures me x [] s) in
     gives_as me r done outcome.Took (answer outcome.Took (send (to_host m.host (state_message me m.pos m.first all)) (write (Accepted (message.Fetch m)) x))) (give_fetch me m x) (fetch_taken me x m none)
     (refl, fetch_written me r done m (send (to_host m.host (state_message me m.pos m.first all)) x) c.requires.fits none sent)

@@ -8,14 +8,14 @@ use Rattle.mb_replica.proofs.Letters.{resend_fits}
 use Rattle.mb_replica.proofs.state.ReplicaState.send_resend.Goals as goal
 
 -- src/resends.rt
-pub send-requires-clause-fits : goal.send-requires-clause-fits
-send-requires-clause-fits g c =
+pub send_own-requires-clause-fits : goal.send_own-requires-clause-fits
+send_own-requires-clause-fits g c =
     let t = c.requires in
     resend_fits t.me c.args.self.now t.history t.represents c.in_ok-message.message (c.in_ok-message.ensures t.me t.history t.represents)
 
-pub send-requires-clause-plain : goal.send-requires-clause-plain
-send-requires-clause-plain g c = let t = c.requires in ap as_stamped (c.in_ok-message.ensures t.me t.history t.represents)
+pub send_own-requires-clause-plain : goal.send_own-requires-clause-plain
+send_own-requires-clause-plain g c = let t = c.requires in ap as_stamped (c.in_ok-message.ensures t.me t.history t.represents)
 
 pub returns : goal.returns
 returns g c = λ me x s.
-    subst (λ (m : Message). OnOk c.send.result (StandsAt me c.args.self.now c.send.new.done (send (to_all m) x))) (c.in_ok-message.ensures me x.history s.represents) (c.send.ensures me x [] s)
+    subst (λ (m : Message). OnOk c.send_own.result (StandsAt me c.args.self.now c.send_own.new.done (send (to_all m) x))) (c.in_ok-message.ensures me x.history s.represents) (c.send_own.ensures me x [] s)
