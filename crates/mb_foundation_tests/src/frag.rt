@@ -1,7 +1,10 @@
 ghost use Rattle.std.specs.Prelude.{◌≤◌, length};
 
-use super::*;
 use mb_base::Items;
+use mb_frag::{
+    MESSAGE_LIMIT, PIECE, Pushed, Reassembler, cut, messages_come_whole_and_in_order,
+    pieces_give_the_message,
+};
 use std::test::Fail;
 
 /// A message of so many bytes, whose pieces differ.

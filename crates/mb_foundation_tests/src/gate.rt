@@ -3,8 +3,8 @@
 ghost use Rattle.std.specs.Prelude.{◌≡◌, IsTrue};
 ghost use Rattle.mb_gate.specs.Marks.{is_stamped_kind};
 
-use crate::*;
 use mb_base::{Counter, Host, Pos, Shape, View};
+use mb_gate::{Floor, Gate, Mark, Offer, Phase, gates_keep_lists_in_order};
 use mb_parts::Phase::{Changing, Entered, Open};
 use std::process::Abort;
 use std::test::Fail;

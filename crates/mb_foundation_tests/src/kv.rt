@@ -1,5 +1,5 @@
-use super::*;
 use mb_base::Items;
+use mb_kv::Kv;
 use mb_service::{PARTS, Restore, Service};
 use std::test::Fail;
 

@@ -4,18 +4,13 @@
 
 #[cfg(test)]
 mod edge;
-
 #[cfg(test)]
 mod frag;
-
 #[cfg(test)]
 mod gate;
-
 #[cfg(test)]
 mod kv;
-
 #[cfg(test)]
 mod usig;
-
 #[cfg(test)]
 mod window;

@@ -1,5 +1,5 @@
-use crate::{Pen, Spent, Usig, hmac};
 use mb_base::{Key, Shape, Ui};
+use mb_usig::{Pen, Spent, Usig, hmac};
 
 const SECRET: Key = [0; 32];
 

@@ -1,4 +1,4 @@
-use crate::{Refused, Window};
+use mb_window::{Refused, Window};
 use std::test::Fail;
 
 #[test]

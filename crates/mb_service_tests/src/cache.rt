@@ -1,5 +1,5 @@
-use super::*;
 use mb_base::{Items, Pos, Shape};
+use mb_cache::{Accept, Restore, Table, digest};
 use mb_kv::Kv;
 use mb_parts::{MAX_POS, Request};
 use std::alloc::Global;

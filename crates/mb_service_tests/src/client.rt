@@ -1,5 +1,5 @@
-use super::*;
 use mb_base::{Client, Digest, Host, Items, Key, Pos, Seq, Shape};
+use mb_client::{Asker, Taken, accepted_results_have_a_quorum};
 use mb_msg::Reply;
 use std::alloc::Global;
 use std::process::Abort;

@@ -1,7 +1,7 @@
 ghost use Rattle.std.specs.Prelude.{◌≡◌, OnOk};
 
-use super::*;
 use mb_base::{Client, Digest, Items, Pos, Seq, Shape};
+use mb_keeper::{Fetched, Keeper};
 use mb_kv::Kv;
 use mb_msg::{Request, StateMsg};
 use mb_parts::MAX_POS;

@@ -4,12 +4,9 @@
 
 #[cfg(test)]
 mod cache;
-
 #[cfg(test)]
 mod client;
-
 #[cfg(test)]
 mod keeper;
-
 #[cfg(test)]
 mod make;

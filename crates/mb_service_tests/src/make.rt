@@ -1,7 +1,7 @@
 //! Draws beside those of a program that someone else wrote.
 
-use super::*;
 use mb_base::NoMemory;
+use mb_make::Maker;
 use mb_sched::parse_schedule;
 use std::test::Fail;
 

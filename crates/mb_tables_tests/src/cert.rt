@@ -1,5 +1,5 @@
-use crate::{CertFault, CheckEvidence, CheckFloor, CheckStable, Why};
 use mb_base::{Digest, Host, Items, Key, Shape};
+use mb_cert::{CertFault, CheckEvidence, CheckFloor, CheckStable, Why};
 use mb_parts::{
     Evidence, EvidenceMember, Floor, FloorCert, FloorMember, Phase, StableCert, StableMember,
     floors_digest,

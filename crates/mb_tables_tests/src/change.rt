@@ -2,13 +2,16 @@
 
 ghost use Rattle.mb_msg.specs.Plans.{CanHash};
 
-use crate::{Change, ChangeDue, HeldPlan};
 use mb_base::{Counter, Digest, Host, Items, NoMemory, Pos, Shape, Ui, View};
+use mb_change::{Change, ChangeDue, HeldPlan};
 use mb_msg::{Body, Enter, Evidence, EvidenceMember, NewView, Phase, Plan, StableCert, ViewChange};
 use mb_parts::{Floor, Part};
 use std::alloc::Global;
 use std::process::Abort;
 use std::test::Fail;
+
+/// How many hosts the system of all tests has. None has fewer.
+const HOSTS: Host = 3;
 
 /// The primary of view 1 among three hosts.
 const HOST: Host = 1;
@@ -102,32 +105,32 @@ fn plan(alloc: Global) -> Plan
 // ---- the calls that ask for a host of the system, or for a body that fits
 
 fn wish(rt: &impl Abort, change: &mut Change, host: Host, view: View) {
-    assert!(rt; host < change.shape.n());
+    assert!(rt; host < HOSTS);
     change.wish(host, view);
 }
 
 fn wish_of(rt: &impl Abort, change: &Change, host: Host) -> View {
-    assert!(rt; host < change.shape.n());
+    assert!(rt; host < HOSTS);
     change.wish_of(host)
 }
 
 fn store(rt: &impl Abort, change: &mut Change, message: ViewChange) -> Result<(), NoMemory> {
-    assert!(rt; message.ui.host < change.shape.n());
+    assert!(rt; message.ui.host < HOSTS);
     change.store(message)
 }
 
 fn take_enter(rt: &impl Abort, change: &mut Change, message: Enter) {
-    assert!(rt; message.ui.host < change.shape.n());
+    assert!(rt; message.ui.host < HOSTS);
     change.enter(message);
 }
 
 fn opened(rt: &impl Abort, change: &mut Change, host: Host, plan: Digest) {
-    assert!(rt; host < change.shape.n());
+    assert!(rt; host < HOSTS);
     change.opened(host, 1, 2, plan);
 }
 
 fn opened_by(rt: &impl Abort, change: &Change, host: Host) -> (View, Counter, Digest) {
-    assert!(rt; host < change.shape.n());
+    assert!(rt; host < HOSTS);
     change.opened_by(host)
 }
 

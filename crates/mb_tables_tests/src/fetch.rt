@@ -1,8 +1,8 @@
 ghost use Rattle.std.specs.Prelude.{◌≡◌, length, IfOk};
 ghost use Rattle.mb_model.specs.States.{part_count};
 
-use super::*;
 use mb_base::{Digest, Items};
+use mb_fetch::{Kept, Parts, Shelf};
 use mb_msg::StateMsg;
 use sha2::{Digest as _, Sha256};
 use std::alloc::Global;

@@ -1,7 +1,10 @@
 //! What is kept, and the certificates that come of it. What is expected was read off the protocol's rules.
 
-use crate::Checkpoints;
+ghost use Rattle.std.specs.Prelude.{◌≡◌};
+ghost use Rattle.mb_kept.specs.Kept.{low_of};
+
 use mb_base::{Counter, Digest, Host, Items, NoMemory, Pos, Shape, Ui};
+use mb_kept::Checkpoints;
 use mb_msg::{
     Body, Checkpoint, Floor, FloorCert, FloorMember, Floors, MAX_POS, Phase, StableCert,
     StableMember,
@@ -57,28 +60,41 @@ fn whole(alloc: Global, host: Host, pos: Pos) -> Result<Checkpoint, NoMemory> {
     Ok(checkpoint(host, pos, STATE, Body::Whole(floors)))
 }
 
-/// Keeps a CHECKPOINT where it has a place, and its fields have allowed values. Tells whether it was so.
-fn keep(alloc: Global, kept: &mut Checkpoints, checkpoint: Checkpoint) -> Result<bool, NoMemory> {
-    let interval = u64::from(kept.shape.k());
-    let number = checkpoint.pos / interval;
-    if checkpoint.pos % interval != 0 || number < kept.first || number > kept.first + 2 {
+/// Keeps a CHECKPOINT where it has a place at or above this stable position, and its fields have allowed values. Tells whether it was so.
+#[tactic(auto, using(mb_normal::proofs::Tables::kept_kept, crate::proofs::KeptPlaces::kept_place))]
+fn keep(
+    alloc: Global,
+    shape: &Shape,
+    low: Pos,
+    kept: &mut Checkpoints,
+    checkpoint: Checkpoint,
+) -> Result<bool, NoMemory>
+    requires shape { kept.old.shape ≡ shape.now }
+    requires low { low_of kept.old ≡ low }
+    ensures shape { kept.new.shape ≡ shape.now }
+    ensures low { low_of kept.new ≡ low }
+{
+    let interval = u64::from(shape.k());
+    if checkpoint.pos % interval != 0 || checkpoint.pos < low || checkpoint.pos - low > 2 * interval {
         return Ok(false);
     }
-    if checkpoint.ui.host >= kept.shape.n() || !checkpoint.fits(&kept.shape) {
+    if checkpoint.ui.host >= shape.n() || !checkpoint.fits(shape) {
         return Ok(false);
     }
     kept.keep(alloc, checkpoint)?;
     Ok(true)
 }
 
-/// Raises the stable position where it may be raised to this one. Tells whether it was so.
-fn raise(kept: &mut Checkpoints, low: Pos) -> bool {
-    let interval = u64::from(kept.shape.k());
-    if low % interval != 0 || low < kept.first * interval || low > MAX_POS {
-        return false;
-    }
-    kept.raise(low);
-    true
+/// Raises the stable position to this one, to which it may be raised.
+#[tactic(auto, using(mb_normal::proofs::Tables::kept_raised))]
+fn raise(rt: &impl Abort, shape: &Shape, low: Pos, kept: &mut Checkpoints, above: Pos)
+    requires shape { kept.old.shape ≡ shape.now }
+    requires low { low_of kept.old ≡ low }
+    ensures shape { kept.new.shape ≡ shape.now }
+    ensures low { low_of kept.new ≡ above }
+{
+    assert!(rt; above % u64::from(shape.k()) == 0 && above >= low && above <= MAX_POS);
+    kept.raise(above);
 }
 
 /// Of the hosts 0 and 1.
@@ -140,31 +156,32 @@ fn assert_floor(
 #[test]
 fn two_hosts_of_three_that_agree_make_certificates(rt: HostRuntime) -> Result<(), Fail> {
     let alloc = rt.alloc();
-    let mut kept = Checkpoints::make(alloc, Shape::new(1, 4, 1)?)?;
+    let shape = Shape::new(1, 4, 1)?;
+    let mut kept = Checkpoints::make(alloc, shape)?;
     // one says another state
-    assert!(rt; keep(alloc, &mut kept, bare(0, 4, [0; 32]))?);
-    assert!(rt; keep(alloc, &mut kept, bare(1, 4, STATE))?);
+    assert!(rt; keep(alloc, &shape, 0, &mut kept, bare(0, 4, [0; 32]))?);
+    assert!(rt; keep(alloc, &shape, 0, &mut kept, bare(1, 4, STATE))?);
     assert_stable(&rt, alloc, &kept, None)?;
     // a newer one takes the place of its host's earlier one
-    assert!(rt; keep(alloc, &mut kept, bare(0, 4, STATE))?);
+    assert!(rt; keep(alloc, &shape, 0, &mut kept, bare(0, 4, STATE))?);
     assert_stable(&rt, alloc, &kept, Some(stable_cert(alloc, 4)?))?;
-    assert!(rt; keep(alloc, &mut kept, bare(2, 4, STATE))?);
+    assert!(rt; keep(alloc, &shape, 0, &mut kept, bare(2, 4, STATE))?);
     assert_stable(&rt, alloc, &kept, Some(stable_cert(alloc, 4)?))?;
     // for a floor they count whole alone
-    assert!(rt; keep(alloc, &mut kept, whole(alloc, 2, 4)?)?);
+    assert!(rt; keep(alloc, &shape, 0, &mut kept, whole(alloc, 2, 4)?)?);
     assert_floor(&rt, alloc, &kept, None)?;
-    assert!(rt; keep(alloc, &mut kept, whole(alloc, 0, 4)?)?);
+    assert!(rt; keep(alloc, &shape, 0, &mut kept, whole(alloc, 0, 4)?)?);
     assert_floor(&rt, alloc, &kept, Some(floor_cert(alloc, 4)?))?;
     // what is stable is certified no more, but still gives a floor
-    assert!(rt; raise(&mut kept, 4));
+    raise(&rt, &shape, 0, &mut kept, 4);
     assert_stable(&rt, alloc, &kept, None)?;
     assert_floor(&rt, alloc, &kept, Some(floor_cert(alloc, 4)?))?;
     // the place of two intervals above the stable position is the last one
-    assert!(rt; keep(alloc, &mut kept, bare(0, 12, STATE))?);
-    assert!(rt; !keep(alloc, &mut kept, bare(0, 16, STATE))?);
-    assert!(rt; keep(alloc, &mut kept, bare(1, 12, STATE))?);
+    assert!(rt; keep(alloc, &shape, 4, &mut kept, bare(0, 12, STATE))?);
+    assert!(rt; !keep(alloc, &shape, 4, &mut kept, bare(0, 16, STATE))?);
+    assert!(rt; keep(alloc, &shape, 4, &mut kept, bare(1, 12, STATE))?);
     assert_stable(&rt, alloc, &kept, Some(stable_cert(alloc, 12)?))?;
-    assert!(rt; raise(&mut kept, 12));
+    raise(&rt, &shape, 4, &mut kept, 12);
     assert_floor(&rt, alloc, &kept, None)?;
     Ok(())
 }

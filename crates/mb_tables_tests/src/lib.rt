@@ -3,21 +3,15 @@
 
 #[cfg(test)]
 mod cert;
-
 #[cfg(test)]
 mod change;
-
 #[cfg(test)]
 mod fetch;
-
 #[cfg(test)]
 mod kept;
-
 #[cfg(test)]
 mod log;
-
 #[cfg(test)]
 mod normal;
-
 #[cfg(test)]
 mod votes;

@@ -1,10 +1,11 @@
 //! What a log keeps and answers, as tables. What is expected was read off the protocol's rules.
 
-ghost use Rattle.std.specs.Prelude.{◌≡◌};
+ghost use Rattle.std.specs.Prelude.{◌≡◌, Some};
+ghost use Rattle.mb_log.specs.Logs.{floor_counter};
 
-use crate::OwnLog;
-use crate::log::counter_for;
 use mb_base::{Counter, Host, Items, NoMemory, Pos, Shape, Ui};
+use mb_cert::CheckFloor;
+use mb_log::OwnLog;
 use mb_msg::{Body, Checkpoint, Commit, Shown, StableCert, Stamped};
 use mb_parts::{Floor, FloorCert, FloorMember, Part, Phase};
 use std::alloc::Global;
@@ -123,11 +124,21 @@ fn floor_cert(alloc: Global) -> Result<FloorCert, NoMemory> {
     })
 }
 
+/// This host's counter in a certificate, 0 where there is none.
+fn counter_for(floor: &FloorCert) -> Counter
+    ensures { result ≡ floor_counter HOST (Some floor.now) }
+{
+    match floor.first_floor(HOST) {
+        Some(floor) => floor.counter,
+        None => 0,
+    }
+}
+
 /// Cuts the log where it holds this host's counter in the certificate. Tells whether it was so.
 fn cut(log: &mut OwnLog, floor: FloorCert) -> bool
     requires { log.old.host ≡ HOST }
 {
-    let counter = counter_for(HOST, &floor);
+    let counter = counter_for(&floor);
     if counter < log.start() || counter - log.start() > u64::from(log.len()) {
         return false;
     }

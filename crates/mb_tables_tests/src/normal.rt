@@ -2,9 +2,9 @@
 
 ghost use Rattle.std.specs.Prelude.{◌≡◌, []};
 
-use crate::{Due, Normal, Refused, Vote};
 use mb_base::{Client, Host, Items, Pos, Seq, Shape, Ui};
 use mb_msg::{Batch, Body, Checkpoint, Request, Requests};
+use mb_normal::{Due, Normal, Refused, Vote};
 use mb_parts::{Floor, Phase};
 use std::alloc::Global;
 use std::process::Abort;
@@ -38,31 +38,49 @@ fn request(alloc: Global, client: Client, seq: Seq) -> Request
 }
 
 /// A client's request with the empty operation is pending.
-fn pend(rt: &impl Abort, alloc: Global, normal: &mut Normal, client: Client, seq: Seq) {
-    assert!(rt; client < normal.shape.clients());
+#[tactic(auto, using(crate::proofs::NormalShapes::shape_kept))]
+fn pend(
+    rt: &impl Abort,
+    alloc: Global,
+    shape: &Shape,
+    normal: &mut Normal,
+    client: Client,
+    seq: Seq,
+)
+    requires { normal.old.shape ≡ shape.now }
+    ensures { normal.new.shape ≡ shape.now }
+{
+    assert!(rt; client < shape.clients());
     normal.pend(request(alloc, client, seq));
 }
 
 /// Orders the primary's next batch at a position. How many requests it has.
-fn order(alloc: Global, normal: &mut Normal, pos: Pos) -> Result<usize, Fail> {
+#[tactic(auto, using(crate::proofs::NormalShapes::shape_kept_or_same))]
+fn order(alloc: Global, normal: &mut Normal, pos: Pos) -> Result<usize, Fail>
+    ensures { normal.new.shape ≡ normal.old.shape }
+{
     let batch = normal.batch(alloc)?;
     let count = batch.requests.as_slice().len();
     let _put = normal.slot(pos, pos, [9; 32], [7; 32], Some(batch));
     Ok(count)
 }
 
-/// The stable position.
-fn low(normal: &Normal) -> Pos
-    ensures { result ≡ normal.now.slots.window.low }
-{
-    normal.slots.window.low()
-}
-
 /// Keeps a host's CHECKPOINT one interval above the stable position 0.
-fn keep(rt: &impl Abort, alloc: Global, normal: &mut Normal, host: Host) -> Result<(), Fail> {
-    assert!(rt; host < normal.shape.n());
-    assert_eq!(rt; low(normal), 0);
-    let pos = Pos::from(normal.shape.k());
+#[tactic(auto, using(crate::proofs::NormalShapes::kept_where_it_was))]
+fn keep(
+    rt: &impl Abort,
+    alloc: Global,
+    shape: &Shape,
+    normal: &mut Normal,
+    host: Host,
+) -> Result<(), Fail>
+    requires shape { normal.old.shape ≡ shape.now }
+    requires low { normal.old.slots.window.low ≡ 0 }
+    ensures shape { normal.new.shape ≡ shape.now }
+    ensures low { normal.new.slots.window.low ≡ 0 }
+{
+    assert!(rt; host < shape.n());
+    let pos = Pos::from(shape.k());
     normal.keep(
         alloc,
         Checkpoint {
@@ -79,10 +97,12 @@ fn keep(rt: &impl Abort, alloc: Global, normal: &mut Normal, host: Host) -> Resu
     Ok(())
 }
 
-/// The stable position becomes the next multiple of the interval.
-fn raise(rt: &impl Abort, normal: &mut Normal) {
-    assert_eq!(rt; low(normal), 0);
-    let next = Pos::from(normal.shape.k());
+/// The stable position 0 becomes the next multiple of the interval.
+fn raise(shape: &Shape, normal: &mut Normal)
+    requires shape { normal.old.shape ≡ shape.now }
+    requires low { normal.old.slots.window.low ≡ 0 }
+{
+    let next = Pos::from(shape.k());
     normal.raise(next);
 }
 

@@ -1,5 +1,5 @@
-use crate::{Refused, Vote, Votes};
 use mb_base::Shape;
+use mb_votes::{Refused, Vote, Votes};
 use std::test::Fail;
 
 #[test]
