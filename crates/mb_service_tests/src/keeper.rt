@@ -1,6 +1,9 @@
-ghost use Rattle.std.specs.Prelude.{◌≡◌, OnOk};
+ghost use Rattle.std.specs.Prelude.{◌≡◌, length, IfOk, OnOk};
+ghost use Rattle.mb_base.specs.Shapes.{client_count};
+ghost use Rattle.mb_model.specs.States.{part_count};
 
 use mb_base::{Client, Digest, Items, Pos, Seq, Shape};
+use mb_fetch::Shelf;
 use mb_keeper::{Fetched, Keeper};
 use mb_kv::Kv;
 use mb_msg::{Request, StateMsg};
@@ -87,17 +90,20 @@ fn the_state_of_another_is_installed(rt: HostRuntime) -> Result<(), Fail> {
     Ok(())
 }
 
-/// Executes a request of a client that the keeper has, at a position that there is. The snapshots stay as they are.
+/// Executes a request of a client of this system, at a position that there is. The snapshots stay as they are.
 fn execute(
     rt: &impl Abort,
     alloc: Global,
+    shape: &Shape,
     keeper: &mut Keeper<Kv>,
     pos: Pos,
     client: Client,
     seq: Seq,
     op: &[u8],
 ) -> Result<(), Fail>
-    ensures { OnOk result (keeper.new.snapshots ≡ keeper.old.snapshots) }
+    requires { length keeper.old.served.table ≡ client_count shape.now }
+    ensures clients { length keeper.new.served.table ≡ client_count shape.now }
+    ensures snapshots { OnOk result (keeper.new.snapshots ≡ keeper.old.snapshots) }
 {
     let request = Request {
         client,
@@ -105,7 +111,7 @@ fn execute(
         op: bytes(alloc, op)?,
         tag: [0; 32],
     };
-    assert!(rt; client < keeper.table.clients());
+    assert!(rt; client < shape.clients());
     assert!(rt; pos >= 1);
     assert!(rt; pos <= MAX_POS);
     assert!(rt; keeper.execute(alloc, pos, &request)?);
@@ -116,36 +122,87 @@ fn execute(
 fn execute_of_each(
     rt: &impl Abort,
     alloc: Global,
+    shape: &Shape,
     keeper: &mut Keeper<Kv>,
     first: Pos,
     seq: Seq,
     op: &[u8],
 ) -> Result<(), Fail>
-    ensures { OnOk result (keeper.new.snapshots ≡ keeper.old.snapshots) }
+    requires { length keeper.old.served.table ≡ client_count shape.now }
+    ensures clients { length keeper.new.served.table ≡ client_count shape.now }
+    ensures snapshots { OnOk result (keeper.new.snapshots ≡ keeper.old.snapshots) }
 {
-    execute(rt, alloc, keeper, first, 0, seq, op)?;
-    execute(rt, alloc, keeper, first.saturating_add(1), 1, seq, op)?;
-    execute(rt, alloc, keeper, first.saturating_add(2), 2, seq, op)?;
-    execute(rt, alloc, keeper, first.saturating_add(3), 3, seq, op)
+    execute(rt, alloc, shape, keeper, first, 0, seq, op)?;
+    execute(
+        rt,
+        alloc,
+        shape,
+        keeper,
+        first.saturating_add(1),
+        1,
+        seq,
+        op,
+    )?;
+    execute(
+        rt,
+        alloc,
+        shape,
+        keeper,
+        first.saturating_add(2),
+        2,
+        seq,
+        op,
+    )?;
+    execute(
+        rt,
+        alloc,
+        shape,
+        keeper,
+        first.saturating_add(3),
+        3,
+        seq,
+        op,
+    )
 }
 
-/// All parts of the service are those of no pair but that of the key a, number 10, and the last is the client table.
+/// All parts of the snapshot of a position.
+fn snapshot(
+    rt: &impl Abort,
+    alloc: Global,
+    keeper: &Keeper<Kv>,
+    pos: Pos,
+) -> Result<Vec<Items<u8>>, Fail>
+    ensures { IfOk result (λ v. length v.items ≡ part_count) }
+{
+    let parts = keeper.state_message(alloc, 0, pos, 0)?.parts.into_vec();
+    assert!(rt; parts.len() == 65);
+    Ok(parts)
+}
+
+/// All parts of the service are those of no pair but that of the key a, number 10, and the last is the client table. A shelf with the same snapshots
+/// tells how many parts are held.
 #[test]
 fn equal_parts_of_states_are_held_once(rt: HostRuntime) -> Result<(), Fail> {
     let alloc = rt.alloc();
-    let mut keeper = Keeper::make(alloc, Shape::new(1, 4, 4)?, Kv::new(alloc))?;
-    execute_of_each(&rt, alloc, &mut keeper, 1, 1, b"\x01\x01a\x00\x011")?;
+    let shape = Shape::new(1, 4, 4)?;
+    let mut keeper = Keeper::make(alloc, shape, Kv::new(alloc))?;
+    let mut shelf = Shelf::make(alloc)?;
+    execute_of_each(&rt, alloc, &shape, &mut keeper, 1, 1, b"\x01\x01a\x00\x011")?;
     keeper.keep_snapshot(alloc, 4)?;
-    assert_eq!(rt; keeper.shelf.parts_held(), 3);
-    execute_of_each(&rt, alloc, &mut keeper, 5, 2, b"\x01\x01a\x00\x012")?;
+    shelf.keep(alloc, 4, snapshot(&rt, alloc, &keeper, 4)?)?;
+    assert_eq!(rt; shelf.parts_held(), 3);
+    execute_of_each(&rt, alloc, &shape, &mut keeper, 5, 2, b"\x01\x01a\x00\x012")?;
     keeper.keep_snapshot(alloc, 8)?;
-    assert_eq!(rt; keeper.shelf.parts_held(), 5);
+    shelf.keep(alloc, 8, snapshot(&rt, alloc, &keeper, 8)?)?;
+    assert_eq!(rt; shelf.parts_held(), 5);
     keeper.raise(8);
-    assert_eq!(rt; keeper.shelf.parts_held(), 3);
-    assert!(rt; keeper.shelf.part(4, 0).is_none());
-    let held: [(u8, &[u8]); 2] = [(0, b"\x00\x00"), (10, b"\x00\x01\x01a\x00\x012")];
+    shelf.drop_below(8);
+    assert_eq!(rt; shelf.parts_held(), 3);
+    assert!(rt; !keeper.has_snapshot(4) && keeper.state_message(alloc, 0, 4, 0)?.parts.is_empty());
+    let kept = snapshot(&rt, alloc, &keeper, 8)?;
+    let held: [(usize, &[u8]); 2] = [(0, b"\x00\x00"), (10, b"\x00\x01\x01a\x00\x012")];
     for (number, text) in held {
-        assert_eq!(rt; keeper.shelf.part(8, number), Some(text));
+        assert!(rt; kept.get(number).map(|part| part.as_slice()) == Some(text));
     }
     Ok(())
 }

@@ -75,7 +75,10 @@ fn keep(
     ensures low { low_of kept.new ≡ low }
 {
     let interval = u64::from(shape.k());
-    if checkpoint.pos % interval != 0 || checkpoint.pos < low || checkpoint.pos - low > 2 * interval {
+    if checkpoint.pos % interval != 0
+        || checkpoint.pos < low
+        || checkpoint.pos - low > 2 * interval
+    {
         return Ok(false);
     }
     if checkpoint.ui.host >= shape.n() || !checkpoint.fits(shape) {

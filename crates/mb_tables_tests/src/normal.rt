@@ -65,6 +65,24 @@ fn order(alloc: Global, normal: &mut Normal, pos: Pos) -> Result<usize, Fail>
     Ok(count)
 }
 
+/// The request of the client with this number is pending, and is ordered at the position behind the same number.
+fn order_one(
+    rt: &impl Abort,
+    alloc: Global,
+    shape: &Shape,
+    normal: &mut Normal,
+    last: u8,
+) -> Result<(), Fail>
+    requires { normal.old.shape ≡ shape.now }
+    ensures { normal.new.shape ≡ shape.now }
+{
+    pend(rt, alloc, shape, normal, last, 1);
+    let last = Pos::from(last);
+    assert!(rt; normal.due(&behind(last), 0, 0, true) == Due::Prepare);
+    assert_eq!(rt; order(alloc, normal, last + 1)?, 1);
+    Ok(())
+}
+
 /// Keeps a host's CHECKPOINT one interval above the stable position 0.
 #[tactic(auto, using(crate::proofs::NormalShapes::kept_where_it_was))]
 fn keep(
@@ -141,14 +159,14 @@ fn a_backup_commits_and_executes(rt: HostRuntime) -> Result<(), Fail> {
 
 #[test]
 fn the_primary_is_four_positions_ahead_at_most(rt: HostRuntime) -> Result<(), Fail> {
-    let mut normal = Normal::make(rt.alloc(), Shape::new(1, 4, 6)?, 0)?;
-    for last in 0..4 {
-        pend(&rt, rt.alloc(), &mut normal, last as u8, 1);
-        assert!(rt; normal.due(&behind(last), 0, 0, true) == Due::Prepare);
-        assert_eq!(rt; order(rt.alloc(), &mut normal, last + 1)?, 1);
-    }
-    pend(&rt, rt.alloc(), &mut normal, 4, 1);
-    pend(&rt, rt.alloc(), &mut normal, 5, 1);
+    let shape = Shape::new(1, 4, 6)?;
+    let mut normal = Normal::make(rt.alloc(), shape, 0)?;
+    order_one(&rt, rt.alloc(), &shape, &mut normal, 0)?;
+    order_one(&rt, rt.alloc(), &shape, &mut normal, 1)?;
+    order_one(&rt, rt.alloc(), &shape, &mut normal, 2)?;
+    order_one(&rt, rt.alloc(), &shape, &mut normal, 3)?;
+    pend(&rt, rt.alloc(), &shape, &mut normal, 4, 1);
+    pend(&rt, rt.alloc(), &shape, &mut normal, 5, 1);
     assert!(rt; normal.due(&behind(4), 0, 0, true) == Due::Nothing);
     assert!(rt; normal.due(&behind(4), 1, 0, true) == Due::Prepare);
     assert_eq!(rt; order(rt.alloc(), &mut normal, 5)?, 2);
@@ -158,8 +176,9 @@ fn the_primary_is_four_positions_ahead_at_most(rt: HostRuntime) -> Result<(), Fa
 
 #[test]
 fn served_numbers_settle(rt: HostRuntime) -> Result<(), Fail> {
-    let mut normal = Normal::make(rt.alloc(), Shape::new(1, 4, 1)?, 0)?;
-    pend(&rt, rt.alloc(), &mut normal, 0, 2);
+    let shape = Shape::new(1, 4, 1)?;
+    let mut normal = Normal::make(rt.alloc(), shape, 0)?;
+    pend(&rt, rt.alloc(), &shape, &mut normal, 0, 2);
     normal.settle(0, 1);
     assert!(rt; normal.pending(0).is_some());
     normal.settle(0, 2);
@@ -169,15 +188,16 @@ fn served_numbers_settle(rt: HostRuntime) -> Result<(), Fail> {
 
 #[test]
 fn two_hosts_make_a_position_stable(rt: HostRuntime) -> Result<(), Fail> {
-    let mut normal = Normal::make(rt.alloc(), Shape::new(1, 4, 1)?, 0)?;
-    keep(&rt, rt.alloc(), &mut normal, 0)?;
+    let shape = Shape::new(1, 4, 1)?;
+    let mut normal = Normal::make(rt.alloc(), shape, 0)?;
+    keep(&rt, rt.alloc(), &shape, &mut normal, 0)?;
     assert!(rt; normal.stable(rt.alloc())?.is_none());
-    keep(&rt, rt.alloc(), &mut normal, 2)?;
+    keep(&rt, rt.alloc(), &shape, &mut normal, 2)?;
     let stable = normal.stable(rt.alloc())?.expect(&rt, "two hosts agree");
     assert_eq!(rt; stable.pos, 4);
     assert_eq!(rt; stable.members.len(), 2);
     assert!(rt; normal.floor_of(rt.alloc(), 0)?.is_none());
-    raise(&rt, &mut normal);
+    raise(&shape, &mut normal);
     assert!(rt;
         normal.slot(4, 1, [9; 32], [7; 32], None) == Err(Refused::Below { low: 4, item: None })
     );
