@@ -9,6 +9,7 @@ mod OwnViews
 mod OwnCheckpoints
 mod Carrying
 mod Signing
+mod StillSigned
 mod Bounds
 mod NextRules
 mod RuleLoop

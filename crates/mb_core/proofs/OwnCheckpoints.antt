@@ -92,21 +92,21 @@ module _ {V : Type 0} (me : Identity V) where
     unspent = subst (λ (n : ℕ). n < 2 ^ 64 - 1) (sym rep.tables.counter) (ltb-true (counter_of d) (2 ^ 64 - 1) (and_parts (nat_lt (count_by is_normal (own_log me d)) (normal_limit me.shape)) (is_unspent me d) w.room).1)
 
     module _ (floors : List (Option Floor)) (is : floors ≡ floors_under me d pos) where
-      abbrev unsigned : StampedMessage
-      unsigned = stamped.Checkpoint (record { pos = pos; state = state; body = Whole (record { floors = floors }); ui = NO_UI })
+      abbrev unsigned : Checkpoint
+      unsigned = record { pos = pos; state = state; body = Whole (record { floors = floors }); ui = NO_UI }
 
-      pub signs : signed me d unsigned ≡ made
+      pub signs : signed me d (stamped.Checkpoint unsigned) ≡ made
       signs = rw (w.digest, is) refl
 
-      pub fits_unsigned : FitsStamped old.agreement.shape unsigned
-      fits_unsigned = fits_again old.agreement.shape (next_ui me d (bare_of unsigned)) unsigned (no_ui_fits old.agreement.shape) (subst (FitsStamped old.agreement.shape) (sym signs) made_fits)
+      pub fits_unsigned : FitsStamped old.agreement.shape (stamped.Checkpoint unsigned)
+      fits_unsigned = fits_again old.agreement.shape (next_ui me d (bare_of (stamped.Checkpoint unsigned))) (stamped.Checkpoint unsigned) (no_ui_fits old.agreement.shape) (subst (FitsStamped old.agreement.shape) (sym signs) made_fits)
 
-      -- What was signed is what is made.
-      pub same_own : (s : Signed) (own m : Checkpoint) → IsSigned (signed me d unsigned) s → s.message ≡ stamped.Checkpoint own → m ≡ own → made ≡ stamped.Checkpoint m
-      same_own s own m is_signed is copied = sym signs ∙ sym is_signed.message ∙ is ∙ ap (λ (y : Checkpoint). stamped.Checkpoint y) (sym copied)
+      -- What was signed is the copy under its identifier, and it is what is made.
+      pub is_own : (s : Signed) (kept : Checkpoint) → IsSigned (signed me d (stamped.Checkpoint unsigned)) s → kept ≡ unsigned → s.message ≡ stamped.Checkpoint (record kept { ui = s.ui })
+      is_own s kept is_signed copied = rw (copied, is_signed.ui) is_signed.message
 
-      pub no_other : (s : Signed) → IsSigned (signed me d unsigned) s → ((own : Checkpoint) → s.message ≡ stamped.Checkpoint own → ⊥) → ⊥
-      no_other s is_signed other = other (record { pos = pos; state = state; body = Whole (record { floors = floors }); ui = next_ui me d (bare_of unsigned) }) is_signed.message
+      pub same_own : (s : Signed) (kept : Checkpoint) → IsSigned (signed me d (stamped.Checkpoint unsigned)) s → kept ≡ unsigned → made ≡ stamped.Checkpoint (record kept { ui = s.ui })
+      same_own s kept is_signed copied = sym signs ∙ sym is_signed.message ∙ is_own s kept is_signed copied
 
     -- ---- it is kept
 
