@@ -19,7 +19,7 @@ use std::alloc::Global;
 pub const PROGRAM: u8 = 255;
 
 /// What messages are sent with: how many hosts there are, and the number of the next message.
-#[derive(Clone, Copy, Debug)]
+#[derive(Clone, Copy)]
 pub(crate) struct Post {
     pub(crate) hosts: u8,
     pub(crate) number: u32,

@@ -28,7 +28,7 @@ use std::alloc::Global;
 const ENOUGH: u32 = 1_000_000;
 
 /// What is to be done. What it is done with is lent from the tables when it is carried out.
-#[derive(Clone, Copy, Debug, PartialEq, Eq)]
+#[derive(Clone, Copy)]
 pub(crate) enum Due {
     /// Stamp VIEW_CHANGE to a view.
     ChangeView { view: View },

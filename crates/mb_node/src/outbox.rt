@@ -14,7 +14,7 @@ use mb_msg::{Sent, To};
 use std::alloc::Global;
 
 /// Sends as a host, and numbers the messages.
-#[derive(Clone, Copy, Debug, Drop)]
+#[derive(Clone, Copy, Drop)]
 pub(crate) struct Outbox {
     pub(crate) host: Host,
     /// How many hosts there are.

@@ -22,7 +22,7 @@ use mb_service::Service;
 use std::alloc::Global;
 
 /// What an event means to the node.
-#[derive(Clone, Copy, Debug, Drop)]
+#[derive(Clone, Copy, Drop)]
 pub(crate) struct Turn {
     /// It was a right STOP.
     pub(crate) stops: bool,

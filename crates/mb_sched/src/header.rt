@@ -17,7 +17,7 @@ use mb_schedule::Name;
 use std::alloc::Global;
 
 /// A mark for each host, and one for each client.
-#[derive(Debug, PartialEq, Drop)]
+#[derive(Drop)]
 pub(crate) struct Marks {
     pub(crate) hosts: Items<bool>,
     pub(crate) clients: Items<bool>,

@@ -30,7 +30,7 @@ use std::alloc::{AllocError, Global};
 const HEADER_LINES: u64 = 6;
 
 /// Why a schedule did not run to its end.
-#[derive(Clone, Copy, Debug, PartialEq, Eq)]
+#[derive(Clone, Copy)]
 pub(crate) enum RunStop {
     /// An event is the doing of someone who is not faulty, or names a message that was not made or is of another kind.
     BadEvent {

@@ -24,7 +24,7 @@ use mb_world::{World, WorldStop};
 use std::alloc::Global;
 
 /// What is told of a soak.
-#[derive(Clone, Copy, Debug, PartialEq, Eq)]
+#[derive(Clone, Copy)]
 pub(crate) struct Summary {
     seed: u64,
     events: u64,
