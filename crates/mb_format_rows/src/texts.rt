@@ -1,0 +1,121 @@
+//! Rows of schedules, configs and records. In a row `\n` stands for the end of a line.
+
+use crate::formats::judged_message;
+use crate::runs::Runs;
+use crate::stop::Stop;
+use crate::teller::{Teller, Told};
+use mb_base::{NoMemory, Shape};
+use mb_sched::{
+    BadText, Config, Record, Schedule, parse_config, parse_record, parse_schedule, print_config,
+    print_entry, print_record_head, print_schedule,
+};
+use std::alloc::Global;
+
+/// The last line of the record of a host that was stopped.
+const END: &[u8] = b"end\n";
+
+/// What a row's bytes are to be.
+#[derive(Clone, Copy)]
+pub enum Format {
+    Message(Shape),
+    Schedule,
+    Config,
+}
+
+/// The text of a row.
+pub fn text_of_row(alloc: Global, row: &str) -> Result<String, Stop> {
+    Ok(row.replace(alloc, "\\n", "\n")?)
+}
+
+/// What is said of a bad text.
+fn bad_text(alloc: Global, error: BadText) -> Result<String, Stop> {
+    match error {
+        BadText::TooLong => Ok(String::from_str(alloc, "too long")?),
+        BadText::BadLine { number } => Ok(format!(in alloc; "bad line {number}")?),
+        BadText::NoMemory => Err(Stop::NoMemory),
+    }
+}
+
+/// Whether bytes are of a format.
+fn judged(alloc: Global, format: Format, bytes: &[u8]) -> Result<String, Stop> {
+    let fault = match format {
+        Format::Message(shape) => return judged_message(alloc, &shape, bytes),
+        Format::Schedule => parse_schedule(alloc, bytes).err(),
+        Format::Config => parse_config(alloc, bytes).err(),
+    };
+    match fault {
+        Some(error) => bad_text(alloc, error),
+        None => Ok(String::from_str(alloc, "right")?),
+    }
+}
+
+/// Whether each beginning that is not the whole is of a format, from the shortest to the longest.
+pub fn cuts_text(alloc: Global, format: Format, bytes: &[u8]) -> Result<String, Stop> {
+    let mut runs = Runs::new(alloc);
+    for len in 0..bytes.len() {
+        runs.add(judged(alloc, format, &bytes[..len])?);
+    }
+    runs.finish().ok_or(Stop::NoMemory)
+}
+
+/// What a text says, and whether it is printed as it was.
+fn told_and_printed<T: Told>(
+    alloc: Global,
+    value: &T,
+    printed: &[u8],
+    text: &str,
+) -> Result<String, Stop> {
+    let mut teller = Teller::new(alloc);
+    value.tell(&mut teller);
+    let how = if printed == text.as_bytes() {
+        "the same"
+    } else {
+        "otherwise"
+    };
+    teller.word("printed");
+    teller.word(how);
+    teller.finish()
+}
+
+/// What a schedule says.
+pub fn schedule_text(alloc: Global, text: &str) -> Result<String, Stop> {
+    match parse_schedule(alloc, text.as_bytes()) {
+        Ok(schedule) => {
+            let printed = print_schedule(alloc, &schedule)?;
+            told_and_printed(alloc, &schedule, &printed, text)
+        }
+        Err(error) => bad_text(alloc, error),
+    }
+}
+
+/// What a config says.
+pub fn config_text(alloc: Global, text: &str) -> Result<String, Stop> {
+    match parse_config(alloc, text.as_bytes()) {
+        Ok(config) => {
+            let printed = print_config(alloc, &config)?;
+            told_and_printed(alloc, &config, &printed, text)
+        }
+        Err(error) => bad_text(alloc, error),
+    }
+}
+
+/// The text of a record of a host that was stopped.
+fn printed_record(alloc: Global, record: &Record) -> Result<Vec<u8>, Stop> {
+    let mut printed = print_record_head(alloc, &record.config, record.id)?;
+    for entry in record.entries.as_slice() {
+        printed.extend_from_slice(print_entry(alloc, entry)?.as_slice())?;
+    }
+    printed.extend_from_slice(END)?;
+    Ok(printed)
+}
+
+/// What a record says.
+pub fn record_text(alloc: Global, text: &str) -> Result<String, Stop> {
+    match parse_record(alloc, text.as_bytes()) {
+        Ok(record) => {
+            let printed = printed_record(alloc, &record)?;
+            told_and_printed(alloc, &record, &printed, text)
+        }
+        Err(error) => bad_text(alloc, error),
+    }
+}
