@@ -1,5 +1,6 @@
 //! Rows of one message: its fields, its bytes, and where bytes are malformed.
 
+use crate::cuts::Judge;
 use crate::plans::{follow_text, usable_text};
 use crate::stamps::{logged_text, mark_text, opened_text, stamped_text};
 use crate::stop::Stop;
@@ -100,13 +101,20 @@ fn hash_text(alloc: Global, shape: &Shape, message: &Message) -> Result<String, 
     length_and_digest(alloc, &written)
 }
 
-/// Whether bytes are a message.
-pub fn judged_message(alloc: Global, shape: &Shape, bytes: &[u8]) -> Result<String, Stop> {
-    match decode(alloc, shape, bytes) {
-        Err(error) => fault_text(alloc, error),
-        Ok(message) => {
-            drop(message);
-            Ok(String::from_str(alloc, "a message")?)
+/// The messages of a system.
+#[derive(Clone, Copy)]
+pub struct Messages {
+    pub shape: Shape,
+}
+
+impl Judge for Messages {
+    fn judge(&self, alloc: Global, bytes: &[u8]) -> Result<String, Stop> {
+        match decode(alloc, &self.shape, bytes) {
+            Err(error) => fault_text(alloc, error),
+            Ok(message) => {
+                drop(message);
+                Ok(String::from_str(alloc, "a message")?)
+            }
         }
     }
 }

@@ -32,6 +32,7 @@
 #![tactic(auto)]
 
 mod changes;
+mod cuts;
 mod events;
 mod formats;
 mod limits;
@@ -46,11 +47,13 @@ mod teller;
 mod texts;
 mod words;
 
+use cuts::cuts_text;
+use formats::Messages;
 use std::alloc::Global;
 use std::io;
 use std::process::ExitCode;
 use stop::Stop;
-use texts::Format;
+use texts::{Configs, Schedules};
 use words::{Pieces, shape_before};
 
 /// The status where a row cannot be answered.
@@ -63,7 +66,7 @@ fn answer_of_bytes(alloc: Global, pieces: &Pieces, call: &str, row: &str) -> Res
     match (call, given.as_slice()) {
         ("plan", changes) => plans::plan_text(alloc, &shape, changes),
         ("opens", [first, second]) => plans::opens_text(alloc, &shape, first, second),
-        ("cuts", [bytes]) => texts::cuts_text(alloc, Format::Message(shape), bytes),
+        ("cuts", [bytes]) => cuts_text(alloc, &Messages { shape }, bytes),
         ("parts", [bytes]) => formats::parts_text(alloc, &shape, bytes),
         (_, [bytes]) => formats::message_text(alloc, call, &shape, bytes, &[]),
         (_, [bytes, more]) => formats::message_text(alloc, call, &shape, bytes, more),
@@ -79,8 +82,8 @@ fn answer_of_text(alloc: Global, call: &str, row: &str) -> Result<String, Stop> 
         "schedule" => texts::schedule_text(alloc, text),
         "config" => texts::config_text(alloc, text),
         "record" => texts::record_text(alloc, text),
-        "schedule-cuts" => texts::cuts_text(alloc, Format::Schedule, text.as_bytes()),
-        "config-cuts" => texts::cuts_text(alloc, Format::Config, text.as_bytes()),
+        "schedule-cuts" => cuts_text(alloc, &Schedules, text.as_bytes()),
+        "config-cuts" => cuts_text(alloc, &Configs, text.as_bytes()),
         _ => Err(Stop::NoRow),
     }
 }

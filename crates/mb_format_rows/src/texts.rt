@@ -1,26 +1,24 @@
 //! Rows of schedules, configs and records. In a row `\n` stands for the end of a line.
 
-use crate::formats::judged_message;
-use crate::runs::Runs;
+use crate::cuts::Judge;
 use crate::stop::Stop;
 use crate::teller::{Teller, Told};
-use mb_base::{NoMemory, Shape};
 use mb_sched::{
-    BadText, Config, Record, Schedule, parse_config, parse_record, parse_schedule, print_config,
-    print_entry, print_record_head, print_schedule,
+    BadText, Record, parse_config, parse_record, parse_schedule, print_config, print_entry,
+    print_record_head, print_schedule,
 };
 use std::alloc::Global;
 
 /// The last line of the record of a host that was stopped.
 const END: &[u8] = b"end\n";
 
-/// What a row's bytes are to be.
+/// Schedules as texts.
 #[derive(Clone, Copy)]
-pub enum Format {
-    Message(Shape),
-    Schedule,
-    Config,
-}
+pub struct Schedules;
+
+/// Configs as texts.
+#[derive(Clone, Copy)]
+pub struct Configs;
 
 /// The text of a row.
 pub fn text_of_row(alloc: Global, row: &str) -> Result<String, Stop> {
@@ -36,26 +34,24 @@ fn bad_text(alloc: Global, error: BadText) -> Result<String, Stop> {
     }
 }
 
-/// Whether bytes are of a format.
-fn judged(alloc: Global, format: Format, bytes: &[u8]) -> Result<String, Stop> {
-    let fault = match format {
-        Format::Message(shape) => return judged_message(alloc, &shape, bytes),
-        Format::Schedule => parse_schedule(alloc, bytes).err(),
-        Format::Config => parse_config(alloc, bytes).err(),
-    };
+/// What is said of a text with this fault, or none.
+fn fault_text(alloc: Global, fault: Option<BadText>) -> Result<String, Stop> {
     match fault {
         Some(error) => bad_text(alloc, error),
         None => Ok(String::from_str(alloc, "right")?),
     }
 }
 
-/// Whether each beginning that is not the whole is of a format, from the shortest to the longest.
-pub fn cuts_text(alloc: Global, format: Format, bytes: &[u8]) -> Result<String, Stop> {
-    let mut runs = Runs::new(alloc);
-    for len in 0..bytes.len() {
-        runs.add(judged(alloc, format, &bytes[..len])?);
+impl Judge for Schedules {
+    fn judge(&self, alloc: Global, bytes: &[u8]) -> Result<String, Stop> {
+        fault_text(alloc, parse_schedule(alloc, bytes).err())
     }
-    runs.finish().ok_or(Stop::NoMemory)
+}
+
+impl Judge for Configs {
+    fn judge(&self, alloc: Global, bytes: &[u8]) -> Result<String, Stop> {
+        fault_text(alloc, parse_config(alloc, bytes).err())
+    }
 }
 
 /// What a text says, and whether it is printed as it was.
