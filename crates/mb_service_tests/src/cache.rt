@@ -1,3 +1,4 @@
+use crate::samples::request;
 use mb_base::{Items, Pos, Shape};
 use mb_cache::{Accept, Restore, Table, digest};
 use mb_kv::Kv;
@@ -10,15 +11,6 @@ use std::test::Fail;
 fn table_of(rt: &HostRuntime, clients: u8) -> Result<Table, Fail> {
     let shape = Shape::new(1, 4, clients)?;
     Ok(Table::make(rt.alloc(), shape)?)
-}
-
-fn request(rt: &HostRuntime, client: u8, seq: u64, op: &[u8]) -> Result<Request, Fail> {
-    Ok(Request {
-        client,
-        seq,
-        op: Items::from_vec(Vec::from_slice(rt.alloc(), op)?),
-        tag: [0; 32],
-    })
 }
 
 /// Executes a request of a client that the table has, at a position that there is.
@@ -64,7 +56,7 @@ fn a_request_is_executed_once(rt: HostRuntime) -> Result<(), Fail> {
         (5, 3, b"\x03\x01a", Some(0)),
     ];
     for (seq, pos, op, result) in rows {
-        let request = request(&rt, 1, seq, op)?;
+        let request = request(rt.alloc(), 1, seq, op)?;
         let answer = execute(&rt, rt.alloc(), &mut table, &mut kv, pos, &request)?;
         match (answer, result) {
             (Some(bytes), Some(byte)) => assert_eq!(rt; bytes.as_slice(), [byte].as_slice()),
@@ -104,7 +96,7 @@ fn states_have_their_digests(rt: HostRuntime) -> Result<(), Fail> {
     );
     for (seq, first, op, state) in rows {
         for client in 0..4 {
-            let request = request(&rt, client, seq, op)?;
+            let request = request(rt.alloc(), client, seq, op)?;
             execute(
                 &rt,
                 rt.alloc(),
@@ -124,7 +116,7 @@ fn states_have_their_digests(rt: HostRuntime) -> Result<(), Fail> {
 fn a_table_is_restored_from_its_bytes(rt: HostRuntime) -> Result<(), Fail> {
     let mut kv = Kv::new(rt.alloc());
     let mut table = table_of(&rt, 2)?;
-    let request = request(&rt, 0, 1, b"\x01\x01a\x00\x011")?;
+    let request = request(rt.alloc(), 0, 1, b"\x01\x01a\x00\x011")?;
     execute(&rt, rt.alloc(), &mut table, &mut kv, 1, &request)?;
     let part = table.part(rt.alloc())?;
     assert_eq!(rt;

@@ -1,4 +1,5 @@
-use mb_base::{Client, Digest, Host, Items, Key, Pos, Seq, Shape};
+use crate::samples::bytes;
+use mb_base::{Client, Digest, Host, Key, Pos, Seq, Shape};
 use mb_client::{Asker, Taken, accepted_results_have_a_quorum};
 use mb_msg::Reply;
 use std::alloc::Global;
@@ -108,7 +109,7 @@ impl Row {
             client: self.client,
             seq: self.seq,
             pos: self.pos,
-            result: Items::from_vec(Vec::from_slice(alloc, self.result)?),
+            result: bytes(alloc, self.result)?,
             tag: *self.tag,
         })
     }

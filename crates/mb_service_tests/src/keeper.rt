@@ -2,20 +2,17 @@ ghost use Rattle.std.specs.Prelude.{◌≡◌, length, IfOk, OnOk};
 ghost use Rattle.mb_base.specs.Shapes.{client_count};
 ghost use Rattle.mb_model.specs.States.{part_count};
 
+use crate::samples::{bytes, request};
 use mb_base::{Client, Digest, Items, Pos, Seq, Shape};
 use mb_fetch::Shelf;
 use mb_keeper::{Fetched, Keeper};
 use mb_kv::Kv;
-use mb_msg::{Request, StateMsg};
+use mb_msg::StateMsg;
 use mb_parts::MAX_POS;
 use sha2::{Digest as _, Sha256};
 use std::alloc::Global;
 use std::process::Abort;
 use std::test::Fail;
-
-fn bytes(alloc: Global, all: &[u8]) -> Result<Items<u8>, Fail> {
-    Ok(Items::from_vec(Vec::from_slice(alloc, all)?))
-}
 
 /// 65 parts: the first has these bytes, each other of the service no pair, and the last is a table of one client that ends with this byte.
 fn parts(alloc: Global, first: &[u8], last: u8) -> Result<Items<Items<u8>>, Fail> {
@@ -105,12 +102,7 @@ fn execute(
     ensures clients { length keeper.new.served.table ≡ client_count shape.now }
     ensures snapshots { OnOk result (keeper.new.snapshots ≡ keeper.old.snapshots) }
 {
-    let request = Request {
-        client,
-        seq,
-        op: bytes(alloc, op)?,
-        tag: [0; 32],
-    };
+    let request = request(alloc, client, seq, op)?;
     assert!(rt; client < shape.clients());
     assert!(rt; pos >= 1);
     assert!(rt; pos <= MAX_POS);
@@ -198,7 +190,7 @@ fn equal_parts_of_states_are_held_once(rt: HostRuntime) -> Result<(), Fail> {
     keeper.raise(8);
     shelf.drop_below(8);
     assert_eq!(rt; shelf.parts_held(), 3);
-    assert!(rt; !keeper.has_snapshot(4) && keeper.state_message(alloc, 0, 4, 0)?.parts.is_empty());
+    assert!(rt; !keeper.has_snapshot(4) && keeper.state_message(alloc, 0, 4, 0)?.parts.len() == 0);
     let kept = snapshot(&rt, alloc, &keeper, 8)?;
     let held: [(usize, &[u8]); 2] = [(0, b"\x00\x00"), (10, b"\x00\x01\x01a\x00\x012")];
     for (number, text) in held {

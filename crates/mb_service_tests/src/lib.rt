@@ -10,3 +10,5 @@ mod client;
 mod keeper;
 #[cfg(test)]
 mod make;
+#[cfg(test)]
+mod samples;

@@ -1,4 +1,5 @@
-use mb_base::{Digest, Host, Items, Key, Shape};
+use crate::samples::three_hosts;
+use mb_base::{Digest, Host, Items, Key};
 use mb_cert::{CertFault, CheckEvidence, CheckFloor, CheckStable, Why};
 use mb_parts::{
     Evidence, EvidenceMember, Floor, FloorCert, FloorMember, Phase, StableCert, StableMember,
@@ -45,11 +46,6 @@ const FLOOR: Floor = Floor {
     top: 9,
     point: 4,
 };
-
-/// Three hosts, of which two decide.
-fn three_hosts() -> Result<Shape, Fail> {
-    Ok(Shape::new(1, 4, 1)?)
-}
 
 fn fault(index: u8, why: Why) -> CertFault {
     CertFault { index, why }

@@ -2,7 +2,8 @@
 
 ghost use Rattle.mb_msg.specs.Plans.{CanHash};
 
-use mb_base::{Counter, Digest, Host, Items, NoMemory, Pos, Shape, Ui, View};
+use crate::samples::{three_hosts, ui};
+use mb_base::{Counter, Digest, Host, Items, NoMemory, Pos, View};
 use mb_change::{Change, ChangeDue, HeldPlan};
 use mb_msg::{Body, Enter, Evidence, EvidenceMember, NewView, Phase, Plan, StableCert, ViewChange};
 use mb_parts::{Floor, Part};
@@ -21,14 +22,6 @@ const EMPTY_PLAN: Digest = [
     0xde, 0x65, 0xd3, 0x6f, 0x9f, 0x32, 0xbd, 0x8b, 0x0e, 0x7e, 0x56, 0x6c, 0xae, 0xe0, 0x43, 0x9d,
     0xf5, 0xf4, 0x35, 0xbe, 0xb5, 0xca, 0xe2, 0xd9, 0x33, 0x1c, 0x81, 0x25, 0xeb, 0x23, 0x2d, 0xf0,
 ];
-
-fn ui(host: Host, counter: Counter) -> Ui {
-    Ui {
-        host,
-        counter,
-        cert: [7; 32],
-    }
-}
 
 fn at(view: View, phase: Phase, last: Pos) -> Floor {
     Floor {
@@ -205,7 +198,7 @@ fn assert_evidence(
 
 #[test]
 fn wishes_of_two_hosts_change_the_view(rt: HostRuntime) -> Result<(), Fail> {
-    let mut change = Change::make(rt.alloc(), Shape::new(1, 4, 1)?, HOST)?;
+    let mut change = Change::make(rt.alloc(), three_hosts()?, HOST)?;
     wish(&rt, &mut change, 2, 5);
     assert_due(
         &rt,
@@ -226,7 +219,7 @@ fn wishes_of_two_hosts_change_the_view(rt: HostRuntime) -> Result<(), Fail> {
 #[test]
 fn the_first_two_are_chosen_by_host(rt: HostRuntime) -> Result<(), Fail> {
     let alloc = rt.alloc();
-    let mut change = Change::make(alloc, Shape::new(1, 4, 1)?, HOST)?;
+    let mut change = Change::make(alloc, three_hosts()?, HOST)?;
     store(&rt, &mut change, view_change(2, 1, 1))?;
     assert_chosen(&rt, alloc, &change, &[])?;
     store(&rt, &mut change, view_change(HOST, 1, 1))?;
@@ -248,7 +241,7 @@ fn the_first_two_are_chosen_by_host(rt: HostRuntime) -> Result<(), Fail> {
 #[test]
 fn a_primary_opens_its_view(rt: HostRuntime) -> Result<(), Fail> {
     let alloc = rt.alloc();
-    let mut change = Change::make(alloc, Shape::new(1, 4, 1)?, HOST)?;
+    let mut change = Change::make(alloc, three_hosts()?, HOST)?;
     change.hold_plan(1, plan(alloc));
     assert_empty_plan(&rt, alloc, &change);
     hold_new_view(&rt, &mut change, new_view(EMPTY_PLAN));
@@ -278,7 +271,7 @@ fn a_primary_opens_its_view(rt: HostRuntime) -> Result<(), Fail> {
 #[test]
 fn what_is_stable_beyond_the_view_is_joined(rt: HostRuntime) -> Result<(), Fail> {
     let alloc = rt.alloc();
-    let mut change = Change::make(alloc, Shape::new(1, 4, 1)?, HOST)?;
+    let mut change = Change::make(alloc, three_hosts()?, HOST)?;
     opened(&rt, &mut change, 2, [9; 32]);
     assert!(rt; opened_by(&rt, &change, 2) == (1, 2, [9; 32]));
     assert!(rt; opened_by(&rt, &change, 0) == (0, 0, [0; 32]));
@@ -308,7 +301,7 @@ fn what_is_stable_beyond_the_view_is_joined(rt: HostRuntime) -> Result<(), Fail>
 
 #[test]
 fn a_backup_enters(rt: HostRuntime) -> Result<(), Fail> {
-    let mut change = Change::make(rt.alloc(), Shape::new(1, 4, 1)?, 2)?;
+    let mut change = Change::make(rt.alloc(), three_hosts()?, 2)?;
     hold_new_view(&rt, &mut change, new_view([9; 32]));
     let due = ChangeDue::ViewChange { view: 1 };
     assert_due(&rt, &change, at(0, Phase::Open, 0), 0, 0, due);

@@ -3,11 +3,11 @@
 ghost use Rattle.std.specs.Prelude.{◌≡◌};
 ghost use Rattle.mb_kept.specs.Kept.{low_of};
 
-use mb_base::{Counter, Digest, Host, Items, NoMemory, Pos, Shape, Ui};
+use crate::samples::{FLOOR_AT_4, three_hosts};
+use mb_base::{Digest, Host, Items, NoMemory, Pos, Shape, Ui};
 use mb_kept::Checkpoints;
 use mb_msg::{
-    Body, Checkpoint, Floor, FloorCert, FloorMember, Floors, MAX_POS, Phase, StableCert,
-    StableMember,
+    Body, Checkpoint, Floor, FloorCert, FloorMember, Floors, MAX_POS, StableCert, StableMember,
 };
 use mb_parts::Part;
 use std::alloc::Global;
@@ -15,16 +15,6 @@ use std::process::Abort;
 use std::test::Fail;
 
 const STATE: Digest = [3; 32];
-
-/// Where the hosts that take part saw host 0.
-const FLOOR: Floor = Floor {
-    counter: 5,
-    view: 0,
-    phase: Phase::Open,
-    last: 4,
-    top: 4,
-    point: 4,
-};
 
 fn checkpoint(host: Host, pos: Pos, state: Digest, body: Body<Floors>) -> Checkpoint {
     Checkpoint {
@@ -47,7 +37,7 @@ fn bare(host: Host, pos: Pos, state: Digest) -> Checkpoint {
 /// Of three hosts, a floor of host 0 alone.
 fn floors(alloc: Global) -> Result<Items<Option<Floor>>, NoMemory> {
     let mut floors = Items::new(alloc);
-    floors.push(Some(FLOOR))?;
+    floors.push(Some(FLOOR_AT_4))?;
     floors.push(None)?;
     floors.push(None)?;
     Ok(floors)
@@ -159,7 +149,7 @@ fn assert_floor(
 #[test]
 fn two_hosts_of_three_that_agree_make_certificates(rt: HostRuntime) -> Result<(), Fail> {
     let alloc = rt.alloc();
-    let shape = Shape::new(1, 4, 1)?;
+    let shape = three_hosts()?;
     let mut kept = Checkpoints::make(alloc, shape)?;
     // one says another state
     assert!(rt; keep(alloc, &shape, 0, &mut kept, bare(0, 4, [0; 32]))?);

@@ -14,4 +14,6 @@ mod log;
 #[cfg(test)]
 mod normal;
 #[cfg(test)]
+mod samples;
+#[cfg(test)]
 mod votes;

@@ -3,24 +3,17 @@
 ghost use Rattle.std.specs.Prelude.{◌≡◌, Some};
 ghost use Rattle.mb_log.specs.Logs.{floor_counter};
 
-use mb_base::{Counter, Host, Items, NoMemory, Pos, Shape, Ui};
+use crate::samples::{FLOOR_AT_4, three_hosts, ui};
+use mb_base::{Counter, Host, Items, NoMemory, Pos, Shape};
 use mb_cert::CheckFloor;
 use mb_log::OwnLog;
 use mb_msg::{Body, Checkpoint, Commit, Shown, StableCert, Stamped};
-use mb_parts::{Floor, FloorCert, FloorMember, Part, Phase};
+use mb_parts::{FloorCert, FloorMember, Part};
 use std::alloc::Global;
 use std::test::Fail;
 
 /// The host whose log is tested.
 const HOST: Host = 1;
-
-fn ui(counter: Counter) -> Ui {
-    Ui {
-        host: HOST,
-        counter,
-        cert: [7; 32],
-    }
-}
 
 fn vote(pos: Pos, counter: Counter) -> Commit {
     Commit {
@@ -29,7 +22,7 @@ fn vote(pos: Pos, counter: Counter) -> Commit {
         counter: pos,
         cert: [1; 32],
         body: Body::Bare([2; 32]),
-        ui: ui(counter),
+        ui: ui(HOST, counter),
     }
 }
 
@@ -42,7 +35,7 @@ fn checkpoint(pos: Pos, counter: Counter) -> Stamped {
         pos,
         state: [3; 32],
         body: Body::Bare([4; 32]),
-        ui: ui(counter),
+        ui: ui(HOST, counter),
     })
 }
 
@@ -82,7 +75,7 @@ fn append_six(alloc: Global, shape: &Shape, log: &mut OwnLog) -> Result<bool, No
 
 #[test]
 fn votes_and_checkpoints_fill_the_log(rt: HostRuntime) -> Result<(), Fail> {
-    let shape = Shape::new(1, 4, 1)?;
+    let shape = three_hosts()?;
     let mut log = OwnLog::make(rt.alloc(), shape, HOST)?;
     assert!(rt; append_six(rt.alloc(), &shape, &mut log)?);
     assert_eq!(rt; log.len(), 6);
@@ -101,14 +94,7 @@ fn floor_cert(alloc: Global) -> Result<FloorCert, NoMemory> {
     for host in 0..2 {
         let mut floors = Items::new(alloc);
         floors.push(None)?;
-        floors.push(Some(Floor {
-            counter: 5,
-            view: 0,
-            phase: Phase::Open,
-            last: 4,
-            top: 4,
-            point: 4,
-        }))?;
+        floors.push(Some(FLOOR_AT_4))?;
         floors.push(None)?;
         members.push(FloorMember {
             host,
@@ -148,7 +134,7 @@ fn cut(log: &mut OwnLog, floor: FloorCert) -> bool
 
 #[test]
 fn a_log_is_cut_at_its_floor_and_shown(rt: HostRuntime) -> Result<(), Fail> {
-    let shape = Shape::new(1, 4, 1)?;
+    let shape = three_hosts()?;
     let mut log = OwnLog::make(rt.alloc(), shape, HOST)?;
     assert!(rt; append_six(rt.alloc(), &shape, &mut log)?);
     assert!(rt; cut(&mut log, floor_cert(rt.alloc())?));

@@ -2,6 +2,7 @@
 
 ghost use Rattle.std.specs.Prelude.{◌≡◌, []};
 
+use crate::samples::three_hosts;
 use mb_base::{Client, Host, Items, Pos, Seq, Shape, Ui};
 use mb_msg::{Batch, Body, Checkpoint, Request, Requests};
 use mb_normal::{Due, Normal, Refused, Vote};
@@ -126,7 +127,7 @@ fn raise(shape: &Shape, normal: &mut Normal)
 
 #[test]
 fn a_backup_commits_and_executes(rt: HostRuntime) -> Result<(), Fail> {
-    let mut normal = Normal::make(rt.alloc(), Shape::new(1, 4, 1)?, 1)?;
+    let mut normal = Normal::make(rt.alloc(), three_hosts()?, 1)?;
     let vote = Vote {
         counter: 1,
         request: [7; 32],
@@ -176,7 +177,7 @@ fn the_primary_is_four_positions_ahead_at_most(rt: HostRuntime) -> Result<(), Fa
 
 #[test]
 fn served_numbers_settle(rt: HostRuntime) -> Result<(), Fail> {
-    let shape = Shape::new(1, 4, 1)?;
+    let shape = three_hosts()?;
     let mut normal = Normal::make(rt.alloc(), shape, 0)?;
     pend(&rt, rt.alloc(), &shape, &mut normal, 0, 2);
     normal.settle(0, 1);
@@ -188,7 +189,7 @@ fn served_numbers_settle(rt: HostRuntime) -> Result<(), Fail> {
 
 #[test]
 fn two_hosts_make_a_position_stable(rt: HostRuntime) -> Result<(), Fail> {
-    let shape = Shape::new(1, 4, 1)?;
+    let shape = three_hosts()?;
     let mut normal = Normal::make(rt.alloc(), shape, 0)?;
     keep(&rt, rt.alloc(), &shape, &mut normal, 0)?;
     assert!(rt; normal.stable(rt.alloc())?.is_none());

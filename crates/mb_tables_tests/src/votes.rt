@@ -1,12 +1,10 @@
-use mb_base::Shape;
+use crate::samples::three_hosts;
 use mb_votes::{Refused, Vote, Votes};
 use std::test::Fail;
 
 #[test]
 fn the_lowest_position_with_a_quorum_is_ready(rt: HostRuntime) -> Result<(), Fail> {
-    let Ok(shape) = Shape::new(1, 4, 1) else {
-        return Ok(());
-    };
+    let shape = three_hosts()?;
     let r = Vote {
         counter: 1,
         request: [1; 32],
