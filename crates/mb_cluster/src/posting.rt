@@ -62,7 +62,7 @@ pub(crate) fn encode_own(
     message: Message,
 ) -> Result<Vec<u8>, NoMemory>
     requires { Fits shape.now message }
-    ensures text { IfOk result (λ v. v.items ≡ spelling message) }
+    ensures { IfOk result (λ v. v.items ≡ spelling message) }
 {
     let bytes = encode(alloc, shape, &message);
     drop(message);

@@ -5,14 +5,14 @@ use Rattle.mb_msg.specs.Spelling.{spelling}
 use Rattle.mb_cluster.proofs.SizeLemmas.{spelled_some, small_stop, stop_tag_length}
 use Rattle.mb_cluster.proofs.asking.stop_message.Goals as goal
 
-pub encode-requires : goal.encode-requires
-encode-requires c = small_stop c.args.shape.now (record { tag = c.tag_stop-tag.result }) (rw (c.tag_stop-tag.ensures, c.new.ensures) (stop_tag_length c.args.secret.now))
+pub encode_own-requires : goal.encode_own-requires
+encode_own-requires c = small_stop c.args.shape.now (record { tag = c.tag_stop-tag.result }) (rw (c.tag_stop-tag.ensures, c.new.ensures) (stop_tag_length c.args.secret.now))
 
 pub returns-clause-bytes : goal.returns-clause-bytes
-returns-clause-bytes c = c.in_ok-bytes.ensures.text ∙ ap (λ (t : Bytes). spelling (Stop (record { tag = t }))) (rw c.new.ensures at c.tag_stop-tag.ensures)
+returns-clause-bytes c = c.in_ok-bytes.ensures ∙ ap (λ (t : Bytes). spelling (Stop (record { tag = t }))) (rw c.new.ensures at c.tag_stop-tag.ensures)
 
 pub returns-clause-some : goal.returns-clause-some
-returns-clause-some c = rw c.in_ok-bytes.ensures.text (spelled_some (Stop (record { tag = c.tag_stop-tag.result })))
+returns-clause-some c = rw c.in_ok-bytes.ensures (spelled_some (Stop (record { tag = c.tag_stop-tag.result })))
 
 pub returns-clause-short : goal.returns-clause-short
-returns-clause-short c = rw c.in_ok-bytes.ensures.text ((small_stop c.args.shape.now (record { tag = c.tag_stop-tag.result }) (rw (c.tag_stop-tag.ensures, c.new.ensures) (stop_tag_length c.args.secret.now))).size)
+returns-clause-short c = rw c.in_ok-bytes.ensures ((small_stop c.args.shape.now (record { tag = c.tag_stop-tag.result }) (rw (c.tag_stop-tag.ensures, c.new.ensures) (stop_tag_length c.args.secret.now))).size)
