@@ -20,3 +20,6 @@ place_above k first low pos some at above near whole =
     let most : number ≤ first + 2 = at_least number (first + 2) k some (omega (arith, sum, at, near, above, exact)) in
     let same : first + (number - first) ≡ number = omega (arith, least) in
     (number - first, omega (arith, most), sym exact ∙ ap (λ n. n * k) (sym same))
+
+pub multiple : (k low : ℕ) → low % k ≡ 0 → (number : ℕ) × (low ≡ number * k)
+multiple k low whole = (low / k, (let h = div-add-mod' low k in omega (arith, h, whole)))

@@ -51,7 +51,7 @@ fn whole(alloc: Global, host: Host, pos: Pos) -> Result<Checkpoint, NoMemory> {
 }
 
 /// Keeps a CHECKPOINT where it has a place at or above this stable position, and its fields have allowed values. Tells whether it was so.
-#[tactic(auto, using(mb_normal::proofs::Tables::kept_kept, crate::proofs::KeptPlaces::kept_place))]
+#[tactic(auto, using(mb_normal::proofs::Tables::kept_kept))]
 fn keep(
     alloc: Global,
     shape: &Shape,
@@ -79,7 +79,7 @@ fn keep(
 }
 
 /// Raises the stable position to this one, to which it may be raised.
-#[tactic(auto, using(mb_normal::proofs::Tables::kept_raised))]
+#[tactic(auto, using(crate::proofs::Multiples::multiple))]
 fn raise(rt: &impl Abort, shape: &Shape, low: Pos, kept: &mut Checkpoints, above: Pos)
     requires shape { kept.old.shape ≡ shape.now }
     requires low { low_of kept.old ≡ low }

@@ -85,7 +85,7 @@ fn order_one(
 }
 
 /// Keeps a host's CHECKPOINT one interval above the stable position 0.
-#[tactic(auto, using(crate::proofs::NormalShapes::kept_where_it_was))]
+#[tactic(auto, using(crate::proofs::NormalShapes::shape_kept_or_same, crate::proofs::NormalShapes::low_kept_or_same))]
 fn keep(
     rt: &impl Abort,
     alloc: Global,
