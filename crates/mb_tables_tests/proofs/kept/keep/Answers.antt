@@ -1,4 +1,4 @@
-use Rattle.std.proofs.Common.{◌≡◌, ℕ, ◌+◌, ◌-◌, ◌*◌, ◌≤◌, ◌%◌, ap, sym, ◌∙◌, subst, arith}
+use Rattle.std.proofs.Common.{◌≡◌, ◌-◌, ◌*◌, ◌≤◌, ◌%◌, ap, sym, ◌∙◌, subst, arith}
 use Rattle.mb_base.specs.declared.shape.Shape.{Shape}
 use Rattle.mb_base.specs.Shapes.{interval}
 use Rattle.mb_tables_tests.proofs.Multiples.{place_above}
