@@ -11,6 +11,3 @@ pub use children::ChildSpawner;
 pub use program::{own_path, words_of};
 pub use sockets::UdpLink;
 pub use streams::{StdSink, StdSource};
-
-#[cfg(test)]
-mod tests;

@@ -1,5 +1,5 @@
-use super::*;
 use mb_edge::{Failed, Got, Link, ReadStop, Sink, Source, Spawner, read_all};
+use mb_system::{ChildSpawner, StdSink, StdSource, UdpLink};
 use std::io::{ErrorKind, Read, Write};
 use std::test::Fail;
 use std::{fs, io};
