@@ -14,10 +14,9 @@ use Rattle.mb_model.specs.Plans.{no_base}
 use Rattle.mb_msg.specs.declared.event.Outcome.TheVariants as outcome
 use Rattle.mb_model.specs.Histories.{Identity}
 use Rattle.mb_model.specs.Held.{change_fault}
-use Rattle.mb_model.specs.HostStep.{transition}
 use Rattle.mb_model.proofs.Hex.{unhex}
 use Rattle.mb_model.proofs.StepOnLiterals.{host_on_literals}
-use Rattle.mb_worked.proofs.Networks.{Appears, Reaches, Waits, nothing_yet, net_after, story}
+use Rattle.mb_worked.proofs.Networks.{Appears, Reaches, nothing_yet, net_after, story}
 use Rattle.mb_worked.proofs.Samples.{four_clients, host, asked, alone, prepare}
 
 -- a VIEW_CHANGE with no floor and nothing stable that shows these entries
@@ -63,7 +62,7 @@ abbrev three : ℕ → Identity Bytes
 three = host four_clients
 
 abbrev late_commit : Commit
-late_commit = record { view = 0; pos = 1; counter = 1; cert = (prepare 1).ui.cert; body = Whole (alone (asked 0)); ui = record { host = 1; counter = 12; cert = unhex (codes "2b363e687f9aecccf87612524af53a6b7e9914bbb366005b981202de63c37d1f") } }
+late_commit = record { view = 0; pos = 1; counter = 1; cert = prepare.ui.cert; body = Whole (alone (asked 0)); ui = record { host = 1; counter = 12; cert = unhex (codes "2b363e687f9aecccf87612524af53a6b7e9914bbb366005b981202de63c37d1f") } }
 
 abbrev shows_a_late_commit : ViewChange
 shows_a_late_commit = change 1 1 1 (shown.Commit late_commit ∷ []) (unhex (codes "42d2bb57e08792040cffdae1238e8eaa5f5722887b5ece3bec501cf3055591fb"))
@@ -76,14 +75,3 @@ a_late_log_is_unusable : story three (net_after three (Appears (message.ViewChan
 }
 unfolding host_on_literals net_after story
 a_late_log_is_unusable = refl
-
--- ---- a NEW_VIEW before its time: h1 commits a request, both backups lose patience, and the NEW_VIEW of h1 reaches h2 before the COMMIT and the VIEW_CHANGE of h1
-
-a_new_view_waits_for_what_is_before : story three (net_after three (Appears (message.Request (asked 0)) ∷ Reaches 1 0 ∷ Reaches 2 1 ∷ Waits 1 ∷ Waits 2
-    ∷ Reaches 5 2 ∷ Reaches 6 1 ∷ Reaches 7 1 ∷ Reaches 9 2 ∷ []) (nothing_yet 3)) ≡ record {
-      outcomes = outcome.Took ∷ outcome.Took ∷ outcome.Took ∷ outcome.Took ∷ outcome.Took ∷ outcome.Took ∷ outcome.Took ∷ outcome.Ahead 1 ∷ [];
-      kinds = 1 ∷ 2 ∷ 3 ∷ 4 ∷ 6 ∷ 6 ∷ 7 ∷ 7 ∷ 8 ∷ [];
-      hosts = (0 ∷ 0 ∷ 0 ∷ 1 ∷ 1 ∷ []) ∷ (1 ∷ 1 ∷ 0 ∷ 3 ∷ 3 ∷ []) ∷ (1 ∷ 0 ∷ 0 ∷ 1 ∷ 1 ∷ []) ∷ [];
-    }
-unfolding host_on_literals transition net_after story
-a_new_view_waits_for_what_is_before = refl

@@ -23,7 +23,7 @@ use Rattle.mb_model.specs.Sending.{begin}
 use Rattle.mb_model.specs.HostStep.{on_message, on_patience}
 use Rattle.mb_model.proofs.Hex.{unhex}
 use Rattle.mb_model.proofs.StepOnLiterals.{host_on_literals}
-use Rattle.mb_worked.proofs.WholeSteps.{host, asked}
+use Rattle.mb_worked.proofs.AgreeingCheckpoints.{host, asked}
 
 -- ---- a STOP: its tag was computed outside of these definitions, of 32 bytes 7 as secret
 

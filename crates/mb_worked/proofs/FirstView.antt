@@ -3,7 +3,6 @@
 use Rattle.std.proofs.Common.{◌≡◌, ℕ, List, [], ◌∷◌, refl, Option, Some}
 use Rattle.std.specs.Prelude.{replicate, codes, ◌++◌}
 use Rattle.mb_base.specs.Shapes.{Bytes}
-use Rattle.mb_msg.specs.declared.message.Body.TheVariants.{Whole}
 use Rattle.mb_msg.specs.declared.message.Message.{Message}
 use Rattle.mb_msg.specs.declared.message.Message.TheVariants as message
 use Rattle.mb_msg.specs.declared.event.Outcome.TheVariants as outcome
@@ -12,7 +11,7 @@ use Rattle.mb_model.specs.HostStep.{transition}
 use Rattle.mb_model.proofs.Hex.{unhex}
 use Rattle.mb_model.proofs.StepOnLiterals.{host_on_literals}
 use Rattle.mb_worked.proofs.Networks.{Net, Happening, Appears, Reaches, Hears, nothing_yet, net_after, message_at, story}
-use Rattle.mb_worked.proofs.Samples.{four_clients, host, asked, alone, prepare}
+use Rattle.mb_worked.proofs.Samples.{four_clients, host, asked, prepare}
 
 -- ---- three hosts; each client asks once
 
@@ -59,18 +58,6 @@ a_repeated_commit_is_stale : story three (run (commit_first ++ Reaches 3 2 ∷ [
 unfolding host_on_literals net_after story
 a_repeated_commit_is_stale = refl
 
--- ---- out of order
-
--- Three PREPAREs reach h1, the third before the second: it is ahead, and is taken when it comes again behind the second.
-what_is_ahead_is_taken_later : story three (run (ask 0 ∷ ask 1 ∷ ask 2 ∷ Reaches 1 0 ∷ Reaches 2 0 ∷ Reaches 3 0
-    ∷ Reaches 4 1 ∷ Reaches 6 1 ∷ Reaches 5 1 ∷ Reaches 6 1 ∷ [])) ≡ record {
-      outcomes = outcome.Took ∷ outcome.Took ∷ outcome.Took ∷ outcome.Took ∷ outcome.Ahead 2 ∷ outcome.Took ∷ outcome.Took ∷ [];
-      kinds = 1 ∷ 1 ∷ 1 ∷ 2 ∷ 2 ∷ 2 ∷ 3 ∷ 4 ∷ 3 ∷ 4 ∷ 3 ∷ 4 ∷ [];
-      hosts = (0 ∷ 0 ∷ 0 ∷ 3 ∷ 3 ∷ []) ∷ (0 ∷ 3 ∷ 0 ∷ 3 ∷ 3 ∷ []) ∷ (0 ∷ 0 ∷ 0 ∷ 0 ∷ 0 ∷ []) ∷ [];
-    }
-unfolding host_on_literals net_after story
-what_is_ahead_is_taken_later = refl
-
 -- ---- asked again
 
 -- All three hosts execute. Then the client asks h1 once more, which sends its reply again.
@@ -93,27 +80,10 @@ both_replies_are_one : (message_at (run asked_again) 4 ≡ reply_of_1) × (messa
 unfolding host_on_literals net_after
 both_replies_are_one = (refl, refl)
 
--- ---- two PREPAREs of one position
-
--- Faulty h0 stamps a second PREPARE of position 1, for the request of another client.
-abbrev second_prepare : Message
-second_prepare = message.Prepare (record { view = 0; pos = 1; body = Whole (alone (asked 1)); ui = record { host = 0; counter = 2; cert = unhex (codes "41adc8c7de681d530163329fd4e374478ebee26501803ca3dc2243ba4ca555c4") } })
-
--- h1 takes the first, and the second closes the gate of h0. For h2 the second is ahead, until the COMMIT of h1 brings the first. Then it closes the gate
--- at its counter, as h2 tells when it comes again.
-a_second_prepare_convicts : story three (run (ask 0 ∷ ask 1 ∷ Appears (message.Prepare (prepare 1)) ∷ Appears second_prepare
-    ∷ Reaches 3 1 ∷ Reaches 4 1 ∷ Reaches 4 2 ∷ Reaches 5 2 ∷ Reaches 4 2 ∷ Reaches 4 2 ∷ [])) ≡ record {
-      outcomes = outcome.Took ∷ outcome.Illegal 6 ∷ outcome.Ahead 1 ∷ outcome.Took ∷ outcome.Illegal 6 ∷ outcome.Convicted 2 ∷ [];
-      kinds = 1 ∷ 1 ∷ 2 ∷ 2 ∷ 3 ∷ 4 ∷ 3 ∷ 4 ∷ [];
-      hosts = (0 ∷ 0 ∷ 0 ∷ 0 ∷ 0 ∷ []) ∷ (0 ∷ 1 ∷ 0 ∷ 1 ∷ 1 ∷ []) ∷ (0 ∷ 1 ∷ 0 ∷ 1 ∷ 1 ∷ []) ∷ [];
-    }
-unfolding host_on_literals net_after story
-a_second_prepare_convicts = refl
-
 -- ---- a PREPARE that nobody stamped
 
 -- A host can't tell: whoever knows the secret makes what verifies. h1 takes a PREPARE of h0, which stamped nothing.
-what_verifies_is_taken : story three (run (ask 0 ∷ Appears (message.Prepare (prepare 1)) ∷ Reaches 2 1 ∷ [])) ≡ record {
+what_verifies_is_taken : story three (run (ask 0 ∷ Appears (message.Prepare prepare) ∷ Reaches 2 1 ∷ [])) ≡ record {
   outcomes = outcome.Took ∷ [];
   kinds = 1 ∷ 2 ∷ 3 ∷ 4 ∷ [];
   hosts = (0 ∷ 0 ∷ 0 ∷ 0 ∷ 0 ∷ []) ∷ (0 ∷ 1 ∷ 0 ∷ 1 ∷ 1 ∷ []) ∷ (0 ∷ 0 ∷ 0 ∷ 0 ∷ 0 ∷ []) ∷ [];

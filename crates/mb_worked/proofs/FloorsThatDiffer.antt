@@ -13,7 +13,7 @@ use Rattle.mb_msg.specs.declared.stamped.Stamped.TheVariants as stamped
 use Rattle.mb_model.specs.Histories.{Accepted, Stamped}
 use Rattle.mb_model.specs.OwnLog.{log_start}
 use Rattle.mb_model.proofs.StepOnLiterals.{host_on_literals}
-use Rattle.mb_worked.proofs.WholeSteps.{shape, host}
+use Rattle.mb_worked.proofs.AgreeingCheckpoints.{shape, host}
 
 -- a floor whose numbers all differ
 abbrev floor : Floor

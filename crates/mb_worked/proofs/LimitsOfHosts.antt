@@ -27,7 +27,7 @@ use Rattle.mb_model.specs.Sending.{Progress, begin, write}
 use Rattle.mb_model.specs.EnabledRules.{ChangeView, Join, Commit, ahead_limit}
 use Rattle.mb_model.specs.CarriedOut.{carry_out}
 use Rattle.mb_model.proofs.StepOnLiterals.{host_on_literals}
-use Rattle.mb_worked.proofs.WholeSteps.{secret, shape, host, alone}
+use Rattle.mb_worked.proofs.AgreeingCheckpoints.{secret, shape, host, alone}
 
 -- ---- the numbers
 

@@ -21,8 +21,6 @@ pub record Net : Type 0 where
 pub data Happening : Type 0 where
   Appears : Message → Happening  -- a client asks, or a faulty host stamps: one more message
   Reaches : ℕ → ℕ → Happening  -- a message, by its number from 1 on, is given to a host
-  Waits : ℕ → Happening  -- a host waits too long for something
-  Nudges : ℕ → Happening  -- a host is told to ask for what is missing
   Hears : ℕ → Bytes → Happening  -- these bytes are given to a host
 
 -- the list with another element at this index
@@ -61,8 +59,6 @@ module _ {S : Type 0} (host : ℕ → Identity S) where
   abbrev happened : Happening → Net → Net
   happened (Appears m) w = record w { pool = w.pool ++ m ∷ [] }
   happened (Reaches n h) w = reached (message_at w n) h w
-  happened (Waits h) w = left_net w h (transition (host h) (history_at w.histories h) event.Patience)
-  happened (Nudges h) w = left_net w h (transition (host h) (history_at w.histories h) event.Nudge)
   happened (Hears h bytes) w = left_net w h (transition (host h) (history_at w.histories h) (event.Given bytes))
 
   -- behind all of these, the first of them first

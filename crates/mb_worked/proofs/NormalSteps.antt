@@ -24,7 +24,7 @@ use Rattle.mb_model.specs.CarriedOut.{execute}
 use Rattle.mb_model.specs.Given.{answer}
 use Rattle.mb_model.specs.HostStep.{on_message}
 use Rattle.mb_model.proofs.StepOnLiterals.{host_on_literals}
-use Rattle.mb_worked.proofs.WholeSteps.{secret, host}
+use Rattle.mb_worked.proofs.AgreeingCheckpoints.{secret, host}
 
 -- ---- three hosts, with k = 4: positions 1 to 8 are in the window
 

@@ -1,5 +1,5 @@
 -- Cases of single definitions that tell them from near ones, computed.
-use Rattle.std.proofs.Common.{◌≡◌, ℕ, List, [], ◌∷◌, refl, Option, Some, None}
+use Rattle.std.proofs.Common.{◌≡◌, ℕ, List, [], ◌∷◌, map, refl, Option, Some, None}
 use Rattle.std.specs.Prelude.{replicate}
 use Rattle.sha2.specs.Sha256.{sha256}
 use Rattle.mb_base.specs.Shapes.{Bytes}
@@ -17,7 +17,7 @@ use Rattle.mb_msg.specs.declared.normal.Checkpoint.{Checkpoint}
 use Rattle.mb_msg.specs.declared.transfer.StateMsg.{StateMsg}
 use Rattle.mb_msg.specs.declared.stamped.Stamped.{Stamped as StampedMessage}
 use Rattle.mb_msg.specs.declared.stamped.Stamped.TheVariants as stamped
-use Rattle.mb_msg.specs.Stamps.{bare_of, with_ui}
+use Rattle.mb_msg.specs.Stamps.{bare_of, with_ui, as_message}
 use Rattle.mb_msg.specs.Spelling.{floors_body_bytes}
 use Rattle.mb_msg.specs.Plans.{plan_digest}
 use Rattle.mb_model.specs.declared.known.Vote.{Vote}
@@ -34,7 +34,7 @@ use Rattle.mb_model.specs.Making.{floors_under}
 use Rattle.mb_model.specs.EnabledRules.{Execute, target, execute_enabled}
 use Rattle.mb_model.specs.Given.{give_stamped, give_state}
 use Rattle.mb_model.proofs.StepOnLiterals.{host_on_literals}
-use Rattle.mb_worked.proofs.WholeSteps.{secret, host, alone}
+use Rattle.mb_worked.proofs.AgreeingCheckpoints.{secret, host, alone}
 
 abbrev ui : ℕ → ℕ → Ui
 ui h counter = record { host = h; counter = counter; cert = [] }
@@ -183,3 +183,12 @@ both_points b = Accepted (message.Checkpoint (point_of 1 b)) ∷ Stamped (stampe
 short_floors_cut_nothing : (log_start (host 0) (both_points whole_floors) ≡ 3) × (log_start (host 0) (both_points same_floors) ≡ 0) × (low_of (host 0) (both_points same_floors) ≡ 4)
 unfolding host_on_literals
 short_floors_cut_nothing = (refl, refl, refl)
+
+-- Either form of it is taken, and stays as it came.
+abbrev first_point : Body Floors → StampedMessage
+first_point b = certified (stamped.Checkpoint (record { pos = 4; state = replicate 32 7; body = b; ui = ui 0 1 }))
+
+both_forms_are_taken : (map (λ b. (give_stamped (host 1) (first_point b) (begin [])).outcome) (whole_floors ∷ same_floors ∷ []) ≡ outcome.Took ∷ outcome.Took ∷ [])
+    × ((give_stamped (host 1) (first_point same_floors) (begin [])).left.history ≡ Accepted (as_message (first_point same_floors)) ∷ [])
+unfolding host_on_literals
+both_forms_are_taken = (refl, refl)

@@ -1,6 +1,6 @@
 -- Worlds with faulty hosts, computed on the definitions: what hosts and clients refuse, what stands in the way of an event, what is forged.
-use Rattle.std.proofs.Common.{◌≡◌, ℕ, Bool, true, false, List, [], ◌∷◌, ◌++◌, length, map, refl, arith, Option, Some, None}
-use Rattle.std.specs.Prelude.{replicate, take, drop}
+use Rattle.std.proofs.Common.{◌≡◌, ℕ, Bool, true, false, List, [], ◌∷◌, length, map, refl, arith, Option, Some, None}
+use Rattle.std.specs.Prelude.{replicate, drop}
 use Rattle.mb_base.specs.Shapes.{Bytes}
 use Rattle.mb_base.specs.declared.shape.Shape.{Shape}
 use Rattle.mb_usig.specs.Tags.{certificate, request_tag}
@@ -11,20 +11,17 @@ use Rattle.mb_parts.specs.Bares as bare
 use Rattle.mb_msg.specs.declared.message.Body.TheVariants as body
 use Rattle.mb_msg.specs.declared.message.Message.TheVariants as message
 use Rattle.mb_msg.specs.Spelling.{spelling, shown_kind}
-use Rattle.mb_model.specs.Verified.{verifies}
-use Rattle.mb_model.specs.UsableLogs.{log_fault}
 use Rattle.mb_msg.specs.declared.event.Slot.{Slot}
 use Rattle.mb_msg.specs.declared.event.Outcome.TheVariants as outcome
 use Rattle.mb_model.specs.Clients as client
 use Rattle.mb_model.specs.Histories.{closed_at}
-use Rattle.mb_model.specs.Positions.{exec_of}
 use Rattle.mb_schedule.specs.declared.report.RefusedLine.{RefusedLine}
 use Rattle.mb_schedule.specs.declared.report.Word.{Word}
 use Rattle.mb_schedule.specs.declared.report.Word.TheVariants as word
 use Rattle.mb_schedule.specs.declared.schedule.Name.TheVariants as name
 use Rattle.mb_schedule.specs.declared.schedule.WorldEvent.{WorldEvent}
-use Rattle.mb_schedule.specs.declared.schedule.WorldEvent.TheVariants.{Ask, Give, Take, Raw, Nudge, Sign, TagReply, TagWish, StampPrepare, StampCommit, StampChange, StampAs, StampRaw}
-use Rattle.mb_theory.specs.World.{Seen, OfClient, Unread, Lost, World, System}
+use Rattle.mb_schedule.specs.declared.schedule.WorldEvent.TheVariants.{Ask, Give, Take, Raw, Sign, TagWish, StampPrepare, StampCommit, StampAs, StampRaw}
+use Rattle.mb_theory.specs.World.{OfClient, Made, Unread, Lost, World, System}
 use Rattle.mb_theory.specs.FaultyHosts.{log_after}
 use Rattle.mb_theory.specs.WorldSteps.{world}
 use Rattle.mb_theory.specs.Stops.{WorldStop, NotFaulty, NoSuchMessage, WrongKind, Forged, ForgedTag}
@@ -87,43 +84,7 @@ one_again_made : map kind_byte (world one_again 6).pool ≡ 1 ∷ 1 ∷ 2 ∷ 2 
 unfolding worlds_on_literals
 one_again_made = refl
 
--- ---- a view that was invented
-
-abbrev five_hosts : Shape
-five_hosts = record { f = 2; k = 4; clients = 1; faults_in = (omega arith, omega arith); interval_in = (omega arith, omega arith); clients_in = (omega arith, omega arith) }
-
-abbrev invented_view : System Bytes
-invented_view = system_of (record {
-  shape = five_hosts;
-  secret = replicate 32 0;
-  faulty_hosts = false ∷ false ∷ false ∷ true ∷ true ∷ [];
-  faulty_clients = false ∷ [];
-  events = Ask 0 operation ∷ StampChange 3 3 0 ∷ StampPrepare 3 3 1 (1 ∷ []) ∷ StampChange 3 5 0 ∷ Give 2 0 ∷ Give 3 0 ∷ Give 4 0 ∷ [];
-})
-
-invented_view_refused : refusals (world invented_view 7).seen ≡ told 6 word.Illegal (6 ∷ []) ∷ told 7 word.Convicted (2 ∷ []) ∷ []
-unfolding worlds_on_literals
-invented_view_refused = refl
-
--- The log that it shows is not usable, by its second entry.
-invented_view_unusable : log_fault five_hosts (replicate 32 0) (verifies (replicate 32 0)) 3 5 3 (log_after invented_view.schedule (world invented_view 3) 3 0) ≡ Some (1, 5)
-unfolding worlds_on_literals
-invented_view_unusable = refl
-
--- ---- what is no message
-
-abbrev short_request : Bytes
-short_request = 1 ∷ 0 ∷ 0 ∷ 0 ∷ 0 ∷ 0 ∷ 0 ∷ 0 ∷ 0 ∷ 1 ∷ 0 ∷ 3 ∷ 2 ∷ 1 ∷ 97 ∷ replicate 31 0
-
-abbrev no_messages : System Bytes
-no_messages = all_correct (map (Raw (name.Host 1)) ([] ∷ (255 ∷ []) ∷ (1 ∷ 0 ∷ []) ∷ short_request ∷ (short_request ++ 0 ∷ []) ∷ []))
-
-no_messages_refused : refusals (world no_messages 5).seen
-    ≡ told 1 word.Malformed (0 ∷ []) ∷ told 2 word.Malformed (0 ∷ []) ∷ told 3 word.Malformed (2 ∷ []) ∷ told 4 word.Malformed (15 ∷ []) ∷ told 5 word.BadTag [] ∷ []
-unfolding worlds_on_literals
-no_messages_refused = refl
-
--- ---- replies: of each host the first one counts, and f+1 have to agree
+-- ---- what is no reply is refused by a client, and a faulty host does nothing with what it is given
 
 abbrev of_faulty_last : List WorldEvent → System Bytes
 of_faulty_last events = system_of (record { shape = one_client; secret = replicate 32 0; faulty_hosts = false ∷ false ∷ true ∷ []; faulty_clients = false ∷ []; events = events })
@@ -132,26 +93,13 @@ of_faulty_last events = system_of (record { shape = one_client; secret = replica
 abbrev bad_reply : Bytes
 bad_reply = spelling (message.Reply (record { host = 0; client = 0; seq = 1; pos = 1; result = []; tag = replicate 32 0 }))
 
--- 4 is the reply of h1, 5 that of h0, and 6 one of the faulty h2 with another result
-abbrev replies : System Bytes
-replies = of_faulty_last (Ask 0 operation ∷ Give 1 0 ∷ Give 2 1 ∷ Give 3 0 ∷ TagReply 2 0 1 1 (5 ∷ []) ∷ Take 5 0 ∷ Take 5 0 ∷ Take 6 0 ∷ Take 4 0 ∷ Take 5 0 ∷ Raw (name.Client 0) bad_reply ∷ Raw (name.Client 0) [] ∷ Take 1 0 ∷ Give 1 2 ∷ [])
+-- that reply, no byte, and the request
+abbrev no_replies : System Bytes
+no_replies = of_faulty_last (Ask 0 operation ∷ Raw (name.Client 0) bad_reply ∷ Raw (name.Client 0) [] ∷ Take 1 0 ∷ Give 1 2 ∷ [])
 
-abbrev last_seen : ℕ → List Seen → List Seen
-last_seen n seen = take n seen
-
-replies_seen : last_seen 9 (world replies 14).seen
-    ≡ Lost ∷ Unread outcome.Idle ∷ Unread (outcome.Malformed 0) ∷ OfClient client.BadTag ∷ OfClient (client.OtherSeq 1) ∷ OfClient (client.Accepted 1) ∷ OfClient (client.Waiting 1) ∷ OfClient (client.Waiting 1) ∷ OfClient (client.Waiting 1) ∷ []
+no_replies_seen : (world no_replies 5).seen ≡ Lost ∷ Unread outcome.Idle ∷ Unread (outcome.Malformed 0) ∷ OfClient client.BadTag ∷ Made 1 1 ∷ []
 unfolding worlds_on_literals
-replies_seen = refl
-
--- ---- what was missed is asked for: RESEND, LOG, and the COMMIT and REPLY that follow
-
-abbrev missed : System Bytes
-missed = all_correct (Ask 0 operation ∷ Give 1 0 ∷ Nudge 1 ∷ Give 3 0 ∷ Give 4 1 ∷ [])
-
-missed_told : map kind_byte (world missed 5).pool ∷ (exec_of ((world missed 5).histories 1) ∷ []) ∷ [] ≡ (1 ∷ 2 ∷ 12 ∷ 13 ∷ 3 ∷ 4 ∷ []) ∷ (1 ∷ []) ∷ []
-unfolding worlds_on_literals
-missed_told = refl
+no_replies_seen = refl
 
 -- ---- what stands in the way
 
@@ -208,8 +156,12 @@ not_forged : stop_at (all_correct (Ask 0 operation ∷ Give 1 0 ∷ Raw (name.Ho
 unfolding worlds_on_literals
 not_forged = refl
 
+-- a REQUEST whose tag is not its client's
+abbrev badly_tagged : Bytes
+badly_tagged = 1 ∷ 0 ∷ 0 ∷ 0 ∷ 0 ∷ 0 ∷ 0 ∷ 0 ∷ 0 ∷ 1 ∷ 0 ∷ 3 ∷ 2 ∷ 1 ∷ 97 ∷ replicate 32 0
+
 -- To a faulty host all may be given. A request that its correct client did not ask is forged by its tag, and one with another tag is not.
-unasked : map (λ e. stop_of_first (of_faulty_primary (e ∷ []))) (Raw (name.Host 0) forged_prepare ∷ Raw (name.Host 1) (spelling (message.Request request)) ∷ Raw (name.Host 1) (short_request ++ 0 ∷ []) ∷ [])
+unasked : map (λ e. stop_of_first (of_faulty_primary (e ∷ []))) (Raw (name.Host 0) forged_prepare ∷ Raw (name.Host 1) (spelling (message.Request request)) ∷ Raw (name.Host 1) badly_tagged ∷ [])
     ≡ None ∷ Some (ForgedTag 1) ∷ None ∷ []
 unfolding worlds_on_literals
 unasked = refl

@@ -5,7 +5,6 @@ use Rattle.sha2.specs.Sha256.{sha256}
 use Rattle.mb_base.specs.Shapes.{Bytes}
 use Rattle.mb_usig.specs.Tags.{certificate, reply_tag, wish_tag}
 use Rattle.mb_parts.specs.declared.batch.Batch.{Batch}
-use Rattle.mb_parts.specs.declared.certificates.StableCert.{StableCert}
 use Rattle.mb_parts.specs.declared.certificates.FloorCert.{FloorCert}
 use Rattle.mb_parts.specs.Spelling.{floors_bytes}
 use Rattle.mb_parts.specs.Bares.{Bare, bare_bytes, batch_digest}
@@ -96,14 +95,3 @@ log_with cert = message.Log (record { host = 1; floor = Some (floor_with cert); 
 forged_in_floor : map (λ cert. stop_of (log_with cert)) (of_h0 2 (bare.Checkpoint 4 no_state (sha256 (floors_bytes (replicate 3 None)))) ∷ no_tag ∷ []) ≡ Some (Forged 1 0 2) ∷ None ∷ []
 unfolding worlds_on_literals
 forged_in_floor = refl
-
--- So it is with the stable certificate of a LOG.
-abbrev stable_with : Bytes → StableCert
-stable_with cert = record { pos = 4; state = no_state; members = record { host = 0; counter = 7; floors = no_state; cert = cert } ∷ record { host = 1; counter = 1; floors = no_state; cert = no_tag } ∷ [] }
-
-abbrev stable_log : Bytes → Message
-stable_log cert = message.Log (record { host = 1; floor = None; stable = stable_with cert; evidence = None; entries = [] })
-
-forged_in_stable : map (λ cert. stop_of (stable_log cert)) (of_h0 7 (bare.Checkpoint 4 no_state no_state) ∷ no_tag ∷ []) ≡ Some (Forged 1 0 7) ∷ None ∷ []
-unfolding worlds_on_literals
-forged_in_stable = refl

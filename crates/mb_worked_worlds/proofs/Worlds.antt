@@ -1,4 +1,4 @@
--- Small worlds, computed on the definitions with real tags, certificates and digests.
+-- A whole world, computed on the definitions with real tags, certificates and digests.
 use Rattle.std.proofs.Common.{◌≡◌, ℕ, true, false, List, [], ◌∷◌, ◌++◌, length, map, refl, arith, Option, Some, None, Ok}
 use Rattle.std.specs.Prelude.{replicate, slice_get, take, filter_map, option_map, option_and_then, ◌==◌, if◌then◌else◌, unwrap_or}
 use Rattle.mb_base.specs.Shapes.{Bytes}
@@ -17,17 +17,15 @@ use Rattle.mb_model.specs.UsableLogs.{Fault}
 use Rattle.mb_model.specs.Held.{change_fault, evidence_of}
 use Rattle.mb_model.specs.Service.{Machine, Served}
 use Rattle.mb_model.specs.States.{Snapshots}
-use Rattle.mb_msg.specs.declared.event.Outcome.TheVariants as outcome
-use Rattle.mb_model.specs.Clients as client
 use Rattle.mb_model.specs.Histories.{view_of, said, stamped as stamped_by}
 use Rattle.mb_model.specs.Stable.{low_of}
 use Rattle.mb_model.specs.OwnLog.{own_log}
 use Rattle.mb_model.specs.Positions.{exec_of}
 use Rattle.mb_model.specs.Execution.{state_of}
 use Rattle.mb_schedule.specs.declared.schedule.WorldEvent.{WorldEvent}
-use Rattle.mb_schedule.specs.declared.schedule.WorldEvent.TheVariants.{Ask, Give, Take, Patience, StampPrepare}
+use Rattle.mb_schedule.specs.declared.schedule.WorldEvent.TheVariants.{Ask, Give, Patience, StampPrepare}
 use Rattle.mb_schedule.specs.declared.schedule.Schedule.{Schedule}
-use Rattle.mb_theory.specs.World.{OfHost, OfClient, Made, World, System, nothing_happened, self_of, request_of}
+use Rattle.mb_theory.specs.World.{World, System, nothing_happened, self_of, request_of}
 use Rattle.mb_theory.specs.WorldSteps.{happens, world}
 use Rattle.mb_theory.specs.Stops.{WorldStop, stop_of}
 use Rattle.mb_theory.specs.WorldRecord.{issued, prefix, plans}
@@ -64,35 +62,15 @@ host_told system w h = view_of (self_of system h) (w.histories h) ∷ exec_of (w
 abbrev pub told : System Bytes → ℕ → List (List ℕ)
 told system k = map kind_byte (world system k).pool ∷ (length (world system k).line ∷ []) ∷ map (host_told system (world system k)) (0 ∷ 1 ∷ 2 ∷ [])
 
--- ---- one request goes through, and its client accepts the result
-
-abbrev pub operation : Bytes
-operation = 1 ∷ 1 ∷ 97 ∷ 0 ∷ 1 ∷ 49 ∷ []
-
-abbrev one_request : System Bytes
-one_request = all_correct (Ask 0 operation ∷ Give 1 0 ∷ Give 2 1 ∷ Give 2 2 ∷ Give 3 0 ∷ Take 4 0 ∷ Take 6 0 ∷ [])
-
-one_request_told : told one_request 7 ≡ (1 ∷ 2 ∷ 3 ∷ 4 ∷ 3 ∷ 4 ∷ 4 ∷ []) ∷ (1 ∷ []) ∷ (0 ∷ 1 ∷ 0 ∷ 1 ∷ []) ∷ (0 ∷ 1 ∷ 0 ∷ 1 ∷ []) ∷ (0 ∷ 1 ∷ 0 ∷ 1 ∷ []) ∷ []
-unfolding worlds_on_literals
-one_request_told = refl
-
-one_request_seen : (world one_request 7).seen ≡ OfClient (client.Accepted 1) ∷ OfClient (client.Waiting 1) ∷ OfHost outcome.Took ∷ OfHost outcome.Took ∷ OfHost outcome.Took ∷ OfHost outcome.Took ∷ Made 1 1 ∷ []
-unfolding worlds_on_literals
-one_request_seen = refl
-
 -- what stands in the way of each of these events, one behind the other
 abbrev pub stops_from : System Bytes → World → List WorldEvent → List (Option WorldStop)
 stops_from system w [] = []
 stops_from system w (e ∷ events) = stop_of system.schedule w e ∷ stops_from system (happens system w e) events
 
-abbrev stops : System Bytes → List (Option WorldStop)
-stops system = stops_from system nothing_happened system.schedule.events
-
-one_request_goes : stops one_request ≡ replicate 7 None
-unfolding worlds_on_literals
-one_request_goes = refl
-
 -- ---- a faulty primary orders the request for one host alone; two hosts lose patience, and the next view carries it on
+
+abbrev pub operation : Bytes
+operation = 1 ∷ 1 ∷ 97 ∷ 0 ∷ 1 ∷ 49 ∷ []
 
 abbrev pub of_faulty_primary : List WorldEvent → System Bytes
 of_faulty_primary events = system_of (record { shape = one_client; secret = replicate 32 0; faulty_hosts = true ∷ false ∷ false ∷ []; faulty_clients = false ∷ []; events = events })

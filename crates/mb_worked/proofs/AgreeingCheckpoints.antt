@@ -1,5 +1,5 @@
--- A change of the view, and the certificates that CHECKPOINTs make, computed on the definitions with real tags and digests.
-use Rattle.std.proofs.Common.{◌≡◌, ℕ, List, [], ◌∷◌, refl, arith, Some, None}
+-- The certificates that CHECKPOINTs make, computed on the definitions.
+use Rattle.std.proofs.Common.{◌≡◌, ℕ, [], ◌∷◌, refl, arith, Some, None}
 use Rattle.std.specs.Prelude.{replicate, Ok, ◌==◌, if◌then◌else◌}
 use Rattle.mb_base.specs.Shapes.{Bytes}
 use Rattle.mb_base.specs.declared.shape.Shape.{Shape}
@@ -16,13 +16,10 @@ use Rattle.mb_parts.specs.declared.batch.Batch.{Batch}
 use Rattle.mb_msg.specs.declared.message.Message.TheVariants as message
 use Rattle.mb_model.specs.Service.{Machine}
 use Rattle.mb_model.specs.States.{Snapshots}
-use Rattle.mb_msg.specs.declared.event.Outcome.TheVariants as outcome
 use Rattle.mb_model.specs.Histories.{Accepted, Stamped, History, Identity}
 use Rattle.mb_model.specs.Stable.{low_of}
 use Rattle.mb_model.specs.OwnLog.{log_start}
-use Rattle.mb_model.specs.HostStep.{transition}
 use Rattle.mb_model.proofs.StepOnLiterals.{host_on_literals}
-use Rattle.mb_worked.proofs.Networks.{Happening, Appears, Reaches, Waits, nothing_yet, net_after, story}
 
 -- ---- three hosts and four clients, with k = 4
 
@@ -49,26 +46,6 @@ asked c = record { client = c; seq = 1; op = 9 ∷ []; tag = request_tag secret 
 -- a batch of one request
 abbrev pub alone : ℕ → Batch
 alone c = record { requests = asked c ∷ [] }
-
-abbrev ask : ℕ → Happening
-ask c = Appears (message.Request (asked c))
-
--- ---- A request that one backup commits; then two hosts lose patience before the third hears of it. The next view carries it on.
-
--- h1 commits, both backups wait too long and hear of each other's wish, and h1 has both VIEW_CHANGEs. Then h2 takes what h1 stamped, and each the ENTER and
--- the OPEN of the other.
-abbrev view_change : List Happening
-view_change = ask 0 ∷ Reaches 1 0 ∷ Reaches 2 1 ∷ Waits 1 ∷ Waits 2 ∷ Reaches 5 2 ∷ Reaches 6 1 ∷ Reaches 7 1
-    ∷ Reaches 3 2 ∷ Reaches 8 2 ∷ Reaches 9 2 ∷ Reaches 10 1 ∷ Reaches 11 1 ∷ Reaches 12 2 ∷ []
-
--- behind the wishes: VIEW_CHANGE of h2 and of h1, NEW_VIEW of h1, ENTER and OPEN of h2, OPEN of h1, and the REPLY of h2
-second_view_told : story host (net_after host view_change (nothing_yet 3)) ≡ record {
-  outcomes = replicate 13 outcome.Took;
-  kinds = 1 ∷ 2 ∷ 3 ∷ 4 ∷ 6 ∷ 6 ∷ 7 ∷ 7 ∷ 8 ∷ 9 ∷ 10 ∷ 10 ∷ 4 ∷ [];
-  hosts = (0 ∷ 0 ∷ 0 ∷ 1 ∷ 1 ∷ []) ∷ (1 ∷ 1 ∷ 0 ∷ 4 ∷ 4 ∷ []) ∷ (1 ∷ 1 ∷ 0 ∷ 3 ∷ 3 ∷ []) ∷ [];
-}
-unfolding host_on_literals transition net_after story
-second_view_told = refl
 
 -- ---- h0 stamped a CHECKPOINT at position 4 and accepts that of h1, each with a floor for h0: the stable position, and where the log of h0
 -- begins
