@@ -27,58 +27,56 @@ run events = net_after three events (nothing_yet 3)
 -- ---- one request
 
 -- h0 orders it, and both backups commit and execute it at once: the PREPARE and their own COMMIT are two votes. h0 executes at the first COMMIT.
-one_request : story three (run (ask 0 ∷ Reaches 1 0 ∷ Reaches 2 1 ∷ Reaches 2 2 ∷ Reaches 3 0 ∷ [])) ≡ record {
-  outcomes = outcome.Took ∷ outcome.Took ∷ outcome.Took ∷ outcome.Took ∷ [];
-  kinds = 1 ∷ 2 ∷ 3 ∷ 4 ∷ 3 ∷ 4 ∷ 4 ∷ [];
-  hosts = (0 ∷ 1 ∷ 0 ∷ 1 ∷ 1 ∷ []) ∷ (0 ∷ 1 ∷ 0 ∷ 1 ∷ 1 ∷ []) ∷ (0 ∷ 1 ∷ 0 ∷ 1 ∷ 1 ∷ []) ∷ [];
-}
-unfolding host_on_literals net_after story
-one_request = refl
+abbrev goes_through : List Happening
+goes_through = ask 0 ∷ Reaches 1 0 ∷ Reaches 2 1 ∷ Reaches 2 2 ∷ Reaches 3 0 ∷ []
 
--- ---- a COMMIT first
-
--- h2 hears the COMMIT of h1 and never the PREPARE: it takes the PREPARE from the COMMIT, stamps its own COMMIT, executes, and answers the client.
-abbrev commit_first : List Happening
-commit_first = ask 0 ∷ Reaches 1 0 ∷ Reaches 2 1 ∷ Reaches 3 2 ∷ []
-
-a_commit_brings_its_prepare : story three (run commit_first) ≡ record {
-  outcomes = outcome.Took ∷ outcome.Took ∷ outcome.Took ∷ [];
-  kinds = 1 ∷ 2 ∷ 3 ∷ 4 ∷ 3 ∷ 4 ∷ [];
-  hosts = (0 ∷ 0 ∷ 0 ∷ 1 ∷ 1 ∷ []) ∷ (0 ∷ 1 ∷ 0 ∷ 1 ∷ 1 ∷ []) ∷ (0 ∷ 1 ∷ 0 ∷ 1 ∷ 1 ∷ []) ∷ [];
-}
-unfolding host_on_literals net_after story
-a_commit_brings_its_prepare = refl
-
--- The same COMMIT once more is stale. Nothing else changes, and nothing is sent.
-a_repeated_commit_is_stale : story three (run (commit_first ++ Reaches 3 2 ∷ [])) ≡ record {
-  outcomes = outcome.Took ∷ outcome.Took ∷ outcome.Took ∷ outcome.Stale 2 ∷ [];
-  kinds = 1 ∷ 2 ∷ 3 ∷ 4 ∷ 3 ∷ 4 ∷ [];
-  hosts = (0 ∷ 0 ∷ 0 ∷ 1 ∷ 1 ∷ []) ∷ (0 ∷ 1 ∷ 0 ∷ 1 ∷ 1 ∷ []) ∷ (0 ∷ 1 ∷ 0 ∷ 1 ∷ 1 ∷ []) ∷ [];
-}
-unfolding host_on_literals net_after story
-a_repeated_commit_is_stale = refl
-
--- ---- asked again
-
--- All three hosts execute. Then the client asks h1 once more, which sends its reply again.
+-- Then the client asks h1 once more, which sends its reply again.
 abbrev asked_again : List Happening
-asked_again = ask 0 ∷ Reaches 1 0 ∷ Reaches 2 1 ∷ Reaches 2 2 ∷ Reaches 3 0 ∷ Reaches 1 1 ∷ []
-
-the_reply_is_sent_again : story three (run asked_again) ≡ record {
-  outcomes = outcome.Took ∷ outcome.Took ∷ outcome.Took ∷ outcome.Took ∷ outcome.Again ∷ [];
-  kinds = 1 ∷ 2 ∷ 3 ∷ 4 ∷ 3 ∷ 4 ∷ 4 ∷ 4 ∷ [];
-  hosts = (0 ∷ 1 ∷ 0 ∷ 1 ∷ 1 ∷ []) ∷ (0 ∷ 1 ∷ 0 ∷ 1 ∷ 1 ∷ []) ∷ (0 ∷ 1 ∷ 0 ∷ 1 ∷ 1 ∷ []) ∷ [];
-}
-unfolding host_on_literals net_after story
-the_reply_is_sent_again = refl
+asked_again = goes_through ++ Reaches 1 1 ∷ []
 
 -- It is the same message, with the tag that h1 makes for this client, number, position and result.
 abbrev reply_of_1 : Option Message
 reply_of_1 = Some (message.Reply (record { host = 1; client = 0; seq = 1; pos = 1; result = 0 ∷ []; tag = unhex (codes "b5ff78955a87b1a0037a45ef793207c414d13c0c373990fcb1c55bec9c2d1d11") }))
 
-both_replies_are_one : (message_at (run asked_again) 4 ≡ reply_of_1) × (message_at (run asked_again) 8 ≡ reply_of_1)
-unfolding host_on_literals net_after
-both_replies_are_one = (refl, refl)
+record OneRequest : Type 0 where
+  goes : story three (run goes_through) ≡ record {
+    outcomes = outcome.Took ∷ outcome.Took ∷ outcome.Took ∷ outcome.Took ∷ [];
+    kinds = 1 ∷ 2 ∷ 3 ∷ 4 ∷ 3 ∷ 4 ∷ 4 ∷ [];
+    hosts = (0 ∷ 1 ∷ 0 ∷ 1 ∷ 1 ∷ []) ∷ (0 ∷ 1 ∷ 0 ∷ 1 ∷ 1 ∷ []) ∷ (0 ∷ 1 ∷ 0 ∷ 1 ∷ 1 ∷ []) ∷ [];
+  }
+  the_reply_is_sent_again : story three (run asked_again) ≡ record {
+    outcomes = outcome.Took ∷ outcome.Took ∷ outcome.Took ∷ outcome.Took ∷ outcome.Again ∷ [];
+    kinds = 1 ∷ 2 ∷ 3 ∷ 4 ∷ 3 ∷ 4 ∷ 4 ∷ 4 ∷ [];
+    hosts = (0 ∷ 1 ∷ 0 ∷ 1 ∷ 1 ∷ []) ∷ (0 ∷ 1 ∷ 0 ∷ 1 ∷ 1 ∷ []) ∷ (0 ∷ 1 ∷ 0 ∷ 1 ∷ 1 ∷ []) ∷ [];
+  }
+  both_replies_are_one : (message_at (run asked_again) 4 ≡ reply_of_1) × (message_at (run asked_again) 8 ≡ reply_of_1)
+
+one_request : OneRequest
+unfolding host_on_literals net_after story
+one_request = record { goes = refl; the_reply_is_sent_again = refl; both_replies_are_one = (refl, refl) }
+
+-- ---- a COMMIT first
+
+-- h2 hears the COMMIT of h1 and never the PREPARE: it takes the PREPARE from the COMMIT, stamps its own COMMIT, executes, and answers the client. The same
+-- COMMIT once more is stale: nothing else changes, and nothing is sent.
+abbrev commit_first : List Happening
+commit_first = ask 0 ∷ Reaches 1 0 ∷ Reaches 2 1 ∷ Reaches 3 2 ∷ []
+
+record CommitFirst : Type 0 where
+  it_brings_its_prepare : story three (run commit_first) ≡ record {
+    outcomes = outcome.Took ∷ outcome.Took ∷ outcome.Took ∷ [];
+    kinds = 1 ∷ 2 ∷ 3 ∷ 4 ∷ 3 ∷ 4 ∷ [];
+    hosts = (0 ∷ 0 ∷ 0 ∷ 1 ∷ 1 ∷ []) ∷ (0 ∷ 1 ∷ 0 ∷ 1 ∷ 1 ∷ []) ∷ (0 ∷ 1 ∷ 0 ∷ 1 ∷ 1 ∷ []) ∷ [];
+  }
+  once_more_it_is_stale : story three (run (commit_first ++ Reaches 3 2 ∷ [])) ≡ record {
+    outcomes = outcome.Took ∷ outcome.Took ∷ outcome.Took ∷ outcome.Stale 2 ∷ [];
+    kinds = 1 ∷ 2 ∷ 3 ∷ 4 ∷ 3 ∷ 4 ∷ [];
+    hosts = (0 ∷ 0 ∷ 0 ∷ 1 ∷ 1 ∷ []) ∷ (0 ∷ 1 ∷ 0 ∷ 1 ∷ 1 ∷ []) ∷ (0 ∷ 1 ∷ 0 ∷ 1 ∷ 1 ∷ []) ∷ [];
+  }
+
+a_commit_brings_its_prepare : CommitFirst
+unfolding host_on_literals net_after story
+a_commit_brings_its_prepare = record { it_brings_its_prepare = refl; once_more_it_is_stale = refl }
 
 -- ---- a PREPARE that nobody stamped
 

@@ -28,12 +28,13 @@ use Rattle.mb_worked.proofs.AgreeingCheckpoints.{secret, host}
 
 -- ---- three hosts, with k = 4: positions 1 to 8 are in the window
 
--- client 0 asks with this number
+-- client 0 asks with this number; the tag is not right, and looked at only where it is to be
 abbrev asked : ℕ → Request
-asked seq = record { client = 0; seq = seq; op = 9 ∷ []; tag = request_tag secret 0 seq (9 ∷ []) }
+asked seq = record { client = 0; seq = seq; op = 9 ∷ []; tag = replicate 32 0 }
 
-abbrev badly_tagged : ℕ → Request
-badly_tagged seq = record { client = 0; seq = seq; op = 9 ∷ []; tag = replicate 32 0 }
+-- the same with its tag
+abbrev tagged : ℕ → Request
+tagged seq = record (asked seq) { tag = request_tag secret 0 seq (9 ∷ []) }
 
 -- a batch of one request
 abbrev alone : ℕ → Batch
@@ -70,69 +71,35 @@ short = body.Bare (replicate 32 5)
 
 -- ---- stamped messages: each is also refused by all later tests, where it can be. The gate is no test of this host.
 
-bad_ui_first : stamped_refusal (host 1) [] (bare_prepare 1 2 1 9 short) ≡ Some outcome.BadUi
-unfolding host_on_literals
-bad_ui_first = refl
+record RefusedInOrder : Type 0 where
+  bad_ui_first : stamped_refusal (host 1) [] (bare_prepare 1 2 1 9 short) ≡ Some outcome.BadUi
+  own_future_before_ahead : stamped_refusal (host 1) [] (certified 1 2 (bare_prepare 1 2 1 9 short)) ≡ Some outcome.Idle
+  stale_before_later_view : stamped_refusal (host 1) (accepted (prepare 1 0 1 (body.Whole (alone 1))) ∷ []) (prepare 1 1 9 short) ≡ Some (outcome.Stale 2)
+  ahead_before_later_view : stamped_refusal (host 1) [] (prepare 2 1 9 short) ≡ Some (outcome.Ahead 1)
+  -- A position that is not the next one may not stand there, whatever the window is and whatever the body.
+  order_before_window : stamped_refusal (host 1) [] (prepare 1 0 9 short) ≡ Some (outcome.Illegal 6)
+  body_at_next_position : stamped_refusal (host 1) [] (prepare 1 0 1 short) ≡ Some (outcome.NeedBody 0 0)
+  -- a body is not needed at an executed position
+  no_body_at_executed : stamped_refusal (host 1) (executed 1 1 []) (prepare 1 0 1 short) ≡ None
+  bad_tag_at_executed : stamped_refusal (host 1) (executed 1 1 []) (prepare 1 0 1 (body.Whole (alone 1))) ≡ Some outcome.BadTag
+  -- What may not stand at the gate is refused before it is asked for a later view or the window.
+  skipping_is_illegal : stamped_refusal (host 1) [] (prepare 1 0 8 (body.Whole (alone 1))) ≡ Some (outcome.Illegal 6)
 
-own_future_before_ahead : stamped_refusal (host 1) [] (certified 1 2 (bare_prepare 1 2 1 9 short)) ≡ Some outcome.Idle
+refused_in_order : RefusedInOrder
 unfolding host_on_literals
-own_future_before_ahead = refl
-
-stale_before_later_view : stamped_refusal (host 1) (accepted (prepare 1 0 1 (body.Whole (alone 1))) ∷ []) (prepare 1 1 9 short) ≡ Some (outcome.Stale 2)
-unfolding host_on_literals
-stale_before_later_view = refl
-
-ahead_before_later_view : stamped_refusal (host 1) [] (prepare 2 1 9 short) ≡ Some (outcome.Ahead 1)
-unfolding host_on_literals
-ahead_before_later_view = refl
-
--- A position that is not the next one may not stand there, whatever the window is and whatever the body.
-order_before_window : stamped_refusal (host 1) [] (prepare 1 0 9 short) ≡ Some (outcome.Illegal 6)
-unfolding host_on_literals
-order_before_window = refl
-
-body_at_next_position : stamped_refusal (host 1) [] (prepare 1 0 1 short) ≡ Some (outcome.NeedBody 0 0)
-unfolding host_on_literals
-body_at_next_position = refl
-
--- a body is not needed at an executed position
-no_body_at_executed : stamped_refusal (host 1) (executed 1 1 []) (prepare 1 0 1 short) ≡ None
-unfolding host_on_literals
-no_body_at_executed = refl
-
-bad_tag_at_executed : stamped_refusal (host 1) (executed 1 1 []) (prepare 1 0 1 (body.Whole (record { requests = badly_tagged 1 ∷ [] }))) ≡ Some outcome.BadTag
-unfolding host_on_literals
-bad_tag_at_executed = refl
+refused_in_order = record { bad_ui_first = refl; own_future_before_ahead = refl; stale_before_later_view = refl; ahead_before_later_view = refl; order_before_window = refl; body_at_next_position = refl; no_body_at_executed = refl; bad_tag_at_executed = refl; skipping_is_illegal = refl }
 
 -- ---- requests, after number 2 was executed and number 5 is pending
 
 abbrev five_pending : History
 five_pending = Accepted (message.Request (asked 5)) ∷ executed 1 2 []
 
-bad_tag_before_old : request_refusal (host 1) five_pending (badly_tagged 1) ≡ Some outcome.BadTag
+-- A wrong tag is told first. Then come numbers that are old, that of the last one, and none above what is pending. Number 6 is taken, also where number 5 was
+-- executed since.
+requests_are_refused : (map (request_refusal (host 1) five_pending) (asked 1 ∷ tagged 1 ∷ tagged 2 ∷ tagged 5 ∷ tagged 6 ∷ [])
+    ≡ Some outcome.BadTag ∷ Some (outcome.Old 2) ∷ Some outcome.Again ∷ Some outcome.Idle ∷ None ∷ []) × (request_refusal (host 1) (executed 2 5 five_pending) (tagged 6) ≡ None)
 unfolding host_on_literals
-bad_tag_before_old = refl
-
-old : request_refusal (host 1) five_pending (asked 1) ≡ Some (outcome.Old 2)
-unfolding host_on_literals
-old = refl
-
-again_while_one_is_pending : request_refusal (host 1) five_pending (asked 2) ≡ Some outcome.Again
-unfolding host_on_literals
-again_while_one_is_pending = refl
-
-not_above_pending : request_refusal (host 1) five_pending (asked 5) ≡ Some outcome.Idle
-unfolding host_on_literals
-not_above_pending = refl
-
-above_pending : request_refusal (host 1) five_pending (asked 6) ≡ None
-unfolding host_on_literals
-above_pending = refl
-
--- number 5 was executed since
-pending_is_dropped : request_refusal (host 1) (executed 2 5 five_pending) (asked 6) ≡ None
-unfolding host_on_literals
-pending_is_dropped = refl
+requests_are_refused = (refl, refl)
 
 -- ---- a backup commits the next position, in the window
 
@@ -244,11 +211,6 @@ stop_stops = refl
 
 reply_is_idle : (m : Reply) (d : History) → on_message (host 1) d (message.Reply m) ≡ answer outcome.Idle (begin d)
 reply_is_idle m d = refl
-
--- What may not stand at the gate is refused before it is asked for a later view or the window.
-skipping_is_illegal : stamped_refusal (host 1) [] (prepare 1 0 8 (body.Whole (alone 1))) ≡ Some (outcome.Illegal 6)
-unfolding host_on_literals
-skipping_is_illegal = refl
 
 -- The fourth executed request is answered, a CHECKPOINT is stamped, and 65 parts and the list of their digests count as hashed.
 abbrev kinds_and_strings : Progress → List ℕ × ℕ

@@ -5,6 +5,7 @@ use Rattle.sha2.specs.Sha256.{sha256}
 use Rattle.mb_base.specs.Shapes.{Bytes}
 use Rattle.mb_base.specs.declared.names.Ui.{Ui}
 use Rattle.mb_usig.specs.Tags.{certificate}
+use Rattle.mb_parts.specs.declared.batch.Batch.{Batch}
 use Rattle.mb_parts.specs.declared.certificates.Evidence.{Evidence}
 use Rattle.mb_parts.specs.declared.floor.Floor.{Floor}
 use Rattle.mb_parts.specs.declared.floor.Phase.TheVariants as phase
@@ -34,7 +35,11 @@ use Rattle.mb_model.specs.Making.{floors_under}
 use Rattle.mb_model.specs.EnabledRules.{Execute, target, execute_enabled}
 use Rattle.mb_model.specs.Given.{give_stamped, give_state}
 use Rattle.mb_model.proofs.StepOnLiterals.{host_on_literals}
-use Rattle.mb_worked.proofs.AgreeingCheckpoints.{secret, host, alone}
+use Rattle.mb_worked.proofs.AgreeingCheckpoints.{secret, host}
+
+-- a batch of one request, whose tag is not looked at
+abbrev batch : Batch
+batch = record { requests = record { client = 0; seq = 1; op = 9 ∷ []; tag = replicate 32 0 } ∷ [] }
 
 abbrev ui : ℕ → ℕ → Ui
 ui h counter = record { host = h; counter = counter; cert = [] }
@@ -71,7 +76,7 @@ later_view_is_illegal = (refl, refl)
 -- h1 votes at a position and stamps a CHECKPOINT at 4
 abbrev voted_at : ℕ → History
 voted_at pos = Accepted (message.Checkpoint (record { pos = 4; state = []; body = body.Bare []; ui = ui 1 2 }))
-    ∷ Accepted (message.Commit (record { view = 0; pos = pos; counter = 1; cert = []; body = body.Whole (alone 0); ui = ui 1 1 })) ∷ []
+    ∷ Accepted (message.Commit (record { view = 0; pos = pos; counter = 1; cert = []; body = body.Whole (batch); ui = ui 1 1 })) ∷ []
 
 floor_within : floors_under (host 0) (voted_at 8) 8 ≡ None ∷ Some (record { counter = 2; view = 0; phase = phase.Open; last = 8; top = 8; point = 4 }) ∷ None ∷ []
 unfolding host_on_literals
@@ -113,11 +118,11 @@ evidence plan = record { view = 1; base = 0; end = 1; plan = plan; body = []; co
 
 -- h0 left view 0 and accepts the whole OPEN of h2
 abbrev opened : Bytes → History
-opened plan = Accepted (message.Open (record { evidence = evidence plan; body = body.Whole (record { stable = no_base; batches = alone 0 ∷ [] }); ui = ui 2 3 }))
+opened plan = Accepted (message.Open (record { evidence = evidence plan; body = body.Whole (record { stable = no_base; batches = batch ∷ [] }); ui = ui 2 3 }))
     ∷ Stamped (stamped.ViewChange (record { view = 1; body = body.Bare []; ui = ui 0 1 })) ∷ []
 
 abbrev plan : Bytes
-plan = plan_digest (record { base = no_base; batches = alone 0 ∷ [] })
+plan = plan_digest (record { base = no_base; batches = batch ∷ [] })
 
 abbrev counter_of_vote : Option Vote → ℕ
 counter_of_vote None = 0
@@ -155,14 +160,14 @@ second_is_wrong = (refl, refl)
 
 -- h2 has the PREPARE of position 1 and the COMMIT of h1 for it, and has not executed it
 abbrev has_votes : History
-has_votes = Accepted (message.Commit (record { view = 0; pos = 1; counter = 1; cert = []; body = body.Whole (alone 0); ui = ui 1 1 }))
-    ∷ Accepted (message.Prepare (record { view = 0; pos = 1; body = body.Whole (alone 0); ui = ui 0 1 })) ∷ []
+has_votes = Accepted (message.Commit (record { view = 0; pos = 1; counter = 1; cert = []; body = body.Whole (batch); ui = ui 1 1 }))
+    ∷ Accepted (message.Prepare (record { view = 0; pos = 1; body = body.Whole (batch); ui = ui 0 1 })) ∷ []
 
 -- and then hears of a stable position
 abbrev stable_at : ℕ → History → History
 stable_at pos d = Accepted (message.Join (record { view = 0; evidence = None; stable = record { pos = pos; state = []; members = [] }; ui = ui 1 2 })) ∷ d
 
-executes_above_stable_alone : (execute_enabled (host 2) has_votes ≡ Some (Execute 1 (alone 0))) × (execute_enabled (host 2) (stable_at 0 has_votes) ≡ Some (Execute 1 (alone 0)))
+executes_above_stable_alone : (execute_enabled (host 2) has_votes ≡ Some (Execute 1 (batch))) × (execute_enabled (host 2) (stable_at 0 has_votes) ≡ Some (Execute 1 (batch)))
     × (execute_enabled (host 2) (stable_at 4 has_votes) ≡ None)
 unfolding host_on_literals
 executes_above_stable_alone = (refl, refl, refl)
