@@ -1,6 +1,6 @@
 -- Batches, computed on the definitions with real tags: which requests go into one, and what is executed of it. What is expected was worked out from the rules by
 -- hand; the tags were made outside these definitions.
-use Rattle.std.proofs.Common.{◌≡◌, ℕ, ◌+◌, List, [], ◌∷◌, map, refl, false, Option, Some, None}
+use Rattle.std.proofs.Common.{◌≡◌, ℕ, ◌+◌, List, [], ◌∷◌, map, refl, true, false, Option, Some, None}
 use Rattle.std.specs.Prelude.{replicate, codes, option_map}
 use Rattle.std.specs.List.{range_with_len}
 use Rattle.mb_base.specs.Shapes.{Bytes}
