@@ -46,20 +46,14 @@ two_prepares = system_of (record {
 abbrev told : ℕ → Word → List ℕ → RefusedLine
 told event word numbers = record { event = event; name = word; numbers = numbers }
 
--- The gate takes one of them, and is closed at the other.
-two_prepares_refused : refusals (world two_prepares 10).seen
-    ≡ told 6 word.Illegal (6 ∷ []) ∷ told 7 word.Ahead (1 ∷ []) ∷ told 9 word.Illegal (6 ∷ []) ∷ told 10 word.Convicted (2 ∷ []) ∷ []
+-- The gate takes one of them, and is closed at the other; so the line has one of both requests. Both correct hosts have closed their gates for h0 at its second
+-- message, and none for each other: of the hosts in turn, the counters.
+two_prepares_convict : (refusals (world two_prepares 10).seen
+    ≡ told 6 word.Illegal (6 ∷ []) ∷ told 7 word.Ahead (1 ∷ []) ∷ told 9 word.Illegal (6 ∷ []) ∷ told 10 word.Convicted (2 ∷ []) ∷ [])
+    × (map (λ x. x.pos ∷ map (λ p. p.request.client) x.requests) (world two_prepares 10).line ≡ (1 ∷ 0 ∷ []) ∷ [])
+    × (map (λ g. map (closed_at ((world two_prepares 10).histories g)) (0 ∷ 1 ∷ 2 ∷ [])) (1 ∷ 2 ∷ []) ≡ (Some 2 ∷ None ∷ None ∷ []) ∷ (Some 2 ∷ None ∷ None ∷ []) ∷ [])
 unfolding worlds_on_literals
-two_prepares_refused = refl
-
-two_prepares_line : map (λ x. x.pos ∷ map (λ p. p.request.client) x.requests) (world two_prepares 10).line ≡ (1 ∷ 0 ∷ []) ∷ []
-unfolding worlds_on_literals
-two_prepares_line = refl
-
--- Both correct hosts have closed their gates for h0 at its second message, and none for each other: of the hosts in turn, the counters.
-two_prepares_convict : map (λ g. map (closed_at ((world two_prepares 10).histories g)) (0 ∷ 1 ∷ 2 ∷ [])) (1 ∷ 2 ∷ []) ≡ (Some 2 ∷ None ∷ None ∷ []) ∷ (Some 2 ∷ None ∷ None ∷ []) ∷ []
-unfolding worlds_on_literals
-two_prepares_convict = refl
+two_prepares_convict = (refl, refl, refl)
 
 -- ---- two requests in one batch, of which one was served before
 
@@ -76,13 +70,10 @@ one_again = system_of (record {
 abbrev of_slot : Slot → ℕ × List (ℕ × Bool)
 of_slot x = (x.pos, map (λ p. (p.request.client, p.fresh)) x.requests)
 
-one_again_line : map of_slot (world one_again 6).line ≡ (1, (0, true) ∷ []) ∷ (2, (0, false) ∷ (1, true) ∷ []) ∷ []
+one_again_line : (map of_slot (world one_again 6).line ≡ (1, (0, true) ∷ []) ∷ (2, (0, false) ∷ (1, true) ∷ []) ∷ [])
+    × (map kind_byte (world one_again 6).pool ≡ 1 ∷ 1 ∷ 2 ∷ 2 ∷ 3 ∷ 4 ∷ 3 ∷ 4 ∷ [])
 unfolding worlds_on_literals
-one_again_line = refl
-
-one_again_made : map kind_byte (world one_again 6).pool ≡ 1 ∷ 1 ∷ 2 ∷ 2 ∷ 3 ∷ 4 ∷ 3 ∷ 4 ∷ []
-unfolding worlds_on_literals
-one_again_made = refl
+one_again_line = (refl, refl)
 
 -- ---- what is no reply is refused by a client, and a faulty host does nothing with what it is given
 
@@ -106,29 +97,25 @@ no_replies_seen = refl
 abbrev stop_of_first : System Bytes → Option WorldStop
 stop_of_first system = stop_at system 0
 
-correct_does_not : map (λ e. stop_of_first (all_correct (e ∷ []))) (StampRaw 0 [] ∷ TagWish 0 1 ∷ StampCommit 1 0 ∷ Sign 0 1 [] ∷ [])
-    ≡ Some (NotFaulty (name.Host 0)) ∷ Some (NotFaulty (name.Host 0)) ∷ Some (NotFaulty (name.Host 1)) ∷ Some (NotFaulty (name.Client 0)) ∷ []
-unfolding worlds_on_literals
-correct_does_not = refl
-
--- And nothing comes of it.
+-- how many messages were made, and how many events are told of
 abbrev made_and_seen : World → List ℕ
 made_and_seen w = length w.pool ∷ length w.seen ∷ []
 
-correct_made_nothing : made_and_seen (world (all_correct (StampRaw 0 [] ∷ Sign 0 1 [] ∷ [])) 2) ≡ 0 ∷ 0 ∷ []
-unfolding worlds_on_literals
-correct_made_nothing = refl
+record StandsInTheWay : Type 0 where
+  -- Someone correct does nothing of the kind.
+  correct_does_not : map (λ e. stop_of_first (all_correct (e ∷ []))) (StampRaw 0 [] ∷ TagWish 0 1 ∷ StampCommit 1 0 ∷ Sign 0 1 [] ∷ [])
+      ≡ Some (NotFaulty (name.Host 0)) ∷ Some (NotFaulty (name.Host 0)) ∷ Some (NotFaulty (name.Host 1)) ∷ Some (NotFaulty (name.Client 0)) ∷ []
+  -- And nothing comes of it.
+  correct_made_nothing : made_and_seen (world (all_correct (StampRaw 0 [] ∷ Sign 0 1 [] ∷ [])) 2) ≡ 0 ∷ 0 ∷ []
+  no_such_message : map (λ e. stop_at (of_faulty_primary (Ask 0 operation ∷ e ∷ [])) 1) (Give 0 1 ∷ Give 2 1 ∷ Take 2 0 ∷ StampCommit 0 0 ∷ StampAs 0 7 ∷ StampPrepare 0 0 1 (1 ∷ 7 ∷ 0 ∷ []) ∷ Give 1 1 ∷ [])
+      ≡ Some (NoSuchMessage 0) ∷ Some (NoSuchMessage 2) ∷ Some (NoSuchMessage 2) ∷ Some (NoSuchMessage 0) ∷ Some (NoSuchMessage 7) ∷ Some (NoSuchMessage 7) ∷ None ∷ []
+  -- A REQUEST is no PREPARE and not stamped, and a PREPARE is no REQUEST.
+  wrong_kind : map (λ e. stop_at (of_faulty_primary (Ask 0 operation ∷ StampPrepare 0 0 1 (1 ∷ []) ∷ e ∷ [])) 2) (StampCommit 0 1 ∷ StampAs 0 1 ∷ StampPrepare 0 0 2 (2 ∷ []) ∷ StampPrepare 0 0 2 (1 ∷ 2 ∷ []) ∷ StampCommit 0 2 ∷ StampAs 0 2 ∷ [])
+      ≡ Some (WrongKind 1) ∷ Some (WrongKind 1) ∷ Some (WrongKind 2) ∷ Some (WrongKind 2) ∷ None ∷ None ∷ []
 
-no_such_message : map (λ e. stop_at (of_faulty_primary (Ask 0 operation ∷ e ∷ [])) 1) (Give 0 1 ∷ Give 2 1 ∷ Take 2 0 ∷ StampCommit 0 0 ∷ StampAs 0 7 ∷ StampPrepare 0 0 1 (1 ∷ 7 ∷ 0 ∷ []) ∷ Give 1 1 ∷ [])
-    ≡ Some (NoSuchMessage 0) ∷ Some (NoSuchMessage 2) ∷ Some (NoSuchMessage 2) ∷ Some (NoSuchMessage 0) ∷ Some (NoSuchMessage 7) ∷ Some (NoSuchMessage 7) ∷ None ∷ []
+stands_in_the_way : StandsInTheWay
 unfolding worlds_on_literals
-no_such_message = refl
-
--- A REQUEST is no PREPARE and not stamped, and a PREPARE is no REQUEST.
-wrong_kind : map (λ e. stop_at (of_faulty_primary (Ask 0 operation ∷ StampPrepare 0 0 1 (1 ∷ []) ∷ e ∷ [])) 2) (StampCommit 0 1 ∷ StampAs 0 1 ∷ StampPrepare 0 0 2 (2 ∷ []) ∷ StampPrepare 0 0 2 (1 ∷ 2 ∷ []) ∷ StampCommit 0 2 ∷ StampAs 0 2 ∷ [])
-    ≡ Some (WrongKind 1) ∷ Some (WrongKind 1) ∷ Some (WrongKind 2) ∷ Some (WrongKind 2) ∷ None ∷ None ∷ []
-unfolding worlds_on_literals
-wrong_kind = refl
+stands_in_the_way = record { correct_does_not = refl; correct_made_nothing = refl; no_such_message = refl; wrong_kind = refl }
 
 -- ---- what is forged
 
@@ -147,34 +134,27 @@ forged_prepare = spelling (message.Prepare (record {
   ui = record { host = 0; counter = 1; cert = certificate (replicate 32 0) 0 1 (bare_bytes (bare.Prepare 0 1 (batch_digest batch))) };
 }))
 
-forged : stop_at (all_correct (Ask 0 operation ∷ Raw (name.Host 1) forged_prepare ∷ [])) 1 ≡ Some (Forged 2 0 1)
-unfolding worlds_on_literals
-forged = refl
-
--- once h0 stamped it, it is none
-not_forged : stop_at (all_correct (Ask 0 operation ∷ Give 1 0 ∷ Raw (name.Host 1) forged_prepare ∷ [])) 2 ≡ None
-unfolding worlds_on_literals
-not_forged = refl
-
 -- a REQUEST whose tag is not its client's
 abbrev badly_tagged : Bytes
 badly_tagged = 1 ∷ 0 ∷ 0 ∷ 0 ∷ 0 ∷ 0 ∷ 0 ∷ 0 ∷ 0 ∷ 1 ∷ 0 ∷ 3 ∷ 2 ∷ 1 ∷ 97 ∷ replicate 32 0
 
--- To a faulty host all may be given. A request that its correct client did not ask is forged by its tag, and one with another tag is not.
-unasked : map (λ e. stop_of_first (of_faulty_primary (e ∷ []))) (Raw (name.Host 0) forged_prepare ∷ Raw (name.Host 1) (spelling (message.Request request)) ∷ Raw (name.Host 1) badly_tagged ∷ [])
-    ≡ None ∷ Some (ForgedTag 1) ∷ None ∷ []
+record IsForged : Type 0 where
+  forged : stop_at (all_correct (Ask 0 operation ∷ Raw (name.Host 1) forged_prepare ∷ [])) 1 ≡ Some (Forged 2 0 1)
+  -- once h0 stamped it, it is none
+  not_forged : stop_at (all_correct (Ask 0 operation ∷ Give 1 0 ∷ Raw (name.Host 1) forged_prepare ∷ [])) 2 ≡ None
+  -- To a faulty host all may be given. A request that its correct client did not ask is forged by its tag, and one with another tag is not.
+  unasked : map (λ e. stop_of_first (of_faulty_primary (e ∷ []))) (Raw (name.Host 0) forged_prepare ∷ Raw (name.Host 1) (spelling (message.Request request)) ∷ Raw (name.Host 1) badly_tagged ∷ [])
+      ≡ None ∷ Some (ForgedTag 1) ∷ None ∷ []
+
+what_is_forged : IsForged
 unfolding worlds_on_literals
-unasked = refl
+what_is_forged = record { forged = refl; not_forged = refl; unasked = refl }
 
 -- ---- stamps: the message of bytes is these and an identifier; in a VIEW_CHANGE what is no message is left out
 
 abbrev odd_stamps : System Bytes
 odd_stamps = of_faulty_primary (Ask 0 operation ∷ StampPrepare 0 0 1 (1 ∷ []) ∷ StampRaw 0 (9 ∷ []) ∷ [])
 
-odd_lengths : map length (drop 2 (world odd_stamps 3).pool) ≡ 42 ∷ []
+odd_stamps_are_made : (map length (drop 2 (world odd_stamps 3).pool) ≡ 42 ∷ []) × (map (λ c. map shown_kind (log_after odd_stamps.schedule (world odd_stamps 3) 0 c).entries) (0 ∷ 1 ∷ []) ≡ (2 ∷ []) ∷ [] ∷ [])
 unfolding worlds_on_literals
-odd_lengths = refl
-
-odd_shown : map (λ c. map shown_kind (log_after odd_stamps.schedule (world odd_stamps 3) 0 c).entries) (0 ∷ 1 ∷ []) ≡ (2 ∷ []) ∷ [] ∷ []
-unfolding worlds_on_literals
-odd_shown = refl
+odd_stamps_are_made = (refl, refl)

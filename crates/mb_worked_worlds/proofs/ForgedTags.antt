@@ -34,25 +34,10 @@ in_both e = stop_at (all_correct (e ∷ [])) 0 ∷ stop_at (of_faulty_primary (e
 abbrev reply : Bytes → Bytes
 reply tag = spelling (message.Reply (record { host = 0; client = 0; seq = 1; pos = 1; result = 5 ∷ []; tag = tag }))
 
--- A reply that h0 did not make is forged by its right tag, where h0 is correct. One with another tag is not.
-forged_reply : map (λ tag. in_both (Raw (name.Client 0) (reply tag))) (reply_tag secret 0 0 1 1 (5 ∷ []) ∷ replicate 32 0 ∷ []) ≡ (Some (ForgedTag 1) ∷ None ∷ []) ∷ (None ∷ None ∷ []) ∷ []
-unfolding worlds_on_literals
-forged_reply = refl
-
 -- ---- wishes
 
 abbrev wish : ℕ → Bytes → Bytes
 wish view tag = spelling (message.ReqViewChange (record { host = 0; view = view; tag = tag }))
-
--- So is a wish.
-forged_wish : map (λ tag. in_both (Raw (name.Host 1) (wish 1 tag))) (wish_tag secret 0 1 ∷ replicate 32 0 ∷ []) ≡ (Some (ForgedTag 1) ∷ None ∷ []) ∷ (None ∷ None ∷ []) ∷ []
-unfolding worlds_on_literals
-forged_wish = refl
-
--- h0 wished for view 1, and not for view 2.
-wished : map (λ view. stop_at (all_correct (Patience 0 ∷ Raw (name.Host 1) (wish view (wish_tag secret 0 view)) ∷ [])) 1) (1 ∷ 2 ∷ []) ≡ None ∷ Some (ForgedTag 2) ∷ []
-unfolding worlds_on_literals
-wished = refl
 
 -- ---- certificates inside of messages: h0 is correct and stamped nothing, and the tags of the other hosts don't verify
 
@@ -78,10 +63,6 @@ shows_commit cert = message.ViewChange (record {
   ui = record { host = 1; counter = 2; cert = no_tag };
 })
 
-forged_in_shown_log : map (λ cert. stop_of (shows_commit cert)) (of_h0 3 (bare.Prepare 0 1 (batch_digest batch)) ∷ no_tag ∷ []) ≡ Some (Forged 1 0 3) ∷ None ∷ []
-unfolding worlds_on_literals
-forged_in_shown_log = refl
-
 -- The LOG of h1 has a floor certificate with a CHECKPOINT of h0.
 abbrev no_state : Bytes
 no_state = replicate 32 9
@@ -92,6 +73,18 @@ floor_with cert = record { pos = 4; state = no_state; members = record { host = 
 abbrev log_with : Bytes → Message
 log_with cert = message.Log (record { host = 1; floor = Some (floor_with cert); stable = no_base; evidence = None; entries = [] })
 
-forged_in_floor : map (λ cert. stop_of (log_with cert)) (of_h0 2 (bare.Checkpoint 4 no_state (sha256 (floors_bytes (replicate 3 None)))) ∷ no_tag ∷ []) ≡ Some (Forged 1 0 2) ∷ None ∷ []
+-- ---- what is forged. All is computed in one proof, so that each key is made once.
+
+record AreForged : Type 0 where
+  -- A reply that h0 did not make is forged by its right tag, where h0 is correct. One with another tag is not.
+  forged_reply : map (λ tag. in_both (Raw (name.Client 0) (reply tag))) (reply_tag secret 0 0 1 1 (5 ∷ []) ∷ replicate 32 0 ∷ []) ≡ (Some (ForgedTag 1) ∷ None ∷ []) ∷ (None ∷ None ∷ []) ∷ []
+  -- So is a wish.
+  forged_wish : map (λ tag. in_both (Raw (name.Host 1) (wish 1 tag))) (wish_tag secret 0 1 ∷ replicate 32 0 ∷ []) ≡ (Some (ForgedTag 1) ∷ None ∷ []) ∷ (None ∷ None ∷ []) ∷ []
+  -- h0 wished for view 1, and not for view 2.
+  wished : map (λ view. stop_at (all_correct (Patience 0 ∷ Raw (name.Host 1) (wish view (wish_tag secret 0 view)) ∷ [])) 1) (1 ∷ 2 ∷ []) ≡ None ∷ Some (ForgedTag 2) ∷ []
+  forged_in_shown_log : map (λ cert. stop_of (shows_commit cert)) (of_h0 3 (bare.Prepare 0 1 (batch_digest batch)) ∷ no_tag ∷ []) ≡ Some (Forged 1 0 3) ∷ None ∷ []
+  forged_in_floor : map (λ cert. stop_of (log_with cert)) (of_h0 2 (bare.Checkpoint 4 no_state (sha256 (floors_bytes (replicate 3 None)))) ∷ no_tag ∷ []) ≡ Some (Forged 1 0 2) ∷ None ∷ []
+
+they_are_forged : AreForged
 unfolding worlds_on_literals
-forged_in_floor = refl
+they_are_forged = record { forged_reply = refl; forged_wish = refl; wished = refl; forged_in_shown_log = refl; forged_in_floor = refl }

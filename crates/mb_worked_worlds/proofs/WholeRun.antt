@@ -16,7 +16,7 @@ use Rattle.mb_theory.specs.Stops.{IsUnstopped, stop_of}
 use Rattle.mb_theory.specs.Headline.{IsService, Promises, HostsStayOne, state_after}
 use Rattle.mb_theory.proofs.WorldsOnLiterals.{worlds_on_literals}
 use Rattle.mb_worked_worlds.proofs.Apart.{is_among, are_apart}
-use Rattle.mb_worked_worlds.proofs.Worlds.{keeps_last, keeps_parts, one_client, change_of_view, last_world, stop_at, goes_8, goes_9, goes_10, goes_11, goes_12, goes_13}
+use Rattle.mb_worked_worlds.proofs.Worlds.{keeps_last, keeps_parts, one_client, change_of_view, last_world, stop_at}
 
 -- ---- no two hashed strings share a digest
 
@@ -129,8 +129,20 @@ first_go : Below Goes 8
 unfolding worlds_on_literals
 first_go = (refl, (refl, (refl, (refl, (refl, (refl, (refl, (refl, tt))))))))
 
+goes_8_9 : Goes 8 × Goes 9
+unfolding worlds_on_literals
+goes_8_9 = (refl, refl)
+
+goes_10_11 : Goes 10 × Goes 11
+unfolding worlds_on_literals
+goes_10_11 = (refl, refl)
+
+goes_12_13 : Goes 12 × Goes 13
+unfolding worlds_on_literals
+goes_12_13 = (refl, refl)
+
 all_go : Below Goes 14
-all_go = (goes_13, (goes_12, (goes_11, (goes_10, (goes_9, (goes_8, first_go))))))
+all_go = (goes_12_13.1, (goes_12_13.0, (goes_10_11.1, (goes_10_11.0, (goes_8_9.1, (goes_8_9.0, first_go))))))
 
 pub nothing_stops_it : IsUnstopped change_of_view 14
 nothing_stops_it j e lt is = ap (option_and_then (stop_of change_of_view.schedule (world change_of_view j))) (sym is) ∙ one_below Goes 14 all_go j lt

@@ -1,6 +1,6 @@
 -- A whole world, computed on the definitions with real tags, certificates and digests.
-use Rattle.std.proofs.Common.{◌≡◌, ℕ, true, false, List, [], ◌∷◌, ◌++◌, length, map, refl, arith, Option, Some, None, Ok}
-use Rattle.std.specs.Prelude.{replicate, slice_get, take, filter_map, option_map, option_and_then, ◌==◌, if◌then◌else◌, unwrap_or}
+use Rattle.std.proofs.Common.{◌≡◌, ◌≤◌, ℕ, true, false, List, [], ◌∷◌, ◌++◌, length, map, refl, arith, Option, Some, None, Ok}
+use Rattle.std.specs.Prelude.{replicate, slice_get, filter_map, option_map, option_and_then, ◌==◌, if◌then◌else◌, unwrap_or}
 use Rattle.mb_base.specs.Shapes.{Bytes}
 use Rattle.mb_base.specs.declared.shape.Shape.{Shape}
 use Rattle.mb_parts.specs.declared.batch.Batch.{Batch}
@@ -12,12 +12,14 @@ use Rattle.mb_msg.specs.declared.change.ViewChange.{ViewChange}
 use Rattle.mb_msg.specs.declared.stamped.Stamped.{Stamped as StampedMessage}
 use Rattle.mb_msg.specs.declared.stamped.Stamped.TheVariants as stamped
 use Rattle.mb_model.specs.Votes.{is_vote}
-use Rattle.mb_model.specs.Committed.{planned, vote_in}
+use Rattle.mb_model.specs.Committed.{IsCommitted, planned, vote_in}
+use Rattle.mb_model.specs.declared.known.Vote.{Vote}
+use Rattle.mb_msg.specs.declared.event.Slot.{Slot}
 use Rattle.mb_model.specs.UsableLogs.{Fault}
 use Rattle.mb_model.specs.Held.{change_fault, evidence_of}
 use Rattle.mb_model.specs.Service.{Machine, Served}
 use Rattle.mb_model.specs.States.{Snapshots}
-use Rattle.mb_model.specs.Histories.{view_of, said, stamped as stamped_by}
+use Rattle.mb_model.specs.Histories.{Executed, view_of, said, stamped as stamped_by}
 use Rattle.mb_model.specs.Stable.{low_of}
 use Rattle.mb_model.specs.OwnLog.{own_log}
 use Rattle.mb_model.specs.Positions.{exec_of}
@@ -25,7 +27,7 @@ use Rattle.mb_model.specs.Execution.{state_of}
 use Rattle.mb_schedule.specs.declared.schedule.WorldEvent.{WorldEvent}
 use Rattle.mb_schedule.specs.declared.schedule.WorldEvent.TheVariants.{Ask, Give, Patience, StampPrepare}
 use Rattle.mb_schedule.specs.declared.schedule.Schedule.{Schedule}
-use Rattle.mb_theory.specs.World.{World, System, nothing_happened, self_of, request_of}
+use Rattle.mb_theory.specs.World.{World, System, self_of, request_of}
 use Rattle.mb_theory.specs.WorldSteps.{happens, world}
 use Rattle.mb_theory.specs.Stops.{WorldStop, stop_of}
 use Rattle.mb_theory.specs.WorldRecord.{issued, prefix, plans}
@@ -78,68 +80,18 @@ of_faulty_primary events = system_of (record { shape = one_client; secret = repl
 abbrev pub change_of_view : System Bytes
 change_of_view = of_faulty_primary (Ask 0 operation ∷ StampPrepare 0 0 1 (1 ∷ []) ∷ Give 2 1 ∷ Patience 1 ∷ Patience 2 ∷ Give 5 2 ∷ Give 6 1 ∷ Give 7 1 ∷ Give 3 2 ∷ Give 8 2 ∷ Give 9 2 ∷ Give 10 1 ∷ Give 11 1 ∷ Give 12 2 ∷ [])
 
-change_of_view_told : told change_of_view 14 ≡ (1 ∷ 2 ∷ 3 ∷ 4 ∷ 6 ∷ 6 ∷ 7 ∷ 7 ∷ 8 ∷ 9 ∷ 10 ∷ 10 ∷ 4 ∷ []) ∷ (1 ∷ []) ∷ (0 ∷ 0 ∷ 0 ∷ 0 ∷ []) ∷ (1 ∷ 1 ∷ 0 ∷ 4 ∷ []) ∷ (1 ∷ 1 ∷ 0 ∷ 3 ∷ []) ∷ []
-unfolding worlds_on_literals
-change_of_view_told = refl
-
 -- what stands in the way of the event behind the first k
 abbrev pub stop_at : System Bytes → ℕ → Option WorldStop
 stop_at system k = option_and_then (stop_of system.schedule (world system k)) (slice_get system.schedule.events k)
 
-pub change_of_view_begins : stops_from change_of_view nothing_happened (take 8 change_of_view.schedule.events) ≡ replicate 8 None
-unfolding worlds_on_literals
-change_of_view_begins = refl
-
-pub goes_8 : stop_at change_of_view 8 ≡ None
-unfolding worlds_on_literals
-goes_8 = refl
-
-pub goes_9 : stop_at change_of_view 9 ≡ None
-unfolding worlds_on_literals
-goes_9 = refl
-
-pub goes_10 : stop_at change_of_view 10 ≡ None
-unfolding worlds_on_literals
-goes_10 = refl
-
-pub goes_11 : stop_at change_of_view 11 ≡ None
-unfolding worlds_on_literals
-goes_11 = refl
-
-pub goes_12 : stop_at change_of_view 12 ≡ None
-unfolding worlds_on_literals
-goes_12 = refl
-
-pub goes_13 : stop_at change_of_view 13 ≡ None
-unfolding worlds_on_literals
-goes_13 = refl
-
--- what is promised of it, as far as it is decided by computing: the state of the correct hosts is the service's after the line's first
--- slot; what each stamped stands in order, with checked and issued certificates; each log that it showed is usable; no gate is closed
+-- behind all events
 abbrev pub last_world : World
 last_world = world change_of_view 14
 
 abbrev pub served_once : Served Bytes
 served_once = record { state = operation; table = record { seq = 1; pos = 1; result = [] } ∷ [] }
 
-pub line_serves : after_line change_of_view last_world 1 ≡ served_once
-unfolding worlds_on_literals
-line_serves = refl
-
-pub hosts_served : map (λ h. state_of (self_of change_of_view h) (last_world.histories h)) (1 ∷ 2 ∷ []) ≡ served_once ∷ served_once ∷ []
-unfolding worlds_on_literals
-hosts_served = refl
-
-all_stand_in_order : map (λ h. is_ordered initial_floor one_client h (is_sound change_of_view.schedule last_world) (said (last_world.histories h))) (1 ∷ 2 ∷ []) ≡ true ∷ true ∷ []
-unfolding worlds_on_literals
-all_stand_in_order = refl
-
--- the ordered prefixes of what was stamped: of the faulty primary one message, too
-prefix_lengths : map (λ h. length (prefix change_of_view.schedule last_world h)) (0 ∷ 1 ∷ 2 ∷ []) ≡ 1 ∷ 4 ∷ 3 ∷ []
-unfolding worlds_on_literals
-prefix_lengths = refl
-
--- the logs that they showed are usable
+-- the logs that a host showed, of each its first fault
 abbrev as_change : StampedMessage → Option ViewChange
 as_change (stamped.ViewChange m) = Some m
 as_change m = None
@@ -147,30 +99,65 @@ as_change m = None
 abbrev change_faults : ℕ → List (Option Fault)
 change_faults h = map (change_fault (self_of change_of_view h)) (filter_map as_change (stamped_by (last_world.histories h)))
 
-changes_usable : change_faults 1 ++ change_faults 2 ≡ None ∷ None ∷ []
-unfolding worlds_on_literals
-changes_usable = refl
-
--- The evidence that h2 holds of the next view was issued, and its plan has the batch.
+-- the evidence that h2 holds of the next view, and its view, base, end and counter
 abbrev pub evidence : Option Evidence
 evidence = evidence_of (self_of change_of_view 2) (last_world.histories 2)
 
-pub evidence_issued : option_map (is_evidence one_client (issued change_of_view.schedule last_world)) evidence ≡ Some true
-unfolding worlds_on_literals
-evidence_issued = refl
+abbrev pub numbers : Evidence → ℕ × ℕ × ℕ × ℕ
+numbers e = (e.view, e.base, e.end, e.counter)
 
--- the batch of the one request
+-- the batch of the one request, the slot that it makes, and the vote for it in view 0, at the counter of the PREPARE
 abbrev pub batch : Batch
 batch = record { requests = request_of change_of_view.schedule 0 1 operation ∷ [] }
 
-pub evidence_plans : option_map (λ e. planned (plans change_of_view.schedule last_world e.plan) 1) evidence ≡ Some (Some (batch_digest batch))
-unfolding worlds_on_literals
-evidence_plans = refl
+abbrev pub slot : Slot
+slot = record { pos = 1; requests = record { request = request_of change_of_view.schedule 0 1 operation; fresh = true } ∷ [] }
 
--- the batch got votes of h0 and h1 in view 0 and, by the plan, of h1 and h2 in view 1: 1 for each that is the same batch
+abbrev pub vote : Vote
+vote = record { counter = 1; request = batch_digest batch }
+
+-- of each host 1 if its vote in this view is for the same batch
 abbrev votes_for_batch : ℕ → List ℕ
 votes_for_batch view = map (λ h. if is_vote (vote_in (plans change_of_view.schedule last_world) (prefix change_of_view.schedule last_world h) view 1) (record { counter = if view == 0 then 1 else 3; request = batch_digest batch }) then 1 else 0) (0 ∷ 1 ∷ 2 ∷ [])
 
-voted_in_both_views : map votes_for_batch (0 ∷ 1 ∷ []) ≡ (1 ∷ 1 ∷ 0 ∷ []) ∷ (0 ∷ 1 ∷ 1 ∷ []) ∷ []
+-- Where the run leads, and what is promised of it, as far as it is decided by computing. Facts are computed together as far as one proof may go, so that the prover
+-- goes through the run once for each of these records.
+pub record LeadsTo : Type 0 where
+  pub is_told : told change_of_view 14 ≡ (1 ∷ 2 ∷ 3 ∷ 4 ∷ 6 ∷ 6 ∷ 7 ∷ 7 ∷ 8 ∷ 9 ∷ 10 ∷ 10 ∷ 4 ∷ []) ∷ (1 ∷ []) ∷ (0 ∷ 0 ∷ 0 ∷ 0 ∷ []) ∷ (1 ∷ 1 ∷ 0 ∷ 4 ∷ []) ∷ (1 ∷ 1 ∷ 0 ∷ 3 ∷ []) ∷ []
+  -- The batch is the line. h2, which never saw view 0's PREPARE, executed it in view 1, as h1 did in view 0: it is the last entry of its history.
+  pub line_is : last_world.line ≡ slot ∷ []
+  pub last_of_h2 : slice_get (last_world.histories 2) 0 ≡ Some (Executed slot)
+  -- The state of the correct hosts is the service's behind the line's first slot.
+  pub line_serves : after_line change_of_view last_world 1 ≡ served_once
+  pub hosts_served : map (λ h. state_of (self_of change_of_view h) (last_world.histories h)) (1 ∷ 2 ∷ []) ≡ served_once ∷ served_once ∷ []
+  -- The evidence is of a plan from 0 to 1, and of the NEW_VIEW at counter 3.
+  pub evidence_is : option_map numbers evidence ≡ Some (1, 0, 1, 3)
+
+pub it_leads_there : LeadsTo
 unfolding worlds_on_literals
-voted_in_both_views = refl
+it_leads_there = record { is_told = refl; line_is = refl; last_of_h2 = refl; line_serves = refl; hosts_served = refl; evidence_is = refl }
+
+record InOrder : Type 0 where
+  -- What each stamped stands in order, with checked and issued certificates. The ordered prefix of the faulty primary is one message.
+  all_stand_in_order : map (λ h. is_ordered initial_floor one_client h (is_sound change_of_view.schedule last_world) (said (last_world.histories h))) (1 ∷ 2 ∷ []) ≡ true ∷ true ∷ []
+  prefix_lengths : map (λ h. length (prefix change_of_view.schedule last_world h)) (0 ∷ 1 ∷ 2 ∷ []) ≡ 1 ∷ 4 ∷ 3 ∷ []
+  -- The logs that they showed are usable.
+  changes_usable : change_faults 1 ++ change_faults 2 ≡ None ∷ None ∷ []
+
+all_is_in_order : InOrder
+unfolding worlds_on_literals
+all_is_in_order = record { all_stand_in_order = refl; prefix_lengths = refl; changes_usable = refl }
+
+pub record VotedAgain : Type 0 where
+  -- The evidence was issued, and its plan has the batch.
+  pub evidence_issued : option_map (is_evidence one_client (issued change_of_view.schedule last_world)) evidence ≡ Some true
+  pub evidence_plans : option_map (λ e. planned (plans change_of_view.schedule last_world e.plan) 1) evidence ≡ Some (Some (batch_digest batch))
+  -- The batch got votes of h0 and h1 in view 0, where it is committed, and, by the plan, of h1 and h2 in view 1.
+  pub voted_in_both_views : map votes_for_batch (0 ∷ 1 ∷ []) ≡ (1 ∷ 1 ∷ 0 ∷ []) ∷ (0 ∷ 1 ∷ 1 ∷ []) ∷ []
+  pub committed_in_view_0 : IsCommitted (plans change_of_view.schedule last_world) one_client (prefix change_of_view.schedule last_world) 0 1 vote
+
+pub it_is_voted_again : VotedAgain
+unfolding worlds_on_literals
+it_is_voted_again =
+    let two : 2 ≤ 2 = omega arith in
+    record { evidence_issued = refl; evidence_plans = refl; voted_in_both_views = refl; committed_in_view_0 = record { voted = two; led = refl } }
