@@ -19,10 +19,7 @@ use Rattle.mb_model.specs.UsableLogs.{Fault}
 use Rattle.mb_model.specs.Held.{change_fault, evidence_of}
 use Rattle.mb_model.specs.Service.{Machine, Served}
 use Rattle.mb_model.specs.States.{Snapshots}
-use Rattle.mb_model.specs.Histories.{Executed, view_of, said, stamped as stamped_by}
-use Rattle.mb_model.specs.Stable.{low_of}
-use Rattle.mb_model.specs.OwnLog.{own_log}
-use Rattle.mb_model.specs.Positions.{exec_of}
+use Rattle.mb_model.specs.Histories.{Executed, said, stamped as stamped_by}
 use Rattle.mb_model.specs.Execution.{state_of}
 use Rattle.mb_schedule.specs.declared.schedule.WorldEvent.{WorldEvent}
 use Rattle.mb_schedule.specs.declared.schedule.WorldEvent.TheVariants.{Ask, Give, Patience, StampPrepare}
@@ -52,17 +49,10 @@ system_of s = record { machine = keeps_last; snapshots = keeps_parts; initial = 
 abbrev pub all_correct : List WorldEvent → System Bytes
 all_correct events = system_of (record { shape = one_client; secret = replicate 32 0; faulty_hosts = replicate 3 false; faulty_clients = replicate 1 false; events = events })
 
--- what is told of a world: the first byte of each message, the length of the line, and of each host the view, the last executed position,
--- the stable position, and the number of messages in its log
+-- the first byte of a message
 abbrev pub kind_byte : Bytes → ℕ
 kind_byte [] = 0
 kind_byte (kind ∷ bytes) = kind
-
-abbrev pub host_told : System Bytes → World → ℕ → List ℕ
-host_told system w h = view_of (self_of system h) (w.histories h) ∷ exec_of (w.histories h) ∷ low_of (self_of system h) (w.histories h) ∷ length (own_log (self_of system h) (w.histories h)) ∷ []
-
-abbrev pub told : System Bytes → ℕ → List (List ℕ)
-told system k = map kind_byte (world system k).pool ∷ (length (world system k).line ∷ []) ∷ map (host_told system (world system k)) (0 ∷ 1 ∷ 2 ∷ [])
 
 -- what stands in the way of each of these events, one behind the other
 abbrev pub stops_from : System Bytes → World → List WorldEvent → List (Option WorldStop)
@@ -123,7 +113,6 @@ votes_for_batch view = map (λ h. if is_vote (vote_in (plans change_of_view.sche
 -- Where the run leads, and what is promised of it, as far as it is decided by computing. Facts are computed together as far as one proof may go, so that the prover
 -- goes through the run once for each of these records.
 pub record LeadsTo : Type 0 where
-  pub is_told : told change_of_view 14 ≡ (1 ∷ 2 ∷ 3 ∷ 4 ∷ 6 ∷ 6 ∷ 7 ∷ 7 ∷ 8 ∷ 9 ∷ 10 ∷ 10 ∷ 4 ∷ []) ∷ (1 ∷ []) ∷ (0 ∷ 0 ∷ 0 ∷ 0 ∷ []) ∷ (1 ∷ 1 ∷ 0 ∷ 4 ∷ []) ∷ (1 ∷ 1 ∷ 0 ∷ 3 ∷ []) ∷ []
   -- The batch is the line. h2, which never saw view 0's PREPARE, executed it in view 1, as h1 did in view 0: it is the last entry of its history.
   pub line_is : last_world.line ≡ slot ∷ []
   pub last_of_h2 : slice_get (last_world.histories 2) 0 ≡ Some (Executed slot)
@@ -135,7 +124,7 @@ pub record LeadsTo : Type 0 where
 
 pub it_leads_there : LeadsTo
 unfolding worlds_on_literals
-it_leads_there = record { is_told = refl; line_is = refl; last_of_h2 = refl; line_serves = refl; hosts_served = refl; evidence_is = refl }
+it_leads_there = record { line_is = refl; last_of_h2 = refl; line_serves = refl; hosts_served = refl; evidence_is = refl }
 
 record InOrder : Type 0 where
   -- What each stamped stands in order, with checked and issued certificates. The ordered prefix of the faulty primary is one message.
