@@ -133,16 +133,24 @@ goes_8_9 : Goes 8 × Goes 9
 unfolding worlds_on_literals
 goes_8_9 = (refl, refl)
 
-goes_10_11 : Goes 10 × Goes 11
+goes_10 : Goes 10
 unfolding worlds_on_literals
-goes_10_11 = (refl, refl)
+goes_10 = refl
 
-goes_12_13 : Goes 12 × Goes 13
+goes_11 : Goes 11
 unfolding worlds_on_literals
-goes_12_13 = (refl, refl)
+goes_11 = refl
+
+goes_12 : Goes 12
+unfolding worlds_on_literals
+goes_12 = refl
+
+goes_13 : Goes 13
+unfolding worlds_on_literals
+goes_13 = refl
 
 all_go : Below Goes 14
-all_go = (goes_12_13.1, (goes_12_13.0, (goes_10_11.1, (goes_10_11.0, (goes_8_9.1, (goes_8_9.0, first_go))))))
+all_go = (goes_13, (goes_12, (goes_11, (goes_10, (goes_8_9.1, (goes_8_9.0, first_go))))))
 
 pub nothing_stops_it : IsUnstopped change_of_view 14
 nothing_stops_it j e lt is = ap (option_and_then (stop_of change_of_view.schedule (world change_of_view j))) (sym is) ∙ one_below Goes 14 all_go j lt
