@@ -3,7 +3,8 @@
 #     tools/speed.sh measure
 #     tools/speed.sh tables < NEW_VIEW
 # Its sources are tools/speed/*.rs, a Rattle crate: nothing stands on it and it shows no behaviour, so the gate has no part in it. It is proved over a copy
-# of the crates below it, which takes over what was proved of them on this machine; from nothing they take half an hour.
+# of the crates below it, which takes over what `rt check` and `rt lib` proved of them on this machine, and not what the gate did; from nothing they take
+# half an hour.
 top=$(CDPATH='' cd -- "$(dirname -- "$(readlink -f -- "$0")")/.." && pwd) || exit 125
 room=$(mktemp -d) || exit 125
 trap 'rm -rf "$room"' EXIT

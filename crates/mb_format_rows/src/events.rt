@@ -110,6 +110,13 @@ fn tell_stamped(teller: &mut Teller, event: &WorldEvent) {
             teller.number("view", *view);
             teller.number("counter", *counter);
         }
+        _ => {}
+    }
+}
+
+/// Tells what a faulty host stamps of another's message, or of bytes alone.
+fn tell_stamped_as(teller: &mut Teller, event: &WorldEvent) {
+    match event {
         WorldEvent::StampAs { host, message } => {
             teller.number("as host", u64::from(*host));
             teller.number("message", *message);
@@ -127,6 +134,7 @@ impl Told for WorldEvent {
         tell_plain(teller, self);
         tell_tagged(teller, self);
         tell_stamped(teller, self);
+        tell_stamped_as(teller, self);
     }
 }
 

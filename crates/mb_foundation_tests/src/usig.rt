@@ -1,5 +1,9 @@
+ghost use Rattle.std.specs.Prelude.{◌≡◌};
+ghost use Rattle.mb_base.specs.Shapes.{client_count, max_faults};
+
 use mb_base::{Key, Shape, Ui};
 use mb_usig::{Pen, Spent, Usig, hmac};
+use std::process::Abort;
 
 const SECRET: Key = [0; 32];
 
@@ -35,105 +39,92 @@ const STOP_TAG: &[u8; 32] =
 // The first two test cases of RFC 4231.
 #[test]
 fn hmac_vectors(rt: HostRuntime) {
-    let tag = hmac(&[0x0b; 20], b"Hi There");
-    assert_eq!(rt;
-        tag,
-        *b"\xb0\x34\x4c\x61\xd8\xdb\x38\x53\x5c\xa8\xaf\xce\xaf\x0b\xf1\x2b\x88\x1d\xc2\x00\xc9\x83\x3d\xa7\x26\xe9\x37\x6c\x2e\x32\xcf\xf7"
+    assert!(rt;
+        hmac(&[0x0b; 20], b"Hi There")
+            == *b"\xb0\x34\x4c\x61\xd8\xdb\x38\x53\x5c\xa8\xaf\xce\xaf\x0b\xf1\x2b\x88\x1d\xc2\x00\xc9\x83\x3d\xa7\x26\xe9\x37\x6c\x2e\x32\xcf\xf7"
     );
-    let tag = hmac(b"Jefe", b"what do ya want for nothing?");
-    assert_eq!(rt;
-        tag,
-        *b"\x5b\xdc\xc1\x46\xbf\x60\x75\x4e\x6a\x04\x24\x26\x08\x95\x75\xc7\x5a\x00\x3f\x08\x9d\x27\x39\x83\x9d\xec\x58\xb9\x64\xec\x38\x43"
+    assert!(rt;
+        hmac(b"Jefe", b"what do ya want for nothing?")
+            == *b"\x5b\xdc\xc1\x46\xbf\x60\x75\x4e\x6a\x04\x24\x26\x08\x95\x75\xc7\x5a\x00\x3f\x08\x9d\x27\x39\x83\x9d\xec\x58\xb9\x64\xec\x38\x43"
     );
+}
+
+fn shape(rt: &impl Abort) -> Shape
+    ensures hosts { max_faults result ≡ 1 }
+    ensures clients { client_count result ≡ 4 }
+{
+    Shape::new(1, 4, 4).expect(rt, "1, 4 and 4 are a shape")
+}
+
+fn stamp(rt: &impl Abort, usig: &mut Usig, message: &[u8]) -> Ui {
+    usig.create_ui(message).expect(rt, "counters are left")
+}
+
+fn ui_of_host_2(counter: u64, cert: &[u8; 32]) -> Ui {
+    Ui {
+        host: 2,
+        counter,
+        cert: *cert,
+    }
+}
+
+/// The first stamp is taken for the first message alone, with its own counter and host.
+fn assert_first_alone(rt: &impl Abort, usig: &Usig, first: &Ui) {
+    let another_counter = Ui {
+        counter: 2,
+        ..*first
+    };
+    let another_host = Ui { host: 1, ..*first };
+    assert!(rt; usig.verify_ui(b"first message", first));
+    assert!(rt; !usig.verify_ui(b"second message", first));
+    assert!(rt; !usig.verify_ui(b"first message", &another_counter));
+    assert!(rt; !usig.verify_ui(b"first message", &another_host));
 }
 
 #[test]
 fn counters_rise(rt: HostRuntime) {
-    let shape = Shape::new(1, 4, 4).expect(&rt, "1, 4 and 4 are a shape");
-    let mut usig = Usig::new(shape, 2, &SECRET);
-    assert_eq!(rt; usig.counter(), 0);
-    let first = usig
-        .create_ui(b"first message")
-        .expect(&rt, "counters are left");
-    let second = usig
-        .create_ui(b"second message")
-        .expect(&rt, "counters are left");
-    assert_eq!(rt;
-        first,
-        Ui {
-            host: 2,
-            counter: 1,
-            cert: *FIRST_CERT
-        }
-    );
-    assert_eq!(rt;
-        second,
-        Ui {
-            host: 2,
-            counter: 2,
-            cert: *SECOND_CERT
-        }
-    );
-    assert_eq!(rt; (usig.host(), usig.counter()), (2, 2));
-    let other = Usig::new(shape, 0, &SECRET);
-    assert!(rt; other.verify_ui(b"first message", &first));
-    assert!(rt; !other.verify_ui(b"second message", &first));
-    assert!(rt;
-        !other.verify_ui(
-            b"first message",
-            &Ui {
-                counter: 2,
-                ..first
-            }
-        )
-    );
-    assert!(rt; !other.verify_ui(b"first message", &Ui { host: 1, ..first }));
+    let mut usig = Usig::new(shape(&rt), 2, &SECRET);
+    assert!(rt; usig.counter() == 0);
+    let first = stamp(&rt, &mut usig, b"first message");
+    let second = stamp(&rt, &mut usig, b"second message");
+    assert!(rt; first == ui_of_host_2(1, FIRST_CERT));
+    assert!(rt; second == ui_of_host_2(2, SECOND_CERT));
+    assert!(rt; (usig.host(), usig.counter()) == (2, 2));
+    assert_first_alone(&rt, &Usig::new(shape(&rt), 0, &SECRET), &first);
 }
 
 #[test]
 fn counters_go_on(rt: HostRuntime) {
-    let shape = Shape::new(1, 4, 4).expect(&rt, "1, 4 and 4 are a shape");
-    let mut usig = Usig::resumed(shape, 2, &SECRET, 1);
-    let second = usig
-        .create_ui(b"second message")
-        .expect(&rt, "counters are left");
-    assert_eq!(rt;
-        second,
-        Ui {
-            host: 2,
-            counter: 2,
-            cert: *SECOND_CERT
-        }
-    );
-    let mut spent = Usig::resumed(shape, 2, &SECRET, u64::MAX);
-    assert_eq!(rt; spent.create_ui(b"one more"), Err(Spent));
+    let mut usig = Usig::resumed(shape(&rt), 2, &SECRET, 1);
+    let second = stamp(&rt, &mut usig, b"second message");
+    assert!(rt; second == ui_of_host_2(2, SECOND_CERT));
+    let mut spent = Usig::resumed(shape(&rt), 2, &SECRET, u64::MAX);
+    assert!(rt; spent.create_ui(b"one more") == Err(Spent));
 }
 
 #[test]
 fn tags_of_clients(rt: HostRuntime) {
-    let shape = Shape::new(1, 4, 4).expect(&rt, "1, 4 and 4 are a shape");
-    let usig = Usig::new(shape, 2, &SECRET);
+    let usig = Usig::new(shape(&rt), 2, &SECRET);
     let pen = Pen::new(&SECRET, 3);
-    assert_eq!(rt; pen.tag_request(REQUEST), *REQUEST_TAG);
+    assert!(rt; pen.tag_request(REQUEST) == *REQUEST_TAG);
     assert!(rt; pen.verify_request(REQUEST, REQUEST_TAG));
     assert!(rt; !Pen::new(&SECRET, 2).verify_request(REQUEST, REQUEST_TAG));
     assert!(rt; usig.verify_request(3, REQUEST, REQUEST_TAG));
     assert!(rt; !usig.verify_request(2, REQUEST, REQUEST_TAG));
-    assert_eq!(rt; usig.tag_reply(3, REPLY), *REPLY_TAG);
+    assert!(rt; usig.tag_reply(3, REPLY) == *REPLY_TAG);
     assert!(rt; pen.verify_reply(REPLY_OF_HOST, REPLY_TAG));
     assert!(rt; !pen.verify_reply(REPLY, REPLY_TAG));
 }
 
 #[test]
 fn tags_of_wishes_and_stops(rt: HostRuntime) {
-    let shape = Shape::new(1, 4, 4).expect(&rt, "1, 4 and 4 are a shape");
-    let usig = Usig::new(shape, 2, &SECRET);
-    assert_eq!(rt; usig.tag_wish(5), *WISH_TAG);
-    let other = Usig::new(shape, 0, &SECRET);
+    let usig = Usig::new(shape(&rt), 2, &SECRET);
+    assert!(rt; usig.tag_wish(5) == *WISH_TAG);
+    let other = Usig::new(shape(&rt), 0, &SECRET);
     assert!(rt; other.verify_wish(2, 5, WISH_TAG));
     assert!(rt; !other.verify_wish(1, 5, WISH_TAG));
     assert!(rt; !other.verify_wish(2, 6, WISH_TAG));
-    assert_eq!(rt; Pen::new(&SECRET, 0).tag_stop(), *STOP_TAG);
+    assert!(rt; Pen::new(&SECRET, 0).tag_stop() == *STOP_TAG);
     assert!(rt; other.verify_stop(STOP_TAG));
     assert!(rt; !other.verify_stop(WISH_TAG));
 }

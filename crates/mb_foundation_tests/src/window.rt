@@ -1,5 +1,18 @@
 use mb_window::{Refused, Window};
+use std::process::Abort;
 use std::test::Fail;
+
+/// The item at position 8 is there to be changed, until the window is cleared.
+fn assert_changed(rt: &impl Abort, window: &mut Window<i32>) {
+    assert!(rt; window.get(8) == Some(&80));
+    if let Some(item) = window.get_mut(8) {
+        *item = 82;
+    }
+    assert!(rt; window.get(8) == Some(&82));
+    assert!(rt; window.low() == 4);
+    window.clear();
+    assert!(rt; window.get(8).is_none());
+}
 
 #[test]
 fn items_stand_in_the_window(rt: HostRuntime) -> Result<(), Fail> {
@@ -9,15 +22,8 @@ fn items_stand_in_the_window(rt: HostRuntime) -> Result<(), Fail> {
     assert!(rt; window.put(0, 1) == Err(Refused::Below { low: 0, item: 1 }));
     assert!(rt; window.put(8, 81) == Err(Refused::Filled { item: 81 }));
     window.raise(4);
-    assert_eq!(rt; window.first_gap(), 5);
+    assert!(rt; window.first_gap() == 5);
     assert!(rt; window.put(12, 120) == Ok(()));
-    assert!(rt; window.get(8) == Some(&80));
-    if let Some(item) = window.get_mut(8) {
-        *item = 82;
-    }
-    assert!(rt; window.get(8) == Some(&82));
-    assert_eq!(rt; window.low(), 4);
-    window.clear();
-    assert!(rt; window.get(8).is_none());
+    assert_changed(&rt, &mut window);
     Ok(())
 }

@@ -17,16 +17,13 @@ const BAD_INPUT: u8 = 2;
 
 /// Runs the program over each beginning of a file that is not the whole of it. The answer is the length of the first that is not as expected.
 pub fn wrong_beginning(rt: &HostRuntime, input: &str) -> Result<Option<usize>, Stop> {
-    let alloc = rt.alloc();
     let whole = bytes_of(rt, input)?;
-    let mut text = Vec::new(alloc);
     let mut lines = 0usize;
-    for byte in &whole {
-        if !is_answered(alloc, &text, lines)? {
-            return Ok(Some(text.len()));
+    for len in 0..whole.len() {
+        if !is_answered(rt.alloc(), &whole[..len], lines)? {
+            return Ok(Some(len));
         }
-        text.push(*byte)?;
-        if *byte == b'\n' {
+        if whole[len] == b'\n' {
             lines = lines.saturating_add(1);
         }
     }
@@ -35,11 +32,20 @@ pub fn wrong_beginning(rt: &HostRuntime, input: &str) -> Result<Option<usize>, S
 
 /// Whether the answer to a text with so many line ends is right.
 fn is_answered(alloc: Global, text: &[u8], lines: usize) -> Result<bool, Stop> {
+    let input = Vec::from_slice(alloc, text)?;
+    let mut devices = Devices::quiet(alloc, input)?;
+    let is_right = is_right(alloc, &mut devices, text, lines);
+    drop(devices);
+    is_right
+}
+
+/// Whether the program answers right with these devices, from which it reads the text.
+fn is_right(alloc: Global, devices: &mut Devices, text: &[u8], lines: usize) -> Result<bool, Stop> {
     let mut words = Vec::new(alloc);
     words.push(String::from_str(alloc, "replay")?)?;
-    let mut devices = Devices::quiet(alloc, Vec::from_slice(alloc, text)?)?;
     let status = devices.run(alloc, &words);
-    if lines >= HEADER_LINES && text.last() == Some(&b'\n') {
+    drop(words);
+    if lines >= HEADER_LINES && text.ends_with(b"\n") {
         return Ok(status == DONE);
     }
     let number = lines.saturating_add(1);

@@ -38,12 +38,7 @@ impl Devices {
 
     /// Devices that never fail, with these bytes to read.
     pub fn quiet(alloc: Global, input: Vec<u8>) -> Result<Devices, Stop> {
-        Ok(Devices {
-            source: ByteSource::new(input, Vec::new(alloc))?,
-            sink: ByteSink::new(alloc, Vec::new(alloc))?,
-            link: ListLink::new(alloc, Vec::new(alloc), Vec::new(alloc))?,
-            spawner: ListSpawner::new(alloc, Vec::new(alloc), Vec::new(alloc))?,
-        })
+        Devices::new(alloc, input, Outside::new(alloc))
     }
 
     /// Runs the program with these words, and answers its status.
@@ -66,21 +61,52 @@ impl Devices {
     /// The lines of what came at the link and the spawner. The children were to be given `config`.
     pub fn came(&self, alloc: Global, config: &[u8]) -> Result<Vec<String>, Stop> {
         let mut lines = Vec::new(alloc);
+        self.add_of_link(alloc, &mut lines)?;
+        self.add_of_spawner(alloc, config, &mut lines)?;
+        Ok(lines)
+    }
+
+    /// Adds the lines of what came at the link.
+    fn add_of_link(&self, alloc: Global, lines: &mut Vec<String>) -> Result<(), Stop> {
         for (port, own) in self.link.opens() {
-            lines.push(format!(in alloc; "opens {port} {own}")?)?;
+            add_numbers(alloc, lines, "opens", u64::from(*port), *own)?;
         }
         for (peer, datagram) in self.link.sent() {
             let bytes = hex::encode(alloc, datagram.as_slice())?;
             lines.push(format!(in alloc; "sends {peer} {bytes}")?)?;
         }
+        Ok(())
+    }
+
+    /// Adds the lines of what came at the spawner.
+    fn add_of_spawner(
+        &self,
+        alloc: Global,
+        config: &[u8],
+        lines: &mut Vec<String>,
+    ) -> Result<(), Stop> {
         for start in self.spawner.starts() {
-            lines.push(start_line(alloc, start, config)?)?;
+            let mut line = String::from_str(alloc, "starts")?;
+            add_start(alloc, &mut line, start, config)?;
+            lines.push(line)?;
         }
         for (child, status) in self.spawner.waits() {
-            lines.push(format!(in alloc; "waits {child} {status}")?)?;
+            add_numbers(alloc, lines, "waits", *child, *status)?;
         }
-        Ok(lines)
+        Ok(())
     }
+}
+
+/// Adds a line of a word and two numbers.
+fn add_numbers(
+    alloc: Global,
+    lines: &mut Vec<String>,
+    word: &str,
+    first: u64,
+    second: u8,
+) -> Result<(), Stop> {
+    lines.push(format!(in alloc; "{word} {first} {second}")?)?;
+    Ok(())
 }
 
 /// Adds bytes as text.
@@ -90,12 +116,11 @@ fn add_text(alloc: Global, line: &mut String, bytes: &Items<u8>) -> Result<(), S
     Ok(())
 }
 
-/// The line of a child's start.
-fn start_line(alloc: Global, start: &Start, config: &[u8]) -> Result<String, Stop> {
-    let mut line = String::from_str(alloc, "starts")?;
+/// Adds what a child's start is: its words, what it was given, and the file of its output.
+fn add_start(alloc: Global, line: &mut String, start: &Start, config: &[u8]) -> Result<(), Stop> {
     for word in start.words.as_slice() {
         line.push_str(" ")?;
-        add_text(alloc, &mut line, word)?;
+        add_text(alloc, line, word)?;
     }
     let given = if start.input.as_slice() == config {
         " < config > "
@@ -103,6 +128,5 @@ fn start_line(alloc: Global, start: &Start, config: &[u8]) -> Result<String, Sto
         " < other bytes > "
     };
     line.push_str(given)?;
-    add_text(alloc, &mut line, &start.output)?;
-    Ok(line)
+    add_text(alloc, line, &start.output)
 }

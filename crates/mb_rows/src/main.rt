@@ -20,7 +20,6 @@ mod trial;
 
 use beginnings::wrong_beginning;
 use row::{Line, Row, line_of};
-use std::alloc::Global;
 use std::io;
 use std::process::ExitCode;
 use stop::Stop;
@@ -32,21 +31,25 @@ const ROWS: &str = "rows.txt";
 /// The status where a row is not as expected, or the rows cannot be run.
 const FAILED: u8 = 1;
 
-/// What is said of a row that is as it has to be.
-fn as_expected(alloc: Global) -> Result<String, Stop> {
-    Ok(String::from_str(alloc, "as expected")?)
+/// Prints how a row went.
+fn tell_row(rt: &HostRuntime, row: &Row, said: &str) -> Result<(), Stop> {
+    let name = row.name(rt.alloc())?;
+    println!(rt; "{name}: {said}")?;
+    Ok(())
 }
 
 /// Runs a row, and prints how it went.
 fn run_row(rt: &HostRuntime, row: &Row) -> Result<bool, Stop> {
-    let differs = difference(rt, row)?;
-    let holds = differs.is_none();
-    let said = match differs {
-        Some(differs) => differs,
-        None => as_expected(rt.alloc())?,
-    };
-    println!(rt; "{}: {said}", row.name)?;
-    Ok(holds)
+    match difference(rt, row)? {
+        None => {
+            tell_row(rt, row, "as expected")?;
+            Ok(true)
+        }
+        Some(differs) => {
+            tell_row(rt, row, differs.as_str())?;
+            Ok(false)
+        }
+    }
 }
 
 /// Runs the beginnings of a schedule, and prints how it went.
@@ -64,20 +67,27 @@ fn run_line(rt: &HostRuntime, line: &Line) -> Result<bool, Stop> {
     match line {
         Line::Remark => Ok(true),
         Line::Row(row) => run_row(rt, row),
-        Line::Beginnings(input) => run_beginnings(rt, input.as_str()),
+        Line::Beginnings(input) => run_beginnings(rt, input),
     }
 }
 
-/// Runs all rows, and answers whether all were as expected.
+/// Runs the rows of the file, and answers whether all were as expected.
 fn run_rows(rt: &HostRuntime) -> Result<bool, Stop> {
     let text = files::text_of(rt, ROWS)?;
+    run_lines(rt, text.as_str())
+}
+
+/// Runs the rows of a text, and answers whether all were as expected.
+fn run_lines(rt: &HostRuntime, text: &str) -> Result<bool, Stop> {
     let mut all_hold = true;
-    for line in text.as_str().lines() {
+    for line in text.lines() {
         let Some(parsed) = line_of(rt.alloc(), line)? else {
             println!(rt; "no row: {line}")?;
             return Ok(false);
         };
-        all_hold = run_line(rt, &parsed)? && all_hold;
+        let holds = run_line(rt, &parsed);
+        drop(parsed);
+        all_hold = holds? && all_hold;
     }
     Ok(all_hold)
 }

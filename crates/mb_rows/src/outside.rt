@@ -44,7 +44,7 @@ pub struct Outside {
 
 impl Outside {
     /// An outside that does nothing, and of which nothing is expected.
-    fn new(alloc: Global) -> Outside {
+    pub fn new(alloc: Global) -> Outside {
         Outside {
             times: 1,
             source_fails: Vec::new(alloc),
@@ -75,20 +75,26 @@ impl Outside {
             return Ok(true);
         };
         if COMING.contains(&first) {
-            self.coming.push(String::from_str(alloc, line)?)?;
-            return Ok(true);
+            return self.take_coming(alloc, line);
         }
         match first {
-            "quiet" => {
-                self.arrivals.push(None)?;
-                Ok(true)
-            }
+            "quiet" => self.take_quiet(),
             "arrives" => self.take_arrival(alloc, line),
             "again" => self.take_again(alloc, number_of(words.next())),
             "ends" => self.take_end(number_of(words.next())),
             "input" => Ok(self.take_times(number_of(words.nth(1)))),
             device => self.take_fault(device, number_of(words.nth(1))),
         }
+    }
+
+    fn take_coming(&mut self, alloc: Global, line: &str) -> Result<bool, Stop> {
+        self.coming.push(String::from_str(alloc, line)?)?;
+        Ok(true)
+    }
+
+    fn take_quiet(&mut self) -> Result<bool, Stop> {
+        self.arrivals.push(None)?;
+        Ok(true)
     }
 
     fn take_arrival(&mut self, alloc: Global, line: &str) -> Result<bool, Stop> {

@@ -8,30 +8,28 @@ const BEGINNINGS: &str = "beginnings";
 
 /// A run of the program, and what is expected of it.
 #[derive(Drop)]
-pub struct Row {
-    /// What the row is called: the files that it begins with, and the words.
-    pub name: String,
+pub struct Row<'a> {
     /// The status with which the run has to end.
     pub status: u8,
     /// The file of the bytes that are read.
-    pub input: String,
+    pub input: &'a str,
     /// The file of the bytes that have to be written.
-    pub output: String,
+    pub output: &'a str,
     /// The file of what the outside does.
-    pub outside: String,
+    pub outside: &'a str,
     /// The words behind the program's own name.
     pub words: Vec<String>,
 }
 
 /// A line of the file of rows.
 #[derive(Drop)]
-pub enum Line {
+pub enum Line<'a> {
     /// A line that says what rows show, or an empty one.
     Remark,
     /// One run.
-    Row(Row),
+    Row(Row<'a>),
     /// A run over each beginning of this file.
-    Beginnings(String),
+    Beginnings(&'a str),
 }
 
 /// Adds a word behind a space, if there is one before it.
@@ -43,20 +41,28 @@ fn add_word(name: &mut String, word: &str) -> Result<(), Stop> {
     Ok(())
 }
 
-/// What a row is called.
-fn name_of(alloc: Global, input: &str, outside: &str, words: &[String]) -> Result<String, Stop> {
-    let mut name = String::from_str(alloc, input)?;
-    if outside != "-" {
-        add_word(&mut name, outside)?;
+impl Row<'_> {
+    /// What the row is called: the files that it begins with, and the words.
+    pub fn name(&self, alloc: Global) -> Result<String, Stop> {
+        let mut name = String::from_str(alloc, self.input)?;
+        self.add_rest(&mut name)?;
+        Ok(name)
     }
-    for word in words {
-        add_word(&mut name, word.as_str())?;
+
+    /// Adds what stands in the name behind the input.
+    fn add_rest(&self, name: &mut String) -> Result<(), Stop> {
+        if self.outside != "-" {
+            add_word(name, self.outside)?;
+        }
+        for word in &self.words {
+            add_word(name, word.as_str())?;
+        }
+        Ok(())
     }
-    Ok(name)
 }
 
 /// The row of a line whose first word is its status. None where a word is missing.
-fn row_of(alloc: Global, status: u8, line: &str) -> Result<Option<Row>, Stop> {
+fn row_of<'a>(alloc: Global, status: u8, line: &'a str) -> Result<Option<Row<'a>>, Stop> {
     let mut words = line.split_ascii_whitespace().skip(1);
     let Some(input) = words.next() else {
         return Ok(None);
@@ -72,32 +78,28 @@ fn row_of(alloc: Global, status: u8, line: &str) -> Result<Option<Row>, Stop> {
         list.push(String::from_str(alloc, word)?)?;
     }
     Ok(Some(Row {
-        name: name_of(alloc, input, outside, &list)?,
         status,
-        input: String::from_str(alloc, input)?,
-        output: String::from_str(alloc, output)?,
-        outside: String::from_str(alloc, outside)?,
+        input,
+        output,
+        outside,
         words: list,
     }))
 }
 
-fn beginnings_of(alloc: Global, line: &str) -> Result<Option<Line>, Stop> {
-    match line.split_ascii_whitespace().nth(1) {
-        Some(input) => Ok(Some(Line::Beginnings(String::from_str(alloc, input)?))),
-        None => Ok(None),
-    }
-}
-
 /// What a line says. None where it is none of the file.
-pub fn line_of(alloc: Global, line: &str) -> Result<Option<Line>, Stop> {
-    let Some(first) = line.split_ascii_whitespace().next() else {
+pub fn line_of<'a>(alloc: Global, line: &'a str) -> Result<Option<Line<'a>>, Stop> {
+    let mut words = line.split_ascii_whitespace();
+    let Some(first) = words.next() else {
         return Ok(Some(Line::Remark));
     };
     if first.starts_with('#') {
         return Ok(Some(Line::Remark));
     }
     if first == BEGINNINGS {
-        return beginnings_of(alloc, line);
+        let Some(input) = words.next() else {
+            return Ok(None);
+        };
+        return Ok(Some(Line::Beginnings(input)));
     }
     let Ok(status) = first.parse::<u8>() else {
         return Ok(None);

@@ -1,5 +1,5 @@
 use crate::samples::three_hosts;
-use mb_base::{Digest, Host, Items, Key};
+use mb_base::{Digest, Host, Items, Key, Shape};
 use mb_cert::{CertFault, CheckEvidence, CheckFloor, CheckStable, Why};
 use mb_parts::{
     Evidence, EvidenceMember, Floor, FloorCert, FloorMember, Phase, StableCert, StableMember,
@@ -8,7 +8,6 @@ use mb_parts::{
 use mb_usig::Usig;
 use std::alloc::Global;
 use std::process::Abort;
-use std::test::Fail;
 
 const SECRET: Key = [0; 32];
 
@@ -51,50 +50,54 @@ fn fault(index: u8, why: Why) -> CertFault {
     CertFault { index, why }
 }
 
-fn stable_of(alloc: Global, hosts: &[Host], state: Digest) -> Result<StableCert, Fail> {
+fn stable_of(rt: &impl Abort, alloc: Global, hosts: &[Host], state: Digest) -> StableCert {
     let mut members = Items::new(alloc);
     for &host in hosts {
-        members.push(StableMember {
+        let member = StableMember {
             host,
             counter: 3 + u64::from(host),
             floors: *FLOORS,
             cert: *CHECKPOINTS[usize::from(host % 3)],
-        })?;
+        };
+        members.push(member).expect(rt, "memory");
     }
-    Ok(StableCert {
+    StableCert {
         pos: 8,
         state,
         members,
-    })
+    }
 }
 
-fn floor_of(alloc: Global, hosts: &[Host]) -> Result<FloorCert, Fail> {
+fn floor_of(rt: &impl Abort, alloc: Global, hosts: &[Host]) -> FloorCert {
     let mut members = Items::new(alloc);
     for &host in hosts {
-        members.push(FloorMember {
+        let floors = vec![in alloc; None, Some(FLOOR), None].expect(rt, "memory");
+        let member = FloorMember {
             host,
             counter: 3 + u64::from(host),
-            floors: Items::from_vec(vec![in alloc; None, Some(FLOOR), None]?),
+            floors: Items::from_vec(floors),
             cert: *CHECKPOINTS[usize::from(host % 3)],
-        })?;
+        };
+        members.push(member).expect(rt, "memory");
     }
-    Ok(FloorCert {
+    FloorCert {
         pos: 8,
         state: STATE,
         members,
-    })
+    }
 }
 
-fn evidence_of(alloc: Global, hosts: &[Host], end: u64) -> Result<Evidence, Fail> {
+fn evidence_of(rt: &impl Abort, alloc: Global, hosts: &[Host], end: u64) -> Evidence {
     let mut members = Items::new(alloc);
     for &host in hosts {
-        members.push(EvidenceMember {
+        let member = EvidenceMember {
             host,
             counter: 6,
             cert: *ENTERS[usize::from(host % 3)],
-        })?;
+        };
+        members.push(member).expect(rt, "memory");
     }
-    Ok(Evidence {
+    Evidence {
         view: 4,
         base: 8,
         end,
@@ -103,63 +106,95 @@ fn evidence_of(alloc: Global, hosts: &[Host], end: u64) -> Result<Evidence, Fail
         counter: 5,
         cert: *NEW_VIEW,
         members,
-    })
+    }
+}
+
+fn assert_stable(
+    rt: &impl Abort,
+    alloc: Global,
+    shape: Shape,
+    hosts: &[Host],
+    state: Digest,
+    answer: Result<(), CertFault>,
+) {
+    let usig = Usig::new(shape, 0, &SECRET);
+    let cert = stable_of(rt, alloc, hosts, state);
+    assert!(rt; cert.members.len() <= usize::from(shape.quorum()));
+    assert!(rt; cert.check(&shape, &usig) == answer);
+}
+
+fn assert_floor(
+    rt: &impl Abort,
+    alloc: Global,
+    shape: Shape,
+    hosts: &[Host],
+    owner: Host,
+    answer: Result<Floor, CertFault>,
+) {
+    let usig = Usig::new(shape, 0, &SECRET);
+    let cert = floor_of(rt, alloc, hosts);
+    assert!(rt; cert.members.len() <= usize::from(shape.quorum()));
+    assert!(rt; cert.check(&shape, &usig, owner) == answer);
+}
+
+fn assert_first_floor(rt: &impl Abort, alloc: Global, hosts: &[Host]) {
+    let cert = floor_of(rt, alloc, hosts);
+    assert!(rt; cert.first_floor(1) == Some(FLOOR));
+}
+
+fn assert_evidence(
+    rt: &impl Abort,
+    alloc: Global,
+    shape: Shape,
+    hosts: &[Host],
+    end: u64,
+    answer: Result<(), CertFault>,
+) {
+    let usig = Usig::new(shape, 0, &SECRET);
+    let evidence = evidence_of(rt, alloc, hosts, end);
+    assert!(rt; evidence.members.len() <= usize::from(shape.f()));
+    assert!(rt; evidence.check(&shape, &usig) == answer);
 }
 
 #[test]
-fn stable_certificates_check(rt: HostRuntime) -> Result<(), Fail> {
-    let shape = three_hosts()?;
-    let usig = Usig::new(shape, 0, &SECRET);
-    let rows: [(&[Host], Digest, Result<(), CertFault>); 5] = [
-        (&[0, 2], STATE, Ok(())),
-        (&[1], STATE, Err(fault(1, Why::Few))),
-        (&[2, 2], STATE, Err(fault(1, Why::SameHost))),
-        (&[2, 1], STATE, Err(fault(1, Why::SameHost))),
-        (&[0, 1], PLAN, Err(fault(0, Why::BadUi))),
-    ];
-    for (hosts, state, answer) in rows {
-        let cert = stable_of(rt.alloc(), hosts, state)?;
-        assert!(rt; cert.members.len() <= usize::from(shape.quorum()));
-        assert!(rt; cert.check(&shape, &usig) == answer);
-    }
-    Ok(())
+fn stable_certificates_check(rt: HostRuntime) {
+    let alloc = rt.alloc();
+    let shape = three_hosts(&rt);
+    let few = Err(fault(1, Why::Few));
+    let same_host = Err(fault(1, Why::SameHost));
+    let bad_ui = Err(fault(0, Why::BadUi));
+    assert_stable(&rt, alloc, shape, &[0, 2], STATE, Ok(()));
+    assert_stable(&rt, alloc, shape, &[1], STATE, few);
+    assert_stable(&rt, alloc, shape, &[2, 2], STATE, same_host);
+    assert_stable(&rt, alloc, shape, &[2, 1], STATE, same_host);
+    assert_stable(&rt, alloc, shape, &[0, 1], PLAN, bad_ui);
 }
 
 #[test]
-fn floor_certificates_check(rt: HostRuntime) -> Result<(), Fail> {
-    let shape = three_hosts()?;
-    let usig = Usig::new(shape, 0, &SECRET);
-    assert_eq!(rt; floors_digest(&[None, Some(FLOOR), None]), *FLOORS);
-    let rows: [(&[Host], Host, Result<Floor, CertFault>); 4] = [
-        (&[0, 2], 1, Ok(FLOOR)),
-        (&[0, 2], 2, Err(fault(0, Why::Differs))),
-        (&[0], 1, Err(fault(1, Why::Few))),
-        (&[2, 0], 1, Err(fault(1, Why::SameHost))),
-    ];
-    for (hosts, owner, answer) in rows {
-        let cert = floor_of(rt.alloc(), hosts)?;
-        assert!(rt; cert.members.len() <= usize::from(shape.quorum()));
-        assert!(rt; cert.check(&shape, &usig, owner) == answer);
-    }
-    assert!(rt; floor_of(rt.alloc(), &[2])?.first_floor(1) == Some(FLOOR));
-    Ok(())
+fn floor_certificates_check(rt: HostRuntime) {
+    let alloc = rt.alloc();
+    let shape = three_hosts(&rt);
+    assert!(rt; floors_digest(&[None, Some(FLOOR), None]) == *FLOORS);
+    let differs = Err(fault(0, Why::Differs));
+    let few = Err(fault(1, Why::Few));
+    let same_host = Err(fault(1, Why::SameHost));
+    assert_floor(&rt, alloc, shape, &[0, 2], 1, Ok(FLOOR));
+    assert_floor(&rt, alloc, shape, &[0, 2], 2, differs);
+    assert_floor(&rt, alloc, shape, &[0], 1, few);
+    assert_floor(&rt, alloc, shape, &[2, 0], 1, same_host);
+    assert_first_floor(&rt, alloc, &[2]);
 }
 
 #[test]
-fn evidence_checks(rt: HostRuntime) -> Result<(), Fail> {
-    let shape = three_hosts()?;
-    let usig = Usig::new(shape, 0, &SECRET);
-    let rows: [(&[Host], u64, Result<(), CertFault>); 5] = [
-        (&[0], 10, Ok(())),
-        (&[2], 10, Ok(())),
-        (&[], 10, Err(fault(0, Why::Few))),
-        (&[1], 10, Err(fault(0, Why::SameHost))),
-        (&[0], 11, Err(fault(CertFault::NEW_VIEW, Why::BadUi))),
-    ];
-    for (hosts, end, answer) in rows {
-        let evidence = evidence_of(rt.alloc(), hosts, end)?;
-        assert!(rt; evidence.members.len() <= usize::from(shape.f()));
-        assert!(rt; evidence.check(&shape, &usig) == answer);
-    }
-    Ok(())
+fn evidence_checks(rt: HostRuntime) {
+    let alloc = rt.alloc();
+    let shape = three_hosts(&rt);
+    let few = Err(fault(0, Why::Few));
+    let same_host = Err(fault(0, Why::SameHost));
+    let bad_ui = Err(fault(CertFault::NEW_VIEW, Why::BadUi));
+    assert_evidence(&rt, alloc, shape, &[0], 10, Ok(()));
+    assert_evidence(&rt, alloc, shape, &[2], 10, Ok(()));
+    assert_evidence(&rt, alloc, shape, &[], 10, few);
+    assert_evidence(&rt, alloc, shape, &[1], 10, same_host);
+    assert_evidence(&rt, alloc, shape, &[0], 11, bad_ui);
 }

@@ -2,14 +2,13 @@
 
 ghost use Rattle.mb_msg.specs.Plans.{CanHash};
 
-use crate::samples::{three_hosts, ui};
-use mb_base::{Counter, Digest, Host, Items, NoMemory, Pos, View};
+use crate::samples::{are_equal, three_hosts, ui};
+use mb_base::{Counter, Digest, Host, Items, Pos, View};
 use mb_change::{Change, ChangeDue, HeldPlan};
 use mb_msg::{Body, Enter, Evidence, EvidenceMember, NewView, Phase, Plan, StableCert, ViewChange};
 use mb_parts::{Floor, Part};
 use std::alloc::Global;
 use std::process::Abort;
-use std::test::Fail;
 
 /// How many hosts the system of all tests has. None has fewer.
 const HOSTS: Host = 3;
@@ -62,14 +61,14 @@ fn enter(host: Host, plan: Digest) -> Enter {
     }
 }
 
-fn evidence(alloc: Global, plan: Digest) -> Result<Evidence, NoMemory> {
-    let mut members = Items::new(alloc);
-    members.push(EvidenceMember {
+fn evidence(rt: &impl Abort, alloc: Global, plan: Digest) -> Evidence {
+    let member = EvidenceMember {
         host: 2,
         counter: 2,
         cert: [7; 32],
-    })?;
-    Ok(Evidence {
+    };
+    let members = vec![in alloc; member].expect(rt, "memory");
+    Evidence {
         view: 1,
         base: 0,
         end: 0,
@@ -77,8 +76,8 @@ fn evidence(alloc: Global, plan: Digest) -> Result<Evidence, NoMemory> {
         body: [5; 32],
         counter: 2,
         cert: [7; 32],
-        members,
-    })
+        members: Items::from_vec(members),
+    }
 }
 
 /// A plan of nothing at position 0.
@@ -97,41 +96,19 @@ fn plan(alloc: Global) -> Plan
 
 // ---- the calls that ask for a host of the system, or for a body that fits
 
-fn wish(rt: &impl Abort, change: &mut Change, host: Host, view: View) {
-    assert!(rt; host < HOSTS);
-    change.wish(host, view);
-}
-
-fn wish_of(rt: &impl Abort, change: &Change, host: Host) -> View {
-    assert!(rt; host < HOSTS);
-    change.wish_of(host)
-}
-
-fn store(rt: &impl Abort, change: &mut Change, message: ViewChange) -> Result<(), NoMemory> {
+/// Stores a host's VIEW_CHANGE to view 1.
+fn store(rt: &impl Abort, change: &mut Change, host: Host, counter: Counter) {
+    let message = view_change(host, counter, 1);
     assert!(rt; message.ui.host < HOSTS);
-    change.store(message)
+    change.store(message).expect(rt, "memory");
 }
 
-fn take_enter(rt: &impl Abort, change: &mut Change, message: Enter) {
-    assert!(rt; message.ui.host < HOSTS);
-    change.enter(message);
-}
-
-fn opened(rt: &impl Abort, change: &mut Change, host: Host, plan: Digest) {
-    assert!(rt; host < HOSTS);
-    change.opened(host, 1, 2, plan);
-}
-
-fn opened_by(rt: &impl Abort, change: &Change, host: Host) -> (View, Counter, Digest) {
-    assert!(rt; host < HOSTS);
-    change.opened_by(host)
-}
-
-/// Holds a NEW_VIEW that came as the digest of its body.
-fn hold_new_view(rt: &impl Abort, change: &mut Change, message: NewView) {
+/// Holds the NEW_VIEW of this plan, which came as the digest of its body.
+fn hold_new_view(rt: &impl Abort, change: &mut Change, plan: Digest) {
+    let message = new_view(plan);
     match message.body {
         Body::Bare(body) => change.hold_new_view(message, body),
-        Body::Whole(_) => assert!(rt; false),
+        Body::Whole(_) => panic!(rt; "its body is bare"),
     }
 }
 
@@ -139,34 +116,26 @@ fn hold_new_view(rt: &impl Abort, change: &mut Change, message: NewView) {
 
 /// What is due where a host stands, which executed up to a position, and has this stable position.
 fn assert_due(rt: &impl Abort, change: &Change, at: Floor, exec: Pos, low: Pos, due: ChangeDue) {
-    assert_eq!(rt; change.due(&at, exec, low, true), due);
-    assert_eq!(rt; change.due(&at, exec, low, false), ChangeDue::Nothing);
+    assert!(rt; change.due(&at, exec, low, true) == due);
+    assert!(rt; change.due(&at, exec, low, false) == ChangeDue::Nothing);
 }
 
 /// The VIEW_CHANGEs to view 1 that are chosen. None is the empty list here.
-fn assert_chosen(
-    rt: &impl Abort,
-    alloc: Global,
-    change: &Change,
-    chosen: &[ViewChange],
-) -> Result<(), NoMemory> {
-    match change.chosen(alloc, 1)? {
+fn assert_chosen(rt: &impl Abort, alloc: Global, change: &Change, chosen: &[ViewChange]) {
+    match change.chosen(alloc, 1).expect(rt, "memory") {
         Some(found) => assert!(rt; found.as_slice() == chosen),
         None => assert!(rt; chosen.is_empty()),
     }
-    Ok(())
 }
 
 /// The plan of nothing is held for view 1.
 fn assert_empty_plan(rt: &impl Abort, alloc: Global, change: &Change) {
-    match change.plan() {
-        Some((view, held)) => assert!(rt; view == 1 && *held == plan(alloc)),
-        None => assert!(rt; false),
-    }
-    match change.plan_at(1) {
-        Some(held) => assert_is_empty_plan(rt, held),
-        None => assert!(rt; false),
-    }
+    let expected = plan(alloc);
+    let (view, held) = change.plan().expect(rt, "a plan is held");
+    assert!(rt; view == 1);
+    assert!(rt; *held == expected);
+    drop(expected);
+    assert_is_empty_plan(rt, change.plan_at(1).expect(rt, "it is of view 1"));
     assert!(rt; change.plan_at(2).is_none());
 }
 
@@ -175,143 +144,105 @@ fn assert_is_empty_plan(rt: &impl Abort, held: &HeldPlan) {
     assert!(rt; held.digest() == EMPTY_PLAN && held.is_described(0, 0, &EMPTY_PLAN));
 }
 
-fn assert_new_view(rt: &impl Abort, change: &Change, new_view: &NewView) {
-    assert!(rt; change.new_view() == Some(new_view));
+/// The NEW_VIEW of this plan is held.
+fn assert_new_view(rt: &impl Abort, change: &Change, plan: Digest) {
+    let expected = new_view(plan);
+    let is_held = change.new_view() == Some(&expected);
+    drop(expected);
+    assert!(rt; is_held);
 }
 
 /// The evidence that is held is of view 1.
 fn assert_holds_evidence(rt: &impl Abort, change: &Change) {
-    assert!(rt; change.evidence().is_some() && change.evidence() == change.evidence_in(1));
+    assert!(rt; change.evidence().is_some());
+    assert!(rt; change.evidence() == change.evidence_in(1));
     assert!(rt; change.evidence_in(2).is_none());
 }
 
 /// The evidence for view 1.
-fn assert_evidence(
-    rt: &impl Abort,
-    alloc: Global,
-    change: &Change,
-    evidence: Option<Evidence>,
-) -> Result<(), NoMemory> {
-    assert!(rt; change.evidence_for(alloc, 1)? == evidence);
-    Ok(())
+fn assert_evidence(rt: &impl Abort, alloc: Global, change: &Change, evidence: Option<Evidence>) {
+    let found = change.evidence_for(alloc, 1).expect(rt, "memory");
+    assert!(rt; are_equal(found, evidence));
 }
 
 #[test]
-fn wishes_of_two_hosts_change_the_view(rt: HostRuntime) -> Result<(), Fail> {
-    let mut change = Change::make(rt.alloc(), three_hosts()?, HOST)?;
-    wish(&rt, &mut change, 2, 5);
-    assert_due(
-        &rt,
-        &change,
-        at(0, Phase::Open, 0),
-        0,
-        0,
-        ChangeDue::Nothing,
-    );
-    wish(&rt, &mut change, 2, 3);
-    assert_eq!(rt; wish_of(&rt, &change, 2), 5);
-    wish(&rt, &mut change, HOST, 1);
+fn wishes_of_two_hosts_change_the_view(rt: HostRuntime) {
+    let mut change = Change::make(rt.alloc(), three_hosts(&rt), HOST).expect(&rt, "memory");
+    let open = at(0, Phase::Open, 0);
+    change.wish(2, 5);
+    assert_due(&rt, &change, open, 0, 0, ChangeDue::Nothing);
+    change.wish(2, 3);
+    assert!(rt; change.wish_of(2) == 5);
+    change.wish(HOST, 1);
     let due = ChangeDue::ViewChange { view: 1 };
-    assert_due(&rt, &change, at(0, Phase::Open, 0), 0, 0, due);
-    Ok(())
+    assert_due(&rt, &change, open, 0, 0, due);
+    drop(change);
 }
 
 #[test]
-fn the_first_two_are_chosen_by_host(rt: HostRuntime) -> Result<(), Fail> {
+fn the_first_two_are_chosen_by_host(rt: HostRuntime) {
     let alloc = rt.alloc();
-    let mut change = Change::make(alloc, three_hosts()?, HOST)?;
-    store(&rt, &mut change, view_change(2, 1, 1))?;
-    assert_chosen(&rt, alloc, &change, &[])?;
-    store(&rt, &mut change, view_change(HOST, 1, 1))?;
-    store(&rt, &mut change, view_change(0, 1, 1))?;
-    store(&rt, &mut change, view_change(2, 2, 1))?;
+    let mut change = Change::make(alloc, three_hosts(&rt), HOST).expect(&rt, "memory");
+    store(&rt, &mut change, 2, 1);
+    assert_chosen(&rt, alloc, &change, &[]);
+    store(&rt, &mut change, HOST, 1);
+    store(&rt, &mut change, 0, 1);
+    store(&rt, &mut change, 2, 2);
     let chosen = [view_change(0, 1, 1), view_change(HOST, 1, 1)];
-    assert_chosen(&rt, alloc, &change, &chosen)?;
-    assert_due(
-        &rt,
-        &change,
-        at(1, Phase::Changing, 0),
-        0,
-        0,
-        ChangeDue::NewView,
-    );
-    Ok(())
+    assert_chosen(&rt, alloc, &change, &chosen);
+    drop(chosen);
+    let changing = at(1, Phase::Changing, 0);
+    assert_due(&rt, &change, changing, 0, 0, ChangeDue::NewView);
+    drop(change);
 }
 
 #[test]
-fn a_primary_opens_its_view(rt: HostRuntime) -> Result<(), Fail> {
+fn a_primary_opens_its_view(rt: HostRuntime) {
     let alloc = rt.alloc();
-    let mut change = Change::make(alloc, three_hosts()?, HOST)?;
+    let mut change = Change::make(alloc, three_hosts(&rt), HOST).expect(&rt, "memory");
     change.hold_plan(1, plan(alloc));
     assert_empty_plan(&rt, alloc, &change);
-    hold_new_view(&rt, &mut change, new_view(EMPTY_PLAN));
-    assert_new_view(&rt, &change, &new_view(EMPTY_PLAN));
-    assert_evidence(&rt, alloc, &change, None)?;
-    assert_due(
-        &rt,
-        &change,
-        at(1, Phase::Entered, 0),
-        0,
-        0,
-        ChangeDue::Nothing,
-    );
-    take_enter(&rt, &mut change, enter(2, EMPTY_PLAN));
-    assert_evidence(&rt, alloc, &change, Some(evidence(alloc, EMPTY_PLAN)?))?;
-    assert_due(
-        &rt,
-        &change,
-        at(1, Phase::Entered, 0),
-        0,
-        0,
-        ChangeDue::Open,
-    );
-    Ok(())
+    hold_new_view(&rt, &mut change, EMPTY_PLAN);
+    assert_new_view(&rt, &change, EMPTY_PLAN);
+    assert_evidence(&rt, alloc, &change, None);
+    let entered = at(1, Phase::Entered, 0);
+    assert_due(&rt, &change, entered, 0, 0, ChangeDue::Nothing);
+    let answer = enter(2, EMPTY_PLAN);
+    assert!(rt; answer.ui.host < HOSTS);
+    change.enter(answer);
+    let of_two = evidence(&rt, alloc, EMPTY_PLAN);
+    assert_evidence(&rt, alloc, &change, Some(of_two));
+    assert_due(&rt, &change, entered, 0, 0, ChangeDue::Open);
+    drop(change);
 }
 
 #[test]
-fn what_is_stable_beyond_the_view_is_joined(rt: HostRuntime) -> Result<(), Fail> {
+fn what_is_stable_beyond_the_view_is_joined(rt: HostRuntime) {
     let alloc = rt.alloc();
-    let mut change = Change::make(alloc, three_hosts()?, HOST)?;
-    opened(&rt, &mut change, 2, [9; 32]);
-    assert!(rt; opened_by(&rt, &change, 2) == (1, 2, [9; 32]));
-    assert!(rt; opened_by(&rt, &change, 0) == (0, 0, [0; 32]));
-    change.hold_evidence(evidence(alloc, [9; 32])?);
+    let mut change = Change::make(alloc, three_hosts(&rt), HOST).expect(&rt, "memory");
+    change.opened(2, 1, 2, [9; 32]);
+    assert!(rt; change.opened_by(2) == (1, 2, [9; 32]));
+    assert!(rt; change.opened_by(0) == (0, 0, [0; 32]));
+    change.hold_evidence(evidence(&rt, alloc, [9; 32]));
     assert_holds_evidence(&rt, &change);
-    assert_evidence(&rt, alloc, &change, Some(evidence(alloc, [9; 32])?))?;
+    let of_two = evidence(&rt, alloc, [9; 32]);
+    assert_evidence(&rt, alloc, &change, Some(of_two));
+    let open = at(1, Phase::Open, 0);
     let due = ChangeDue::Join { base: 4 };
-    assert_due(&rt, &change, at(1, Phase::Open, 0), 4, 4, due);
-    assert_due(
-        &rt,
-        &change,
-        at(1, Phase::Open, 0),
-        0,
-        4,
-        ChangeDue::Nothing,
-    );
-    assert_due(
-        &rt,
-        &change,
-        at(1, Phase::Open, 4),
-        4,
-        4,
-        ChangeDue::Nothing,
-    );
-    Ok(())
+    assert_due(&rt, &change, open, 4, 4, due);
+    assert_due(&rt, &change, open, 0, 4, ChangeDue::Nothing);
+    let open = at(1, Phase::Open, 4);
+    assert_due(&rt, &change, open, 4, 4, ChangeDue::Nothing);
+    drop(change);
 }
 
 #[test]
-fn a_backup_enters(rt: HostRuntime) -> Result<(), Fail> {
-    let mut change = Change::make(rt.alloc(), three_hosts()?, 2)?;
-    hold_new_view(&rt, &mut change, new_view([9; 32]));
+fn a_backup_enters(rt: HostRuntime) {
+    let mut change = Change::make(rt.alloc(), three_hosts(&rt), 2).expect(&rt, "memory");
+    hold_new_view(&rt, &mut change, [9; 32]);
     let due = ChangeDue::ViewChange { view: 1 };
     assert_due(&rt, &change, at(0, Phase::Open, 0), 0, 0, due);
-    assert_due(
-        &rt,
-        &change,
-        at(1, Phase::Changing, 0),
-        0,
-        0,
-        ChangeDue::Enter,
-    );
-    Ok(())
+    let changing = at(1, Phase::Changing, 0);
+    assert_due(&rt, &change, changing, 0, 0, ChangeDue::Enter);
+    drop(change);
 }

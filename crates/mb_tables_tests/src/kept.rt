@@ -3,8 +3,8 @@
 ghost use Rattle.std.specs.Prelude.{◌≡◌};
 ghost use Rattle.mb_kept.specs.Kept.{low_of};
 
-use crate::samples::{FLOOR_AT_4, three_hosts};
-use mb_base::{Digest, Host, Items, NoMemory, Pos, Shape, Ui};
+use crate::samples::{FLOOR_AT_4, are_equal, three_hosts};
+use mb_base::{Digest, Host, Items, Pos, Shape, Ui};
 use mb_kept::Checkpoints;
 use mb_msg::{
     Body, Checkpoint, Floor, FloorCert, FloorMember, Floors, MAX_POS, StableCert, StableMember,
@@ -35,30 +35,27 @@ fn bare(host: Host, pos: Pos, state: Digest) -> Checkpoint {
 }
 
 /// Of three hosts, a floor of host 0 alone.
-fn floors(alloc: Global) -> Result<Items<Option<Floor>>, NoMemory> {
-    let mut floors = Items::new(alloc);
-    floors.push(Some(FLOOR_AT_4))?;
-    floors.push(None)?;
-    floors.push(None)?;
-    Ok(floors)
+fn floors(rt: &impl Abort, alloc: Global) -> Items<Option<Floor>> {
+    Items::from_vec(vec![in alloc; Some(FLOOR_AT_4), None, None].expect(rt, "memory"))
 }
 
-fn whole(alloc: Global, host: Host, pos: Pos) -> Result<Checkpoint, NoMemory> {
+fn whole(rt: &impl Abort, alloc: Global, host: Host, pos: Pos) -> Checkpoint {
     let floors = Floors {
-        floors: floors(alloc)?,
+        floors: floors(rt, alloc),
     };
-    Ok(checkpoint(host, pos, STATE, Body::Whole(floors)))
+    checkpoint(host, pos, STATE, Body::Whole(floors))
 }
 
 /// Keeps a CHECKPOINT where it has a place at or above this stable position, and its fields have allowed values. Tells whether it was so.
 #[tactic(auto, using(mb_normal::proofs::Tables::kept_kept))]
 fn keep(
+    rt: &impl Abort,
     alloc: Global,
     shape: &Shape,
     low: Pos,
     kept: &mut Checkpoints,
     checkpoint: Checkpoint,
-) -> Result<bool, NoMemory>
+) -> bool
     requires shape { kept.old.shape ≡ shape.now }
     requires low { low_of kept.old ≡ low }
     ensures shape { kept.new.shape ≡ shape.now }
@@ -68,14 +65,13 @@ fn keep(
     if checkpoint.pos % interval != 0
         || checkpoint.pos < low
         || checkpoint.pos - low > 2 * interval
+        || checkpoint.ui.host >= shape.n()
+        || !checkpoint.fits(shape)
     {
-        return Ok(false);
+        return false;
     }
-    if checkpoint.ui.host >= shape.n() || !checkpoint.fits(shape) {
-        return Ok(false);
-    }
-    kept.keep(alloc, checkpoint)?;
-    Ok(true)
+    kept.keep(alloc, checkpoint).expect(rt, "memory");
+    true
 }
 
 /// Raises the stable position to this one, to which it may be raised.
@@ -90,91 +86,101 @@ fn raise(rt: &impl Abort, shape: &Shape, low: Pos, kept: &mut Checkpoints, above
     kept.raise(above);
 }
 
-/// Of the hosts 0 and 1.
-fn stable_cert(alloc: Global, pos: Pos) -> Result<StableCert, NoMemory> {
-    let mut members = Items::new(alloc);
-    for host in 0..2 {
-        members.push(StableMember {
-            host,
-            counter: 5,
-            floors: [7; 32],
-            cert: [host; 32],
-        })?;
+fn stable_member(host: Host) -> StableMember {
+    StableMember {
+        host,
+        counter: 5,
+        floors: [7; 32],
+        cert: [host; 32],
     }
-    Ok(StableCert {
+}
+
+/// Of the hosts 0 and 1.
+fn stable_cert(rt: &impl Abort, alloc: Global, pos: Pos) -> StableCert {
+    let members = vec![in alloc; stable_member(0), stable_member(1)].expect(rt, "memory");
+    StableCert {
         pos,
         state: STATE,
-        members,
-    })
+        members: Items::from_vec(members),
+    }
+}
+
+fn floor_member(rt: &impl Abort, alloc: Global, host: Host) -> FloorMember {
+    FloorMember {
+        host,
+        counter: 5,
+        floors: floors(rt, alloc),
+        cert: [host; 32],
+    }
 }
 
 /// Of the hosts 0 and 2.
-fn floor_cert(alloc: Global, pos: Pos) -> Result<FloorCert, NoMemory> {
-    let mut members = Items::new(alloc);
-    for host in [0, 2] {
-        members.push(FloorMember {
-            host,
-            counter: 5,
-            floors: floors(alloc)?,
-            cert: [host; 32],
-        })?;
-    }
-    Ok(FloorCert {
+fn floor_cert(rt: &impl Abort, alloc: Global, pos: Pos) -> FloorCert {
+    let members = [floor_member(rt, alloc, 0), floor_member(rt, alloc, 2)];
+    let members = Vec::from_array(alloc, members).expect(rt, "memory");
+    FloorCert {
         pos,
         state: STATE,
-        members,
-    })
+        members: Items::from_vec(members),
+    }
 }
 
-fn assert_stable(
+/// A CHECKPOINT has a place and is kept.
+fn assert_keeps(
     rt: &impl Abort,
     alloc: Global,
-    kept: &Checkpoints,
-    stable: Option<StableCert>,
-) -> Result<(), NoMemory> {
-    assert!(rt; kept.stable(alloc)? == stable);
-    Ok(())
+    shape: &Shape,
+    low: Pos,
+    kept: &mut Checkpoints,
+    checkpoint: Checkpoint,
+)
+    requires shape { kept.old.shape ≡ shape.now }
+    requires low { low_of kept.old ≡ low }
+    ensures shape { kept.new.shape ≡ shape.now }
+    ensures low { low_of kept.new ≡ low }
+{
+    assert!(rt; keep(rt, alloc, shape, low, kept, checkpoint));
 }
 
-fn assert_floor(
-    rt: &impl Abort,
-    alloc: Global,
-    kept: &Checkpoints,
-    floor: Option<FloorCert>,
-) -> Result<(), NoMemory> {
-    assert!(rt; kept.floor_of(alloc, 0)? == floor);
-    Ok(())
+fn assert_stable(rt: &impl Abort, alloc: Global, kept: &Checkpoints, stable: Option<StableCert>) {
+    let found = kept.stable(alloc).expect(rt, "memory");
+    assert!(rt; are_equal(found, stable));
+}
+
+fn assert_floor(rt: &impl Abort, alloc: Global, kept: &Checkpoints, floor: Option<FloorCert>) {
+    let found = kept.floor_of(alloc, 0).expect(rt, "memory");
+    assert!(rt; are_equal(found, floor));
 }
 
 #[test]
 fn two_hosts_of_three_that_agree_make_certificates(rt: HostRuntime) -> Result<(), Fail> {
     let alloc = rt.alloc();
-    let shape = three_hosts()?;
+    let shape = three_hosts(&rt);
     let mut kept = Checkpoints::make(alloc, shape)?;
     // one says another state
-    assert!(rt; keep(alloc, &shape, 0, &mut kept, bare(0, 4, [0; 32]))?);
-    assert!(rt; keep(alloc, &shape, 0, &mut kept, bare(1, 4, STATE))?);
-    assert_stable(&rt, alloc, &kept, None)?;
+    assert_keeps(&rt, alloc, &shape, 0, &mut kept, bare(0, 4, [0; 32]));
+    assert_keeps(&rt, alloc, &shape, 0, &mut kept, bare(1, 4, STATE));
+    assert_stable(&rt, alloc, &kept, None);
     // a newer one takes the place of its host's earlier one
-    assert!(rt; keep(alloc, &shape, 0, &mut kept, bare(0, 4, STATE))?);
-    assert_stable(&rt, alloc, &kept, Some(stable_cert(alloc, 4)?))?;
-    assert!(rt; keep(alloc, &shape, 0, &mut kept, bare(2, 4, STATE))?);
-    assert_stable(&rt, alloc, &kept, Some(stable_cert(alloc, 4)?))?;
+    assert_keeps(&rt, alloc, &shape, 0, &mut kept, bare(0, 4, STATE));
+    assert_stable(&rt, alloc, &kept, Some(stable_cert(&rt, alloc, 4)));
+    assert_keeps(&rt, alloc, &shape, 0, &mut kept, bare(2, 4, STATE));
+    assert_stable(&rt, alloc, &kept, Some(stable_cert(&rt, alloc, 4)));
     // for a floor they count whole alone
-    assert!(rt; keep(alloc, &shape, 0, &mut kept, whole(alloc, 2, 4)?)?);
-    assert_floor(&rt, alloc, &kept, None)?;
-    assert!(rt; keep(alloc, &shape, 0, &mut kept, whole(alloc, 0, 4)?)?);
-    assert_floor(&rt, alloc, &kept, Some(floor_cert(alloc, 4)?))?;
+    assert_keeps(&rt, alloc, &shape, 0, &mut kept, whole(&rt, alloc, 2, 4));
+    assert_floor(&rt, alloc, &kept, None);
+    assert_keeps(&rt, alloc, &shape, 0, &mut kept, whole(&rt, alloc, 0, 4));
+    assert_floor(&rt, alloc, &kept, Some(floor_cert(&rt, alloc, 4)));
     // what is stable is certified no more, but still gives a floor
     raise(&rt, &shape, 0, &mut kept, 4);
-    assert_stable(&rt, alloc, &kept, None)?;
-    assert_floor(&rt, alloc, &kept, Some(floor_cert(alloc, 4)?))?;
+    assert_stable(&rt, alloc, &kept, None);
+    assert_floor(&rt, alloc, &kept, Some(floor_cert(&rt, alloc, 4)));
     // the place of two intervals above the stable position is the last one
-    assert!(rt; keep(alloc, &shape, 4, &mut kept, bare(0, 12, STATE))?);
-    assert!(rt; !keep(alloc, &shape, 4, &mut kept, bare(0, 16, STATE))?);
-    assert!(rt; keep(alloc, &shape, 4, &mut kept, bare(1, 12, STATE))?);
-    assert_stable(&rt, alloc, &kept, Some(stable_cert(alloc, 12)?))?;
+    assert_keeps(&rt, alloc, &shape, 4, &mut kept, bare(0, 12, STATE));
+    assert!(rt; !keep(&rt, alloc, &shape, 4, &mut kept, bare(0, 16, STATE)));
+    assert_keeps(&rt, alloc, &shape, 4, &mut kept, bare(1, 12, STATE));
+    assert_stable(&rt, alloc, &kept, Some(stable_cert(&rt, alloc, 12)));
     raise(&rt, &shape, 4, &mut kept, 12);
-    assert_floor(&rt, alloc, &kept, None)?;
+    assert_floor(&rt, alloc, &kept, None);
     Ok(())
 }

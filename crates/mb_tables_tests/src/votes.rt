@@ -1,34 +1,57 @@
+ghost use Rattle.std.specs.Prelude.{◌≡◌, ◌<◌};
+
 use crate::samples::three_hosts;
+use mb_base::{Host, Pos};
 use mb_votes::{Refused, Vote, Votes};
-use std::test::Fail;
+use std::process::Abort;
+
+const R: Vote = Vote {
+    counter: 1,
+    request: [1; 32],
+};
+
+const S: Vote = Vote {
+    counter: 1,
+    request: [2; 32],
+};
+
+/// The vote of a host for a position is counted.
+fn assert_adds(rt: &impl Abort, votes: &mut Votes, pos: Pos, host: Host, vote: Vote)
+    requires { host < 3 }
+    ensures { votes.new.ballots.low ≡ votes.old.ballots.low }
+{
+    assert!(rt; votes.add(pos, host, vote).is_ok());
+}
+
+/// The vote of a host for a position is refused.
+fn assert_refuses(rt: &impl Abort, votes: &mut Votes, pos: Pos, host: Host, refused: Refused<Vote>)
+    requires { host < 3 }
+    ensures { votes.new.ballots.low ≡ votes.old.ballots.low }
+{
+    assert!(rt; votes.add(pos, host, R) == Err(refused));
+}
+
+fn assert_ready(rt: &impl Abort, votes: &Votes, pos: Option<Pos>) {
+    assert!(rt; votes.ready() == pos);
+}
 
 #[test]
-fn the_lowest_position_with_a_quorum_is_ready(rt: HostRuntime) -> Result<(), Fail> {
-    let shape = three_hosts()?;
-    let r = Vote {
-        counter: 1,
-        request: [1; 32],
-    };
-    let s = Vote {
-        counter: 1,
-        request: [2; 32],
-    };
-    let mut votes = Votes::make(rt.alloc(), shape, 0)?;
-    assert!(rt; votes.add(2, 0, r) == Ok(()));
-    assert!(rt; votes.ready().is_none());
-    assert!(rt; votes.add(2, 1, s) == Ok(()));
-    assert!(rt; votes.ready().is_none());
-    assert!(rt; votes.add(2, 1, r) == Err(Refused::Filled { item: r }));
-    assert!(rt; votes.add(2, 2, s) == Ok(()));
-    assert!(rt; votes.ready() == Some(2));
-    assert_eq!(rt; votes.matching(2, &s), 2);
-    assert_eq!(rt; votes.count(2), 3);
+fn the_lowest_position_with_a_quorum_is_ready(rt: HostRuntime) {
+    let mut votes = Votes::make(rt.alloc(), three_hosts(&rt), 0).expect(&rt, "memory");
+    assert_adds(&rt, &mut votes, 2, 0, R);
+    assert_ready(&rt, &votes, None);
+    assert_adds(&rt, &mut votes, 2, 1, S);
+    assert_ready(&rt, &votes, None);
+    assert_refuses(&rt, &mut votes, 2, 1, Refused::Filled { item: R });
+    assert_adds(&rt, &mut votes, 2, 2, S);
+    assert_ready(&rt, &votes, Some(2));
+    assert!(rt; votes.matching(2, &S) == 2);
+    assert!(rt; votes.count(2) == 3);
     votes.raise(2);
-    assert!(rt; votes.ready().is_none());
-    assert!(rt; votes.add(11, 0, r) == Err(Refused::Beyond { low: 2, item: r }));
-    assert!(rt; votes.add(2, 0, r) == Err(Refused::Below { low: 2, item: r }));
-    assert!(rt; votes.add(10, 0, r) == Ok(()));
+    assert_ready(&rt, &votes, None);
+    assert_refuses(&rt, &mut votes, 11, 0, Refused::Beyond { low: 2, item: R });
+    assert_refuses(&rt, &mut votes, 2, 0, Refused::Below { low: 2, item: R });
+    assert_adds(&rt, &mut votes, 10, 0, R);
     votes.clear();
-    assert_eq!(rt; votes.count(10), 0);
-    Ok(())
+    assert!(rt; votes.count(10) == 0);
 }
