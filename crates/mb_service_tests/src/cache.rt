@@ -1,11 +1,19 @@
 use crate::samples::request;
-use mb_base::{Items, Pos, Shape};
+use mb_base::{Client, Digest, Items, Pos, Seq, Shape};
 use mb_cache::{Accept, Restore, Table, digest};
 use mb_kv::Kv;
 use mb_parts::{MAX_POS, Request};
 use std::alloc::Global;
 use std::process::Abort;
 use std::test::Fail;
+
+/// The digest of a state in which no request was executed. It and those of the rows were computed apart from this program, by Python's hashlib.
+const DIGEST_AT_THE_START: &Digest =
+    b"\xb9\xa9\xc2\x69\x01\x0c\xe7\x5e\x54\x7d\xa4\xe3\xf8\xae\xfb\x32\xd4\xd0\xfb\x0d\xd1\xee\x33\x49\x5f\xf6\x6a\x42\x53\xf8\xe4\x18";
+
+/// The bytes of a table of two clients, the first of which was answered with a byte 0.
+const PART_BEHIND_ONE_REQUEST: &[u8] =
+    b"\x00\x00\x00\x00\x00\x00\x00\x01\x00\x00\x00\x00\x00\x00\x00\x01\x00\x01\x00\x00\x00\x00\x00\x00\x00\x00\x00\x00\x00\x00\x00\x00\x00\x00\x00\x00\x00";
 
 /// One of 3 hosts that may be faulty, a checkpoint at each 4th position, and so many clients.
 fn table_of(rt: &HostRuntime, clients: u8) -> Result<Table, Fail> {
@@ -23,9 +31,44 @@ fn execute(
     request: &Request,
 ) -> Result<Option<Items<u8>>, Fail> {
     assert!(rt; request.client < table.clients());
-    assert!(rt; pos >= 1);
-    assert!(rt; pos <= MAX_POS);
+    assert!(rt; pos >= 1 && pos <= MAX_POS);
     Ok(table.execute(alloc, kv, pos, request)?)
+}
+
+/// The byte that client 1 is answered as it asks for this at a position. None where the request is not executed.
+fn answer(
+    rt: &impl Abort,
+    alloc: Global,
+    table: &mut Table,
+    kv: &mut Kv,
+    pos: Pos,
+    seq: Seq,
+    op: &[u8],
+) -> Result<Option<u8>, Fail> {
+    let request = request(alloc, 1, seq, op)?;
+    let Some(answer) = execute(rt, alloc, table, kv, pos, &request)? else {
+        return Ok(None);
+    };
+    assert!(rt; answer.len() == 1);
+    Ok(answer.as_slice().first().copied())
+}
+
+/// The digest of the state behind what each of four clients asks for in its request of that number, from a position on.
+fn digest_behind(
+    rt: &impl Abort,
+    alloc: Global,
+    table: &mut Table,
+    kv: &mut Kv,
+    first: Pos,
+    seq: Seq,
+    op: &[u8],
+) -> Result<Digest, Fail> {
+    for client in 0..4 {
+        let request = request(alloc, client, seq, op)?;
+        let pos = first.saturating_add(u64::from(client));
+        execute(rt, alloc, table, kv, pos, &request)?;
+    }
+    Ok(digest(alloc, kv, table, first.saturating_add(3))?)
 }
 
 /// What the table says of a number of client 1.
@@ -35,20 +78,24 @@ fn accept(rt: &impl Abort, table: &Table, seq: u64) -> Accept {
 }
 
 /// Compares the last reply to a client.
-fn expect_reply(rt: &impl Abort, table: &Table, client: u8, reply: Option<(u64, Pos, &[u8])>) {
+fn expect_reply(rt: &impl Abort, table: &Table, client: Client, reply: Option<(Seq, Pos, &[u8])>) {
+    let last_seq = match reply {
+        Some((seq, _, _)) => seq,
+        None => 0,
+    };
     assert!(rt; client < table.clients());
-    assert_eq!(rt; table.reply(client), reply);
-    assert_eq!(rt; table.last_seq(client), reply.map_or(0, |r| r.0));
+    assert!(rt; table.reply(client) == reply);
+    assert!(rt; table.last_seq(client) == last_seq);
 }
 
 #[test]
 fn a_request_is_executed_once(rt: HostRuntime) -> Result<(), Fail> {
     let mut kv = Kv::new(rt.alloc());
     let mut table = table_of(&rt, 2)?;
-    assert_eq!(rt; accept(&rt, &table, 0), Accept::Again { pos: 0 });
-    assert_eq!(rt; accept(&rt, &table, 1), Accept::Fresh);
+    let start = [accept(&rt, &table, 0), accept(&rt, &table, 1)];
+    assert!(rt; start == [Accept::Again { pos: 0 }, Accept::Fresh]);
     expect_reply(&rt, &table, 1, None);
-    let rows: [(u64, u64, &[u8], Option<u8>); 5] = [
+    let rows: [(Seq, Pos, &[u8], Option<u8>); 5] = [
         (3, 1, b"\x03\x01a", Some(2)),
         (3, 2, b"\x01\x01a\x00\x011", None),
         (2, 2, b"\x01\x01a\x00\x011", None),
@@ -56,22 +103,17 @@ fn a_request_is_executed_once(rt: HostRuntime) -> Result<(), Fail> {
         (5, 3, b"\x03\x01a", Some(0)),
     ];
     for (seq, pos, op, result) in rows {
-        let request = request(rt.alloc(), 1, seq, op)?;
-        let answer = execute(&rt, rt.alloc(), &mut table, &mut kv, pos, &request)?;
-        match (answer, result) {
-            (Some(bytes), Some(byte)) => assert_eq!(rt; bytes.as_slice(), [byte].as_slice()),
-            (answer, result) => assert_eq!(rt; answer.is_some(), result.is_some()),
-        }
+        assert!(rt; answer(&rt, rt.alloc(), &mut table, &mut kv, pos, seq, op)? == result);
     }
+    drop(kv);
     expect_reply(&rt, &table, 1, Some((5, 3, [0].as_slice())));
-    assert_eq!(rt; accept(&rt, &table, 6), Accept::Fresh);
-    assert_eq!(rt; accept(&rt, &table, 5), Accept::Again { pos: 3 });
-    assert_eq!(rt; accept(&rt, &table, 4), Accept::Old { last: 5 });
+    assert!(rt; accept(&rt, &table, 6) == Accept::Fresh);
+    assert!(rt; accept(&rt, &table, 5) == Accept::Again { pos: 3 });
+    assert!(rt; accept(&rt, &table, 4) == Accept::Old { last: 5 });
     expect_reply(&rt, &table, 0, None);
     Ok(())
 }
 
-/// The digests were computed apart from this program, by Python's hashlib.
 #[test]
 fn states_have_their_digests(rt: HostRuntime) -> Result<(), Fail> {
     let rows: [(u64, Pos, &[u8], &[u8]); 2] = [
@@ -90,24 +132,11 @@ fn states_have_their_digests(rt: HostRuntime) -> Result<(), Fail> {
     ];
     let mut kv = Kv::new(rt.alloc());
     let mut table = table_of(&rt, 4)?;
-    assert_eq!(rt;
-        digest(rt.alloc(), &mut kv, &table, 0)?.as_slice(),
-        b"\xb9\xa9\xc2\x69\x01\x0c\xe7\x5e\x54\x7d\xa4\xe3\xf8\xae\xfb\x32\xd4\xd0\xfb\x0d\xd1\xee\x33\x49\x5f\xf6\x6a\x42\x53\xf8\xe4\x18".as_slice()
-    );
+    let start = digest(rt.alloc(), &mut kv, &table, 0)?;
+    assert!(rt; start == *DIGEST_AT_THE_START);
     for (seq, first, op, state) in rows {
-        for client in 0..4 {
-            let request = request(rt.alloc(), client, seq, op)?;
-            execute(
-                &rt,
-                rt.alloc(),
-                &mut table,
-                &mut kv,
-                first.saturating_add(u64::from(client)),
-                &request,
-            )?;
-        }
-        let digest = digest(rt.alloc(), &mut kv, &table, first.saturating_add(3))?;
-        assert_eq!(rt; digest.as_slice(), state);
+        let digest = digest_behind(&rt, rt.alloc(), &mut table, &mut kv, first, seq, op)?;
+        assert!(rt; digest.as_slice() == state);
     }
     Ok(())
 }
@@ -118,13 +147,13 @@ fn a_table_is_restored_from_its_bytes(rt: HostRuntime) -> Result<(), Fail> {
     let mut table = table_of(&rt, 2)?;
     let request = request(rt.alloc(), 0, 1, b"\x01\x01a\x00\x011")?;
     execute(&rt, rt.alloc(), &mut table, &mut kv, 1, &request)?;
+    drop(request);
+    drop(kv);
     let part = table.part(rt.alloc())?;
-    assert_eq!(rt;
-        part.as_slice(),
-        b"\x00\x00\x00\x00\x00\x00\x00\x01\x00\x00\x00\x00\x00\x00\x00\x01\x00\x01\x00\x00\x00\x00\x00\x00\x00\x00\x00\x00\x00\x00\x00\x00\x00\x00\x00\x00\x00".as_slice()
-    );
+    drop(table);
+    assert!(rt; part.as_slice() == PART_BEHIND_ONE_REQUEST);
     let mut other = table_of(&rt, 2)?;
-    assert_eq!(rt; other.restore(rt.alloc(), part.as_slice()), Ok(()));
+    assert!(rt; other.restore(rt.alloc(), part.as_slice()) == Ok(()));
     expect_reply(&rt, &other, 0, Some((1, 1, [0].as_slice())));
     expect_reply(&rt, &other, 1, None);
     Ok(())
@@ -163,10 +192,8 @@ fn damaged_tables_have_their_place(rt: HostRuntime) -> Result<(), Fail> {
     ];
     let mut table = table_of(&rt, 1)?;
     for (part, at) in rows {
-        assert_eq!(rt;
-            table.restore(rt.alloc(), part),
-            Err(Restore::BadSnapshot { part: 64, at })
-        );
+        let bad = Err(Restore::BadSnapshot { part: 64, at });
+        assert!(rt; table.restore(rt.alloc(), part) == bad);
     }
     expect_reply(&rt, &table, 0, None);
     Ok(())

@@ -1,7 +1,7 @@
 use crate::samples::bytes;
 use mb_base::{Client, Digest, Host, Key, Pos, Seq, Shape};
 use mb_client::{Asker, Taken, accepted_results_have_a_quorum};
-use mb_msg::Reply;
+use mb_msg::{Reply, Request};
 use std::alloc::Global;
 use std::process::Abort;
 use std::test::Fail;
@@ -15,10 +15,10 @@ const OP: &[u8] = b"PUT a 1";
 
 // The expected tags were made with Python's hmac and hashlib.
 
-const FIRST_REQUEST_TAG: &[u8; 32] =
+const FIRST_REQUEST_TAG: &[u8] =
     b"\x84\x24\xff\xa0\x19\xdf\x1a\xec\x38\xa5\x91\x57\x76\xb4\x80\xa6\x4b\x39\x96\x2d\xc9\xc7\x7f\x4e\x8c\xf5\xcc\xd1\xde\x7e\xcc\xc6";
 
-const SECOND_REQUEST_TAG: &[u8; 32] =
+const SECOND_REQUEST_TAG: &[u8] =
     b"\xd8\x02\xd8\x0b\xd8\xc5\xd6\x4d\x78\xdc\xbb\xc7\x7e\xdd\xce\x4d\x31\x54\xcc\x2c\x1c\xd7\xb3\x82\x89\x0f\x98\x7a\xbd\x74\x47\x7e";
 
 /// What a host tells a client.
@@ -124,11 +124,15 @@ fn asker(alloc: Global) -> Result<Asker, Fail> {
 /// Asks once more.
 fn ask(rt: &impl Abort, alloc: Global, asker: &mut Asker) -> Result<Digest, Fail> {
     assert!(rt; asker.asked() < 9);
-    let request = asker.ask(alloc, OP)?;
-    assert_eq!(rt; request.client, CLIENT);
-    assert_eq!(rt; request.seq, asker.asked());
-    assert_eq!(rt; request.op.as_slice(), OP);
-    Ok(request.tag)
+    let Request {
+        client,
+        seq,
+        op,
+        tag,
+    } = asker.ask(alloc, OP)?;
+    assert!(rt; op.as_slice() == OP);
+    assert!(rt; (client, seq) == (CLIENT, asker.asked()));
+    Ok(tag)
 }
 
 /// Gives these replies, one after the other, and compares the answers.
@@ -140,9 +144,8 @@ fn give(
 ) -> Result<(), Fail> {
     for (row, answer) in rows {
         let reply = row.reply(alloc)?;
-        assert!(rt; reply.host < 3);
-        assert!(rt; reply.result.len() == 2);
-        assert_eq!(rt; asker.take(&reply), *answer);
+        assert!(rt; reply.host < 3 && reply.result.len() == 2);
+        assert!(rt; asker.take(&reply) == *answer);
     }
     Ok(())
 }
@@ -150,10 +153,13 @@ fn give(
 #[test]
 fn requests_are_numbered_and_tagged(rt: HostRuntime) -> Result<(), Fail> {
     let mut asker = asker(rt.alloc())?;
-    assert_eq!(rt; asker.asked(), 0);
-    assert_eq!(rt; ask(&rt, rt.alloc(), &mut asker)?, *FIRST_REQUEST_TAG);
-    assert_eq!(rt; ask(&rt, rt.alloc(), &mut asker)?, *SECOND_REQUEST_TAG);
-    assert_eq!(rt; asker.asked(), 2);
+    assert!(rt; asker.asked() == 0);
+    let first = ask(&rt, rt.alloc(), &mut asker)?;
+    let second = ask(&rt, rt.alloc(), &mut asker)?;
+    assert!(rt; asker.asked() == 2);
+    drop(asker);
+    assert!(rt; first.as_slice() == FIRST_REQUEST_TAG);
+    assert!(rt; second.as_slice() == SECOND_REQUEST_TAG);
     Ok(())
 }
 
@@ -161,7 +167,7 @@ fn requests_are_numbered_and_tagged(rt: HostRuntime) -> Result<(), Fail> {
 fn two_of_three_hosts_that_agree_are_enough(rt: HostRuntime) -> Result<(), Fail> {
     let mut asker = asker(rt.alloc())?;
     ask(&rt, rt.alloc(), &mut asker)?;
-    assert_eq!(rt; asker.result(), None);
+    assert!(rt; asker.result().is_none());
     give(
         &rt,
         rt.alloc(),
@@ -172,10 +178,8 @@ fn two_of_three_hosts_that_agree_are_enough(rt: HostRuntime) -> Result<(), Fail>
             (HOST_2, Taken::OtherSeq { seq: 1 }),
         ],
     )?;
-    assert_eq!(rt; asker.accepted(), 1);
-    let (seq, pos, result) = asker.result().expect(&rt, "a result was accepted");
-    assert_eq!(rt; (seq, pos), (1, 5));
-    assert_eq!(rt; result, b"OK".as_slice());
+    assert!(rt; asker.accepted() == 1);
+    assert!(rt; asker.result() == Some((1, 5, b"OK".as_slice())));
     Ok(())
 }
 
@@ -250,8 +254,8 @@ fn bad_tags_and_other_requests_are_told(rt: HostRuntime) -> Result<(), Fail> {
             (NEXT_REQUEST, Taken::Waiting { matching: 1 }),
         ],
     )?;
-    assert_eq!(rt; (asker.asked(), asker.accepted()), (2, 0));
-    assert_eq!(rt; asker.result(), None);
+    assert!(rt; (asker.asked(), asker.accepted()) == (2, 0));
+    assert!(rt; asker.result().is_none());
     Ok(())
 }
 

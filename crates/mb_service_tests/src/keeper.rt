@@ -48,14 +48,35 @@ fn state(alloc: Global, parts: Items<Items<u8>>) -> Result<(Digest, StateMsg), F
     Ok((hasher.finalize(), message))
 }
 
-/// What a keeper that holds no part makes of such a STATE.
-fn taken(rt: &impl Abort, alloc: Global, first: &[u8], last: u8) -> Result<Fetched, Fail> {
+/// What a keeper that holds no part makes of a STATE with this state digest, and the part that it lacks behind it.
+fn take(
+    rt: &impl Abort,
+    alloc: Global,
+    certified: &Digest,
+    m: &StateMsg,
+) -> Result<(Fetched, Option<u8>), Fail> {
     let shape = Shape::new(1, 4, 1)?;
     let mut keeper = Keeper::make(alloc, shape, Kv::new(alloc))?;
-    let (certified, m) = state(alloc, parts(alloc, first, last)?)?;
     assert!(rt; m.digests.len() == 65 && m.parts.len() > 0 && m.parts.len() <= 65);
     assert!(rt; usize::from(m.first) + m.parts.len() <= 65);
-    Ok(keeper.take_state(alloc, &certified, &m)?)
+    let fetched = keeper.take_state(alloc, certified, m)?;
+    Ok((fetched, keeper.missing()))
+}
+
+/// What it makes of a STATE with such parts.
+fn taken(rt: &impl Abort, alloc: Global, first: &[u8], last: u8) -> Result<Fetched, Fail> {
+    let (certified, m) = state(alloc, parts(alloc, first, last)?)?;
+    let (fetched, _) = take(rt, alloc, &certified, &m)?;
+    Ok(fetched)
+}
+
+/// The state digest of another keeper, which executed nothing, at position 4, and its STATE.
+fn state_of_another(alloc: Global) -> Result<(Digest, StateMsg), Fail> {
+    let shape = Shape::new(1, 4, 1)?;
+    let mut other = Keeper::make(alloc, shape, Kv::new(alloc))?;
+    other.keep_snapshot(alloc, 4)?;
+    let certified = other.digest(alloc, 4)?;
+    Ok((certified, other.state_message(alloc, 1, 4, 0)?))
 }
 
 #[test]
@@ -73,17 +94,8 @@ fn parts_are_a_state_or_have_a_fault(rt: HostRuntime) -> Result<(), Fail> {
 
 #[test]
 fn the_state_of_another_is_installed(rt: HostRuntime) -> Result<(), Fail> {
-    let alloc = rt.alloc();
-    let shape = Shape::new(1, 4, 1)?;
-    let mut other = Keeper::make(alloc, shape, Kv::new(alloc))?;
-    other.keep_snapshot(alloc, 4)?;
-    let m = other.state_message(alloc, 1, 4, 0)?;
-    let certified = other.digest(alloc, 4)?;
-    let mut keeper = Keeper::make(alloc, shape, Kv::new(alloc))?;
-    assert!(rt; m.digests.len() == 65 && m.parts.len() > 0 && m.parts.len() <= 65);
-    assert!(rt; usize::from(m.first) + m.parts.len() <= 65);
-    assert!(rt; keeper.take_state(alloc, &certified, &m)? == Fetched::State);
-    assert!(rt; keeper.missing() == Some(0));
+    let (certified, m) = state_of_another(rt.alloc())?;
+    assert!(rt; take(&rt, rt.alloc(), &certified, &m)? == (Fetched::State, Some(0)));
     Ok(())
 }
 
@@ -103,9 +115,7 @@ fn execute(
     ensures snapshots { OnOk result (keeper.new.snapshots ≡ keeper.old.snapshots) }
 {
     let request = request(alloc, client, seq, op)?;
-    assert!(rt; client < shape.clients());
-    assert!(rt; pos >= 1);
-    assert!(rt; pos <= MAX_POS);
+    assert!(rt; client < shape.clients() && pos >= 1 && pos <= MAX_POS);
     assert!(rt; keeper.execute(alloc, pos, &request)?);
     Ok(())
 }
@@ -124,37 +134,15 @@ fn execute_of_each(
     ensures clients { length keeper.new.served.table ≡ client_count shape.now }
     ensures snapshots { OnOk result (keeper.new.snapshots ≡ keeper.old.snapshots) }
 {
-    execute(rt, alloc, shape, keeper, first, 0, seq, op)?;
-    execute(
-        rt,
-        alloc,
-        shape,
-        keeper,
+    let (second, third, fourth) = (
         first.saturating_add(1),
-        1,
-        seq,
-        op,
-    )?;
-    execute(
-        rt,
-        alloc,
-        shape,
-        keeper,
         first.saturating_add(2),
-        2,
-        seq,
-        op,
-    )?;
-    execute(
-        rt,
-        alloc,
-        shape,
-        keeper,
         first.saturating_add(3),
-        3,
-        seq,
-        op,
-    )
+    );
+    execute(rt, alloc, shape, keeper, first, 0, seq, op)?;
+    execute(rt, alloc, shape, keeper, second, 1, seq, op)?;
+    execute(rt, alloc, shape, keeper, third, 2, seq, op)?;
+    execute(rt, alloc, shape, keeper, fourth, 3, seq, op)
 }
 
 /// All parts of the snapshot of a position.
@@ -171,10 +159,22 @@ fn snapshot(
     Ok(parts)
 }
 
+/// The snapshot of position 4 is gone, and that of position 8 has the pair of the key a in its place.
+fn expect_second_alone(rt: &impl Abort, alloc: Global, keeper: &Keeper<Kv>) -> Result<(), Fail> {
+    let gone = keeper.state_message(alloc, 0, 4, 0)?.parts.len() == 0;
+    assert!(rt; !keeper.has_snapshot(4) && gone);
+    let kept = snapshot(rt, alloc, keeper, 8)?;
+    let held: [(usize, &[u8]); 2] = [(0, b"\x00\x00"), (10, b"\x00\x01\x01a\x00\x012")];
+    for (number, text) in held {
+        assert!(rt; kept.get(number).map(|part| part.as_slice()) == Some(text));
+    }
+    Ok(())
+}
+
 /// All parts of the service are those of no pair but that of the key a, number 10, and the last is the client table. A shelf with the same snapshots
 /// tells how many parts are held.
 #[test]
-fn equal_parts_of_states_are_held_once(rt: HostRuntime) -> Result<(), Fail> {
+fn snapshots_of_a_keeper_share_parts_on_a_shelf(rt: HostRuntime) -> Result<(), Fail> {
     let alloc = rt.alloc();
     let shape = Shape::new(1, 4, 4)?;
     let mut keeper = Keeper::make(alloc, shape, Kv::new(alloc))?;
@@ -190,11 +190,6 @@ fn equal_parts_of_states_are_held_once(rt: HostRuntime) -> Result<(), Fail> {
     keeper.raise(8);
     shelf.drop_below(8);
     assert_eq!(rt; shelf.parts_held(), 3);
-    assert!(rt; !keeper.has_snapshot(4) && keeper.state_message(alloc, 0, 4, 0)?.parts.len() == 0);
-    let kept = snapshot(&rt, alloc, &keeper, 8)?;
-    let held: [(usize, &[u8]); 2] = [(0, b"\x00\x00"), (10, b"\x00\x01\x01a\x00\x012")];
-    for (number, text) in held {
-        assert!(rt; kept.get(number).map(|part| part.as_slice()) == Some(text));
-    }
-    Ok(())
+    drop(shelf);
+    expect_second_alone(&rt, alloc, &keeper)
 }

@@ -7,6 +7,7 @@ use mb_parts::Request;
 use std::alloc::Global;
 use std::test::Fail;
 
+/// These bytes in a list of their own.
 pub fn bytes(alloc: Global, all: &[u8]) -> Result<Items<u8>, Fail> {
     Ok(Items::from_vec(Vec::from_slice(alloc, all)?))
 }
