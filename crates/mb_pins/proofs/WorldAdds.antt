@@ -172,6 +172,8 @@ module _ {S : Type 0} (system : System S) where
       line : v.line ≡ fold extended w.line left.executed
       given : v.given h ≡ arrived x (w.given h)
       others : (g : ℕ) → (g ≡ h → ⊥) → v.given g ≡ w.given g
+      history : v.histories h ≡ left.history
+      histories : (g : ℕ) → (g ≡ h → ⊥) → v.histories g ≡ w.histories g
       hashed : (y : Bytes) → In v.hashed y → In w.hashed y ⊎ IsOfStep y
 
     step_strings : (y : Bytes) → In (left.hashed ++ letter_strings) y → IsOfStep y
@@ -187,6 +189,8 @@ module _ {S : Type 0} (system : System S) where
         line = refl;
         given = rw (eq-eqb h h refl) refl;
         others = λ g ne. rw (ne_eqb g h ne) refl;
+        history = rw (eq-eqb h h refl) refl;
+        histories = λ g ne. rw (ne_eqb g h ne) refl;
         hashed = λ y i. elim (in_parts (w.hashed ++ given_strings s bytes) ((left w h x).hashed ++ letter_strings w h x) y i) [
           | inr own ↦ inr (step_strings w h x y own)
           | inl before ↦ elim (in_parts w.hashed (given_strings s bytes) y before) [ inl old ↦ inl old | inr new ↦ inr (inl new) ]
@@ -206,6 +210,8 @@ module _ {S : Type 0} (system : System S) where
     line = refl;
     given = refl;
     others = λ g ne. refl;
+    history = rw (eq-eqb h h refl) refl;
+    histories = λ g ne. rw (ne_eqb g h ne) refl;
     hashed = λ y i. elim (in_parts w.hashed ((left w h event.Patience).hashed ++ letter_strings w h event.Patience) y i) [ inl old ↦ inl old | inr own ↦ inr (step_strings w h event.Patience y own) ];
   })
   signal_stepped w h event.Nudge q correct = rw correct (record {
@@ -214,6 +220,8 @@ module _ {S : Type 0} (system : System S) where
     line = refl;
     given = refl;
     others = λ g ne. refl;
+    history = rw (eq-eqb h h refl) refl;
+    histories = λ g ne. rw (ne_eqb g h ne) refl;
     hashed = λ y i. elim (in_parts w.hashed ((left w h event.Nudge).hashed ++ letter_strings w h event.Nudge) y i) [ inl old ↦ inl old | inr own ↦ inr (step_strings w h event.Nudge y own) ];
   })
 
@@ -252,35 +260,36 @@ module _ {S : Type 0} (system : System S) where
         ⊎ ((bytes : Bytes) × (comes ≡ Some bytes) × (v.hashed ≡ w.hashed ++ given_strings s bytes)))
 
     record IsUnmoved (comes : Option Bytes) (v : World) : Type 0 where
+      histories : (g : ℕ) → v.histories g ≡ w.histories g
       given : (g : ℕ) → v.given g ≡ w.given g
       tagged : v.tagged ≡ w.tagged
       line : v.line ≡ w.line
       hashed : HashesMore comes v
 
     nothing : (comes : Option Bytes) → IsUnmoved comes w
-    nothing comes = record { given = λ g. refl; tagged = refl; line = refl; hashed = inl refl }
+    nothing comes = record { histories = λ g. refl; given = λ g. refl; tagged = refl; line = refl; hashed = inl refl }
 
     lost_host : (comes : Option Bytes) (h : ℕ) (bytes : Bytes) → is_faulty s h ≡ true → IsUnmoved comes (give_host system h bytes w)
     unfolding give_host
-    lost_host comes h bytes faulty = rw faulty (record { given = λ g. refl; tagged = refl; line = refl; hashed = inl refl })
+    lost_host comes h bytes faulty = rw faulty (record { histories = λ g. refl; given = λ g. refl; tagged = refl; line = refl; hashed = inl refl })
 
     lost_signal : (comes : Option Bytes) (h : ℕ) (x : Event) → is_faulty s h ≡ true → IsUnmoved comes (signal system h x w)
     unfolding signal
-    lost_signal comes h x faulty = rw faulty (record { given = λ g. refl; tagged = refl; line = refl; hashed = inl refl })
+    lost_signal comes h x faulty = rw faulty (record { histories = λ g. refl; given = λ g. refl; tagged = refl; line = refl; hashed = inl refl })
 
     lost_message : (comes : Option Bytes) (h : ℕ) (o : Option Bytes) → ((bytes : Bytes) → o ≡ Some bytes → is_faulty s h ≡ true) → IsUnmoved comes (with_message (give_host system h) o w)
     lost_message comes h None faulty = nothing comes
     lost_message comes h (Some bytes) faulty = lost_host comes h bytes (faulty bytes refl)
 
     made_one : (comes : Option Bytes) (bytes : Bytes) → IsUnmoved comes (made s bytes w)
-    made_one comes bytes = record { given = λ g. refl; tagged = refl; line = refl; hashed = inr (inl (bytes, refl, refl)) }
+    made_one comes bytes = record { histories = λ g. refl; given = λ g. refl; tagged = refl; line = refl; hashed = inr (inl (bytes, refl, refl)) }
 
     by_faulty : (comes : Option Bytes) (t : Bool) (f : World → World) → IsUnmoved comes (f w) → IsUnmoved comes (where_faulty t f w)
     by_faulty comes true f x = x
     by_faulty comes false f x = nothing comes
 
     stamped_one : (comes : Option Bytes) (h : ℕ) (bare message : Bytes) → IsUnmoved comes (stamp_as s h bare message w)
-    stamped_one comes h bare message = record { given = λ g. refl; tagged = refl; line = refl; hashed = inr (inl (message, refl, refl)) }
+    stamped_one comes h bare message = record { histories = λ g. refl; given = λ g. refl; tagged = refl; line = refl; hashed = inr (inl (message, refl, refl)) }
 
     stamped_some : (comes : Option Bytes) (h : ℕ) (m : Option StampedMessage) → IsUnmoved comes (stamps_some system h m w)
     stamped_some comes h m = by_faulty comes (is_faulty s h) (stamp_some (stamp_content s h) m) (go m) where
@@ -289,14 +298,14 @@ module _ {S : Type 0} (system : System S) where
       go (Some x) = stamped_one comes h (bare_bytes_of s x) (faulty_message s w h x)
 
     client_hears : (c : ℕ) (bytes : Bytes) (comes : Option Bytes) → comes ≡ Some bytes → (r : Result Message ℕ) → IsUnmoved comes (client_reads s c r (heard s bytes w))
-    client_hears c bytes comes is (Err at) = record { given = λ g. refl; tagged = refl; line = refl; hashed = inr (inr (bytes, is, refl)) }
-    client_hears c bytes comes is (Ok (message.Reply r)) = record { given = λ g. refl; tagged = refl; line = refl; hashed = inr (inr (bytes, is, refl)) }
-    client_hears c bytes comes is (Ok m) = record { given = λ g. refl; tagged = refl; line = refl; hashed = inr (inr (bytes, is, refl)) }
+    client_hears c bytes comes is (Err at) = record { histories = λ g. refl; given = λ g. refl; tagged = refl; line = refl; hashed = inr (inr (bytes, is, refl)) }
+    client_hears c bytes comes is (Ok (message.Reply r)) = record { histories = λ g. refl; given = λ g. refl; tagged = refl; line = refl; hashed = inr (inr (bytes, is, refl)) }
+    client_hears c bytes comes is (Ok m) = record { histories = λ g. refl; given = λ g. refl; tagged = refl; line = refl; hashed = inr (inr (bytes, is, refl)) }
 
     client_given : (c : ℕ) (bytes : Bytes) (comes : Option Bytes) → (is_faulty_client s c ≡ false → comes ≡ Some bytes) → IsUnmoved comes (give_client s c bytes w)
     unfolding give_client
     client_given c bytes comes is = elim (cases_Bool (is_faulty_client s c)) [
-      | inl faulty ↦ rw faulty (record { given = λ g. refl; tagged = refl; line = refl; hashed = inl refl })
+      | inl faulty ↦ rw faulty (record { histories = λ g. refl; given = λ g. refl; tagged = refl; line = refl; hashed = inl refl })
       | inr correct ↦ rw correct (client_hears c bytes comes (is correct) (message_of s.shape bytes))
     ]
 
@@ -316,7 +325,7 @@ module _ {S : Type 0} (system : System S) where
     unmoved_so (Nudge h) none = lost_signal _ h event.Nudge (must_fail (Nudge h) h event.Nudge none refl)
     unmoved_so (Take m c) none = client_taken c (numbered w.pool m) _ (λ bytes at correct. rw (correct, at) refl)
     unmoved_so (Raw (name.Client c) bytes) none = client_given c bytes _ (λ correct. rw correct refl)
-    unmoved_so (Ask c op) none = record { given = λ g. refl; tagged = refl; line = refl; hashed = inr (inl (spelling (message.Request (request_of s c ((w.askers c).number + 1) op)), refl, refl)) }
+    unmoved_so (Ask c op) none = record { histories = λ g. refl; given = λ g. refl; tagged = refl; line = refl; hashed = inr (inl (spelling (message.Request (request_of s c ((w.askers c).number + 1) op)), refl, refl)) }
     unmoved_so (Sign c seq op) none = by_faulty _ (is_faulty_client s c) (made s (spelling (message.Request (request_of s c seq op)))) (made_one _ (spelling (message.Request (request_of s c seq op))))
     unmoved_so (TagReply h c seq pos result) none = by_faulty _ (is_faulty s h) (made s (spelling (reply_of_host s h c seq pos result))) (made_one _ (spelling (reply_of_host s h c seq pos result)))
     unmoved_so (TagWish h view) none = by_faulty _ (is_faulty s h) (made s (spelling (wish_of_host s h view))) (made_one _ (spelling (wish_of_host s h view)))
@@ -491,6 +500,16 @@ module _ {S : Type 0} (system : System S) where
 
     step_at : (h : ℕ) (x : Event) → IsStepOf system w e h x → IsStepped w h x (happens system w e)
     step_at h x k = stepped_so w e h x k
+
+    -- The history of a host stays, or the host makes a step.
+    pub history_moves : (h : ℕ) → ((happens system w e).histories h ≡ w.histories h) ⊎ ((x : Event) × IsStepOf system w e h x × ((happens system w e).histories h ≡ (transition (self_of system h) (w.histories h) x).left.history))
+    history_moves h = elim either_step [
+      | inr no_step ↦ inl ((unmoved_so w e no_step).histories h)
+      | inl (g, x, k) ↦ elim (cases_eq h g) [
+        | inr other ↦ inl ((step_at g x k).histories h other)
+        | inl same ↦ inr (subst (λ (i : ℕ). (y : Event) × IsStepOf system w e i y × ((happens system w e).histories i ≡ (transition (self_of system i) (w.histories i) y).left.history)) (sym same) (x, k, (step_at g x k).history))
+      ]
+    ]
 
     none_given : (h : ℕ) → ((bytes : Bytes) → IsStepOf system w e h (event.Given bytes) → ⊥) → (happens system w e).given h ≡ w.given h
     none_given h none = elim either_step [
