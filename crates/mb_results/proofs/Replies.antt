@@ -2,7 +2,7 @@
 use Rattle.std.proofs.Common.{◌≡◌, ℕ, zero, suc, ◌+◌, ◌≤◌, ◌<◌, ◌⊎◌, true, false, List, length, refl, sym, ap, subst, ◌∙◌, inl, inr, arith, set, Some}
 use Rattle.std.specs.Prelude.{slice_get, take, replicate, unwrap_or}
 use Rattle.std.proofs.lemmas.Bool.{cases_Bool, cases_lt, cases_eq, ltb-true, ltb-false}
-use Rattle.std.proofs.lemmas.List.{get_or-set_same, get_or-set_other, length-replicate}
+use Rattle.std.proofs.lemmas.List.{get_or-set_same, get_or-set_other, set_past, length-replicate}
 use Rattle.std.proofs.lemmas.Option.{unwrap_or-slice_get, slice_get_within}
 use Rattle.mb_base.specs.Shapes.{client_count}
 use Rattle.mb_parts.specs.declared.request.Request.{Request}
@@ -26,16 +26,26 @@ module _ {S : Type 0} (m : Machine S) where
       let a : LastReply = record { seq = r.seq; pos = pos; result = m.result x.state r.op } in
       rw fresh (unwrap_or-slice_get (set x.table r.client a) r.client no_reply ∙ get_or-set_same x.table r.client a no_reply lt)
 
-  reply_again : (x : Served S) (pos : ℕ) (r : Request) → is_fresh x r ≡ false → served m x pos r ≡ x
+  pub reply_again : (x : Served S) (pos : ℕ) (r : Request) → is_fresh x r ≡ false → served m x pos r ≡ x
   unfolding served
   reply_again x pos r again = rw again refl
 
-  reply_other : (x : Served S) (pos : ℕ) (r : Request) (c : ℕ) → (c ≡ r.client → ⊥) → reply_of (served m x pos r) c ≡ reply_of x c
+  pub reply_other : (x : Served S) (pos : ℕ) (r : Request) (c : ℕ) → (c ≡ r.client → ⊥) → reply_of (served m x pos r) c ≡ reply_of x c
   unfolding served
   reply_other x pos r c other =
       let a : LastReply = record { seq = r.seq; pos = pos; result = m.result x.state r.op } in
       elim (cases_Bool (is_fresh x r)) [
         | inl fresh ↦ rw fresh (unwrap_or-slice_get (set x.table r.client a) c no_reply ∙ get_or-set_other x.table r.client c a no_reply other ∙ sym (unwrap_or-slice_get x.table c no_reply))
+        | inr again ↦ rw again refl
+      ]
+
+  -- of a client beyond the table
+  pub reply_past : (x : Served S) (pos : ℕ) (r : Request) (c : ℕ) → length x.table ≤ r.client → reply_of (served m x pos r) c ≡ reply_of x c
+  unfolding served
+  reply_past x pos r c past =
+      let a : LastReply = record { seq = r.seq; pos = pos; result = m.result x.state r.op } in
+      elim (cases_Bool (is_fresh x r)) [
+        | inl fresh ↦ rw fresh (ap (λ (t : List LastReply). unwrap_or (slice_get t c) no_reply) (set_past x.table r.client a past))
         | inr again ↦ rw again refl
       ]
 

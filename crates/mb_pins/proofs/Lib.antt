@@ -1,0 +1,10 @@
+-- Logs and LOGs (`Logs`); what outcomes tell (`TellsWhy`); what an event adds to the world (`WorldAdds`), with the strings that a step notes (`Strings`); that what
+-- is taken was valid (`OnlyValid`), where no closed gate is passed (`ClosedGates`), and what is refused is silent (`Silent`); what a primary orders (`Batches`).
+pub mod Logs
+pub mod TellsWhy
+pub mod Strings
+pub mod WorldAdds
+pub mod ClosedGates
+pub mod OnlyValid
+pub mod Silent
+pub mod Batches

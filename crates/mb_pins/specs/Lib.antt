@@ -1,0 +1,5 @@
+pub mod Logs
+pub mod TellsWhy
+pub mod WorldAdds
+pub mod OnlyValid
+pub mod Batches

@@ -1,0 +1,39 @@
+//! What definitions of a host and of the world mean, in words that do not use them: what a LOG gives and how long a log is, what each outcome tells, what an
+//! event adds to the world, that what is taken was valid, and what a primary orders. It holds no code.
+#![tactic(auto)]
+
+ghost use Rattle.mb_pins.specs.Logs.{HostsKeepLogs};
+ghost use Rattle.mb_pins.specs.TellsWhy.{HostsTellWhy};
+ghost use Rattle.mb_pins.specs.WorldAdds.{EventsAddNoMore};
+ghost use Rattle.mb_pins.specs.OnlyValid.{HostsTakeOnlyValid};
+ghost use Rattle.mb_pins.specs.Batches.{HostsOrderInTurn};
+
+/// A LOG has as many messages as go into one, at most 64 and 800,000 bytes; the own log has at most six intervals of PREPAREs, COMMITs and CHECKPOINTs and
+/// 768 others; and the longest log that a report tells is the longest that there was. So it is of each host after any events.
+pub fn hosts_keep_logs_full<V>()
+    ensures { HostsKeepLogs V }
+{}
+
+/// The numbers of each outcome are those of the message and of what the host held as it came: the counter at which a gate was closed, the next one that is
+/// expected, the kind, the view, the stable position, the fault, the last number, the part. So it is of each host after any events.
+pub fn outcomes_tell_why<V>()
+    ensures { HostsTellWhy V }
+{}
+
+/// What was asked, delivered, tagged, stamped by faulty hosts and hashed grows by what an event brings or makes, and by nothing else; so does the one list.
+/// So it is of each event in each world.
+pub fn events_add_no_more<V>()
+    ensures { EventsAddNoMore V }
+{}
+
+/// Each message that a host took was valid behind what stood before it, by itself or as the entry of a LOG; a LOG that is not valid changes nothing; and what is
+/// refused sends nothing but a stored reply. So it is of each host after any events.
+pub fn hosts_take_only_valid<V>()
+    ensures { HostsTakeOnlyValid V }
+{}
+
+/// A PREPARE holds fresh requests that wait, one of each client from the lowest on, with none left out, and as many as go into one batch. So it is of each
+/// host after any events.
+pub fn batches_are_in_turn<V>()
+    ensures { HostsOrderInTurn V }
+{}
