@@ -1,5 +1,5 @@
 -- The list of what waits has each client's request, from the lowest client on; a batch is its beginning, and has no place for the next one.
-use Rattle.std.proofs.Common.{◌≡◌, ℕ, zero, suc, ◌+◌, ◌≤◌, ◌<◌, ◌⊎◌, Bool, true, false, List, [], ◌∷◌, ◌++◌, map, length, refl, sym, ap, subst, ◌∙◌, inl, inr, arith, Option, Some, None}
+use Rattle.std.proofs.Common.{◌≡◌, ℕ, zero, suc, ◌+◌, ◌≤◌, ◌<◌, ◌⊎◌, true, List, [], ◌∷◌, ◌++◌, map, length, refl, sym, ap, subst, ◌∙◌, inl, inr, arith, Option, Some, None}
 use Rattle.std.specs.Prelude.{◌==◌, nat_lt, slice_get, filter_map, Contains}
 use Rattle.std.specs.List.{range_with_len}
 use Rattle.std.proofs.lemmas.Bool.{cases_Bool, cases_eq, cases_lt, eqb-true, eqb-false, eq-eqb, ltb-true, lt-ltb}
@@ -24,7 +24,7 @@ use Rattle.mb_model.proofs.Options.{option_cases, if_some}
 use Rattle.mb_searches.proofs.Executing.{pending_client}
 use Rattle.mb_steps.proofs.StepArises.{Arises}
 use Rattle.mb_theory.specs.NothingLeft.{IsFull, IsInWindow, AreBelow, IsUnordered}
-use Rattle.mb_theory.specs.World.{System, self_of}
+use Rattle.mb_theory.specs.World.{self_of}
 use Rattle.mb_theory.specs.WorldSteps.{world}
 use Rattle.mb_theory.proofs.DueOrders.{in_range, slot_held}
 use Rattle.mb_theory.proofs.KeptByWorlds.{world_arises}

@@ -1,5 +1,5 @@
 -- A gate that is closed never comes past the counter at which it was closed: that counter is at most the next one, in each history to which events lead.
-use Rattle.std.proofs.Common.{◌≡◌, ℕ, zero, suc, ◌+◌, ◌≤◌, ◌⊎◌, List, [], ◌∷◌, ◌++◌, length, refl, sym, ap, subst, ◌∙◌, inl, inr, arith, eqb, Option, Some, None}
+use Rattle.std.proofs.Common.{◌≡◌, ℕ, zero, suc, ◌+◌, ◌≤◌, ◌⊎◌, List, [], ◌∷◌, ◌++◌, length, sym, ap, subst, ◌∙◌, inl, inr, arith, eqb, Option, Some, None}
 use Rattle.std.specs.Prelude.{slice_get}
 use Rattle.std.proofs.lemmas.Bool.{cases_Bool, eqb-true}
 use Rattle.mb_parts.specs.Bares.{Bare}
@@ -9,7 +9,7 @@ use Rattle.mb_msg.specs.Stamps.{as_stamped}
 use Rattle.mb_model.specs.Histories.{Entry, Accepted, Stamped, Jumped, Closed, Served, Executed, Installed, DroppedParts, LostPatience, Nudged, History, Identity, onto, by_host, origin, taken_of, closed_at, gate}
 use Rattle.mb_schedule.specs.declared.schedule.WorldEvent.{WorldEvent}
 use Rattle.mb_theory.specs.AddsGiven.{IsDone, ComesWith, AllCome, AddsWhatCame}
-use Rattle.mb_theory.specs.World.{World, System, self_of}
+use Rattle.mb_theory.specs.World.{System, self_of}
 use Rattle.mb_theory.specs.WorldSteps.{after, world}
 use Rattle.mb_known.proofs.Cases.{some_is, some_none}
 use Rattle.mb_due.proofs.Added.{hosts_add_given}

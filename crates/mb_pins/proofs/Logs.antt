@@ -25,7 +25,7 @@ use Rattle.mb_model.specs.HostStep.{on_bytes, transition}
 use Rattle.mb_searches.proofs.OwnLog.{log_kept_length}
 use Rattle.mb_theory.specs.Bounds.{KeepsLimits}
 use Rattle.mb_theory.specs.ShowsLog.{next_shown, IsShownOf, ShowsLog}
-use Rattle.mb_theory.specs.World.{System, self_of}
+use Rattle.mb_theory.specs.World.{self_of}
 use Rattle.mb_theory.specs.WorldSteps.{world}
 use Rattle.mb_theory.proofs.Lists.{get_last, get_more}
 use Rattle.mb_theory.proofs.LogLimits.{hosts_keep_limits}
@@ -33,7 +33,7 @@ use Rattle.mb_line.proofs.Walks.{finished_keeps}
 use Rattle.mb_due.proofs.Taken.{resend_passed, takes_what_passes}
 use Rattle.mb_due.proofs.Answers.{letter_walked, last_of}
 use Rattle.mb_due.proofs.ShowsLog.{log_shown, shows_log}
-use Rattle.mb_pins.specs.Logs.{bytes_of, IsFilled, AreAllFrom, GivesWhatFits, FillsLogs, length_with, TellsLongest, KeepsLogs, HostsKeepLogs}
+use Rattle.mb_pins.specs.Logs.{bytes_of, IsFilled, AreAllFrom, GivesWhatFits, FillsLogs, length_with, TellsLongest, HostsKeepLogs}
 
 -- ---- what is packed
 

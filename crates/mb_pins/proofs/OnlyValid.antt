@@ -1,9 +1,8 @@
 -- What passes its tests is valid: each test says so in its own words.
-use Rattle.std.proofs.Common.{◌≡◌, ℕ, zero, suc, ◌+◌, ◌-◌, ◌≤◌, ◌<◌, ◌⊎◌, Bool, true, false, ◌&&◌, ◌||◌, not, List, [], ◌∷◌, ◌++◌, length, refl, sym, ap, subst, ◌∙◌, inl, inr, arith, Option, Some, None, Ok, Err}
+use Rattle.std.proofs.Common.{◌≡◌, ℕ, zero, suc, ◌+◌, ◌-◌, ◌≤◌, ◌<◌, ◌⊎◌, Bool, true, false, ◌&&◌, not, List, [], ◌∷◌, ◌++◌, length, refl, sym, ap, subst, inl, inr, arith, Option, Some, None, Ok, Err}
 use Rattle.std.specs.Prelude.{◌==◌, ◌%◌, nat_le, nat_lt, is_some, is_none, slice_get, unwrap_or, option_and_then, option_map, if◌then◌else◌, Result}
 use Rattle.std.specs.List.{AllByRecursion, list_all, range_with_len}
 use Rattle.std.specs.Bool.{then_some}
-use Rattle.std.specs.Option.{option_or}
 use Rattle.std.proofs.lemmas.Bool.{cases_Bool, and_parts, or_cases, eqb-true, eqb-false, eq-eqb, leb-true, leb-false, le-leb, ltb-true, ltb-false}
 use Rattle.sha2.specs.Sha256.{sha256}
 use Rattle.sha2.proofs.Facts256.{length-sha256}
@@ -51,7 +50,7 @@ use Rattle.mb_model.specs.Making.{expected}
 use Rattle.mb_model.specs.GateChecks.{valid}
 use Rattle.mb_model.specs.KindChecks.{is_member, member_fault, members_fault, announces, new_view_fault, opening_fault}
 use Rattle.mb_model.specs.PlainChecks.{wrong_part, is_behind_pending, is_certified_floor, is_certified_evidence, has_news_for, fault_of}
-use Rattle.mb_model.specs.Passed.{PassesGate, PassesBody, PassesVote, PassesStamped, PassesRequest, PassesWish, PassesResend, PassesLog, PassesFetch, PassesState, Passes}
+use Rattle.mb_model.specs.Passed.{PassesGate, PassesBody, PassesVote, PassesRequest, PassesWish, PassesResend, PassesLog, PassesFetch, PassesState, Passes}
 use Rattle.mb_model.proofs.Members.{In, contained}
 use Rattle.mb_model.proofs.Options.{or_none, then_none, if_some}
 use Rattle.mb_steps.specs.OwnLists.{IsOwn}

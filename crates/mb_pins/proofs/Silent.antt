@@ -1,6 +1,5 @@
 -- What is refused sends nothing, but for the stored reply of a request that comes again; and a LOG that is not valid does nothing at all.
-use Rattle.std.proofs.Common.{◌≡◌, ℕ, Bool, true, false, [], refl, sym, ap, subst, inl, inr, Some, None, Result, Ok, Err}
-use Rattle.mb_base.specs.Shapes.{Bytes}
+use Rattle.std.proofs.Common.{◌≡◌, ℕ, Bool, true, false, [], refl, sym, ap, subst, inl, inr, Some, Result, Ok}
 use Rattle.mb_parts.specs.declared.request.Request.{Request}
 use Rattle.mb_msg.specs.declared.message.Message.{Message}
 use Rattle.mb_msg.specs.declared.message.Message.TheVariants as message
@@ -26,7 +25,7 @@ use Rattle.mb_model.proofs.Options.{option_cases}
 use Rattle.mb_steps.proofs.StepPassed.{passes_log}
 use Rattle.mb_theory.specs.NothingLeft.{IsNoLog}
 use Rattle.mb_theory.specs.TakesLogs.{IsValidLog}
-use Rattle.mb_theory.specs.World.{System, self_of}
+use Rattle.mb_theory.specs.World.{self_of}
 use Rattle.mb_theory.specs.WorldSteps.{world}
 use Rattle.mb_theory.proofs.KeptByWorlds.{world_arises}
 use Rattle.mb_pins.specs.OnlyValid.{RefusesLogs, IsSilent, RefusesSilently, MalformedSilently, HostsTakeOnlyValid}

@@ -15,7 +15,7 @@ use Rattle.mb_parts.specs.declared.request.Request.{Request}
 use Rattle.mb_parts.specs.declared.batch.Batch.{Batch}
 use Rattle.mb_parts.specs.declared.certificates.FloorCert.{FloorCert}
 use Rattle.mb_parts.specs.declared.certificates.Evidence.{Evidence}
-use Rattle.mb_parts.specs.Certificates.{certified_floor, is_stable, is_evidence}
+use Rattle.mb_parts.specs.Certificates.{certified_floor, is_evidence}
 use Rattle.mb_parts.specs.Rules.{rule_of, shut_before}
 use Rattle.mb_msg.specs.declared.message.Body.{Body}
 use Rattle.mb_msg.specs.declared.message.Body.TheVariants.{Whole, Bare as Short}
@@ -34,37 +34,34 @@ use Rattle.mb_msg.specs.declared.transfer.Fetch.{Fetch}
 use Rattle.mb_msg.specs.declared.transfer.StateMsg.{StateMsg}
 use Rattle.mb_msg.specs.declared.stamped.Stamped.{Stamped as StampedMessage}
 use Rattle.mb_msg.specs.declared.stamped.Stamped.TheVariants as stamped
-use Rattle.mb_msg.specs.declared.event.Event.TheVariants as event
 use Rattle.mb_msg.specs.declared.event.Outcome.{Outcome}
 use Rattle.mb_msg.specs.declared.event.Outcome.TheVariants as outcome
 use Rattle.mb_msg.specs.Bodies.{whole_body}
 use Rattle.mb_msg.specs.Plans.{plan_digest, plan_end}
 use Rattle.mb_msg.specs.Stamps.{bare_of, ui_of, as_stamped, as_message}
-use Rattle.mb_msg.specs.Reading.{message_of}
 use Rattle.mb_model.specs.Service.{Served}
-use Rattle.mb_model.specs.States.{digest_string}
 use Rattle.mb_model.specs.Verified.{is_rightly_tagged, are_rightly_tagged}
 use Rattle.mb_model.specs.UsableLogs.{Fault, log_fault}
 use Rattle.mb_model.specs.Histories.{Entry, Accepted, History, Identity, view_of, closed_at, gate}
 use Rattle.mb_model.specs.Held.{change_fault, plan_from}
-use Rattle.mb_model.specs.Stable.{stable_of, low_of}
+use Rattle.mb_model.specs.Stable.{low_of}
 use Rattle.mb_model.specs.Positions.{exec_of}
 use Rattle.mb_model.specs.Execution.{state_from, parts_held, missing}
 use Rattle.mb_model.specs.Sending.{Progress, begin, write, next_of}
-use Rattle.mb_model.specs.GateChecks.{valid, is_bad_ui, is_own_future, conviction, is_stale, is_ahead, is_permitted, gate_refusal, identifier_refusal}
-use Rattle.mb_model.specs.KindChecks.{unusable, only_where, is_beyond, is_of_later_view, is_of_view, has_bad_tag, is_badly_tagged, body_refusal, vote_refusal, is_member, member_fault, members_fault, announces, new_view_fault, is_body_of, opening_fault, kind_refusal, stamped_refusal}
-use Rattle.mb_model.specs.PlainChecks.{string_at, wrong_part, wrong_digest, last_seq, is_behind_pending, number_refusal, request_refusal, is_bad_wish, wish_refusal, resend_refusal, is_certified_floor, is_certified_evidence, log_refusal, fetch_refusal, is_wanted, is_list_right, are_all_held, fault_of, bad_state, state_refusal, is_bad_stop, stop_answer}
+use Rattle.mb_model.specs.GateChecks.{valid, is_bad_ui, conviction, is_permitted, gate_refusal, identifier_refusal}
+use Rattle.mb_model.specs.KindChecks.{unusable, only_where, is_of_view, has_bad_tag, is_badly_tagged, body_refusal, vote_refusal, is_member, member_fault, members_fault, announces, new_view_fault, is_body_of, opening_fault, kind_refusal, stamped_refusal}
+use Rattle.mb_model.specs.PlainChecks.{string_at, wrong_part, wrong_digest, last_seq, number_refusal, request_refusal, wish_refusal, resend_refusal, is_certified_floor, is_certified_evidence, log_refusal, fetch_refusal, is_list_right, fault_of, state_refusal, is_bad_stop, stop_answer}
 use Rattle.mb_model.specs.Given.{Answer, floor_shown, jump, go_on, answer_request, answer_state, give_stamped, give_request, give_wish, give_resend, give_fetch, give_state, give_entries, give_log, give}
 use Rattle.mb_model.specs.HostStep.{rules_follow, asks_on, finished_where, on_bytes, transition}
 use Rattle.mb_model.proofs.Options.{option_cases, or_some, if_some}
 use Rattle.mb_theory.specs.NothingLeft.{IsNoLog}
 use Rattle.mb_theory.specs.TakesValid.{IsCertified, IsTagged, AreTagged, IsPlanOf}
-use Rattle.mb_theory.specs.World.{System, self_of}
+use Rattle.mb_theory.specs.World.{self_of}
 use Rattle.mb_theory.specs.WorldSteps.{world}
 use Rattle.mb_known.proofs.Cases.{not_true, not_false, not_both, some_is, then_some_of, whole_is}
 use Rattle.mb_line.proofs.Walks.{each_entry, entries_keep}
 use Rattle.mb_due.proofs.TakesValid.{certified}
-use Rattle.mb_pins.specs.TellsWhy.{IsVoteOf, IsOfPosition, kind_number, IsBadlyTagged, IsFaulty, IsNoMember, IsMisplanned, IsLogUnusable, Tells, IsOfEntry, TellsOfLog, TellsOfLogs, TellsOfMessages, TellsOfBytes, TellsWhy, HostsTellWhy}
+use Rattle.mb_pins.specs.TellsWhy.{IsVoteOf, IsOfPosition, kind_number, IsBadlyTagged, IsFaulty, IsNoMember, IsMisplanned, Tells, IsOfEntry, TellsOfLog, TellsOfLogs, TellsOfMessages, TellsOfBytes, HostsTellWhy}
 
 -- ---- a refusal, where there is one, has a property: so it is of a chain of tests where it is so of each
 
@@ -418,9 +415,9 @@ module _ {S : Type 0} (self : Identity S) where
     log_why : (m : Log) → Each (TellsOfLog self d m) (log_refusal self m)
     unfolding log_refusal
     log_why m =
-        each_or (TellsOfLog self d m) _ _ (each_then (TellsOfLog self d m) _ (outcome.Unusable 0 1) (λ bad. inl (refl, inl (refl, floor_why m m.floor refl (not_true _ bad)))))
+        each_or (TellsOfLog self d m) _ _ (each_then (TellsOfLog self d m) _ (outcome.Unusable 0 1) (λ bad. let f = floor_why m m.floor refl (not_true _ bad) in inl (refl, inl (refl, f.0, f.1, f.2))))
         (each_or (TellsOfLog self d m) _ _ (each_then (TellsOfLog self d m) _ (outcome.Unusable 0 2) (λ bad. inl (refl, inr (inl (refl, not_true _ bad)))))
-        (each_or (TellsOfLog self d m) _ _ (each_then (TellsOfLog self d m) _ (outcome.Unusable 0 12) (λ bad. inl (refl, inr (inr (refl, evidence_why m m.evidence refl (not_true _ bad))))))
+        (each_or (TellsOfLog self d m) _ _ (each_then (TellsOfLog self d m) _ (outcome.Unusable 0 12) (λ bad. let f = evidence_why m m.evidence refl (not_true _ bad) in inl (refl, inr (inr (refl, f.0, f.1, f.2)))))
         (each_then (TellsOfLog self d m) _ outcome.Idle (λ own. tt))))
 
     -- what has come so far stands before the history

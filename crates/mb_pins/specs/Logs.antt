@@ -1,6 +1,6 @@
 -- What a LOG gives, how long the own log may get, and how long it ever was: each in numbers, and of what the host stamped.
 use Rattle.std.specs.Prelude.{◌≡◌, ℕ, ◌+◌, ◌-◌, ◌*◌, ◌≤◌, ◌<◌, ◌⊎◌, not, count_by, List, [], ◌∷◌, ◌++◌, length, slice_get, Some, Ok, Contains}
-use Rattle.std.specs.List.{flat_map, AllByRecursion}
+use Rattle.std.specs.List.{flat_map}
 use Rattle.mb_base.specs.Shapes.{Bytes, interval}
 use Rattle.mb_msg.specs.declared.message.Message.TheVariants as message
 use Rattle.mb_msg.specs.declared.transfer.Resend.{Resend}

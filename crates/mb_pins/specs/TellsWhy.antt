@@ -1,9 +1,8 @@
 -- What the number of each outcome tells, and when it comes: of the message, and of what the host held as the message came.
-use Rattle.std.specs.Prelude.{◌≡◌, ℕ, ◌+◌, ◌-◌, ◌^◌, ◌≤◌, ◌<◌, ◌⊎◌, false, List, ◌∷◌, ◌++◌, length, min, slice_get, Some, None, Ok, Err, Contains}
+use Rattle.std.specs.Prelude.{◌≡◌, ℕ, ◌+◌, ◌-◌, ◌^◌, ◌≤◌, ◌<◌, ◌⊎◌, false, ◌∷◌, ◌++◌, length, min, slice_get, Some, None, Ok, Err, Contains}
 use Rattle.sha2.specs.Sha256.{sha256}
 use Rattle.mb_base.specs.Shapes.{Bytes, span}
 use Rattle.mb_usig.specs.Tags.{wish_tag, stop_tag}
-use Rattle.mb_parts.specs.declared.floor.Floor.{Floor}
 use Rattle.mb_parts.specs.declared.certificates.FloorCert.{FloorCert}
 use Rattle.mb_parts.specs.declared.certificates.Evidence.{Evidence}
 use Rattle.mb_parts.specs.declared.batch.Batch.{Batch}

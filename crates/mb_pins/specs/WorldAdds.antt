@@ -1,6 +1,6 @@
 -- What an event adds to the world, and nothing more: requests that were asked, bytes that were delivered, replies and wishes that were tagged, slots of the line,
 -- stamps of faulty hosts, and strings whose digests were made or compared.
-use Rattle.std.specs.Prelude.{◌≡◌, ℕ, ◌+◌, ◌⊎◌, true, false, List, [], ◌∷◌, ◌++◌, Option, Some, None, Contains}
+use Rattle.std.specs.Prelude.{◌≡◌, ℕ, ◌+◌, ◌⊎◌, true, false, List, [], ◌∷◌, ◌++◌, Some, Contains}
 use Rattle.mb_base.specs.Shapes.{Bytes}
 use Rattle.mb_usig.specs.Tags.{request_tag}
 use Rattle.mb_parts.specs.declared.request.Request.{Request}

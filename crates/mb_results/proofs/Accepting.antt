@@ -3,7 +3,7 @@
 -- After any events it waits, has accepted, or has asked nothing (`Stands`). While it waits, what it counted are the first replies of the hosts that it heard, and
 -- no f+1 of them agree. Once f+1 agree it has accepted what they say, and no other f+1 say anything else.
 use Rattle.std.proofs.Common.{◌≡◌, ℕ, zero, suc, ◌+◌, ◌≤◌, ◌<◌, ◌⊎◌, Bool, true, false, ◌&&◌, List, [], ◌∷◌, refl, sym, ap, subst, ◌∙◌, inl, inr, arith, Option, Some, None}
-use Rattle.std.specs.Prelude.{◌==◌, if◌then◌else◌, slice_get, Contains}
+use Rattle.std.specs.Prelude.{◌==◌, if◌then◌else◌, slice_get}
 use Rattle.std.specs.List.{AllByRecursion, list_any}
 use Rattle.std.proofs.lemmas.Bool.{cases_Bool, and_parts, and_from, and_right, eqb-true, eq-eqb, leb-true, le-leb}
 use Rattle.mb_base.specs.Shapes.{Bytes, host_count, quorum, tally, HasQuorum}
@@ -27,7 +27,7 @@ use Rattle.mb_theory.specs.WorldSteps.{world}
 use Rattle.mb_known.proofs.ReadFits.{read_fits}
 use Rattle.mb_results.specs.Accepts.{first_of, says, asked_count, is_answer, heard, HasAccepted, AcceptsAtQuorum, ClientsAccept}
 use Rattle.mb_results.proofs.Tallies.{AreDistinct, tally_none, none_said, some_said, said_more, said_new, said_other, said_same, count_is_tally}
-use Rattle.mb_results.proofs.Turns.{Turns, TakesNow, after_turns}
+use Rattle.mb_results.proofs.Turns.{Turns, after_turns}
 
 module _ {S : Type 0} (system : System S) (c : ℕ) where
   abbrev s : Schedule

@@ -14,7 +14,7 @@ use Rattle.mb_model.proofs.ServiceLaws.{each_length, table_length}
 use Rattle.mb_theory.specs.World.{World, System}
 use Rattle.mb_theory.specs.Safety.{after_line, after_requests, IsSafe, StandsAt, IsBefore}
 use Rattle.mb_theory.proofs.Lists.{get_there}
-use Rattle.mb_results.specs.Sequential.{state_before, IsAnswer}
+use Rattle.mb_results.specs.Sequential.{IsAnswer}
 use Rattle.mb_results.proofs.States.{next_within, next_slot, state_within}
 
 -- ---- one request
