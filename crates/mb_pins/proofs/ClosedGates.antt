@@ -43,7 +43,7 @@ module _ {S : Type 0} (self : Identity S) where
   shut_more ev (Accepted m) d c p h x closed = let low = p h x closed in let more = longer (by_host h (as_stamped m)) (taken_of d h) in omega (arith, low, more)
   shut_more ev (Stamped m) d c p h x closed = let low = p h x closed in let more = longer (by_host h (Some m)) (taken_of d h) in omega (arith, low, more)
   shut_more (event.Given bytes) (Jumped g f) d (inr (m, reads, (l, is, shows))) p h x closed = elim (cases_Bool (eqb g h)) [
-    | inl same ↦ absurd (some_none x (sym (ap (closed_at d) (sym (eqb-true g h same)) ∙ closed) ∙ shows.free))
+    | inl same ↦ absurd (some_none x (sym closed ∙ ap (closed_at d) (sym (eqb-true g h same)) ∙ shows.free))
     | inr other ↦ rw other (p h x closed)
   ]
   shut_more event.Patience (Jumped g f) d (inr is) p h x closed = absurd cc

@@ -34,7 +34,7 @@ use Rattle.mb_theory.specs.FaultyHosts.{stamp_some, stamp_content, stamp_bytes, 
 use Rattle.mb_theory.specs.WorldSteps.{where_faulty, with_message, stamps_some, happens}
 use Rattle.mb_theory.specs.EventsStep.{arrival}
 use Rattle.mb_theory.specs.Stops.{delivered}
-use Rattle.mb_known.proofs.Cases.{some_is, not_both}
+use Rattle.mb_known.proofs.Cases.{some_is, none_some, not_both}
 use Rattle.mb_line.proofs.Executions.{in_parts}
 use Rattle.mb_pins.specs.WorldAdds.{IsStringOf, IsStateString, IsTagged, IsStepOf, IsNoStep, request_for, IsHashedNow, StampsNow, ExtendsLine, sent_by, AddsNoMore, EventsAddNoMore}
 use Rattle.mb_pins.proofs.Strings.{IsNoted, step_noted}
@@ -487,15 +487,11 @@ module _ {S : Type 0} (system : System S) where
       same a b f = ap (λ (p : ℕ × Event). p.0) (some_is a b f)
 
       go : (o : Option (ℕ × Event)) → arrival w e ≡ o → IsSomeStep ⊎ IsNoStep system w e
-      go None is = inr (λ h x k. let f : None ≡ Some (h, x) = sym is ∙ k.0 in absurd cc)
+      go None is = inr (λ h x k. none_some {A = ℕ × Event} (h, x) (sym is ∙ k.0))
       go (Some p) is = elim (cases_Bool (is_faulty s p.0)) [
         | inr correct ↦ inl (p.0, p.1, (is, correct))
         | inl faulty ↦ inr (λ h x k. not_both (is_faulty s h) (subst (λ (n : ℕ). is_faulty s n ≡ true) (same p (h, x) (sym is ∙ k.0)) faulty) k.1)
       ]
-
-    -- One thing comes, to one host.
-    one_step : (g h : ℕ) (y x : Event) → IsStepOf system w e g y → IsStepOf system w e h x → (g ≡ h) × (y ≡ x)
-    one_step g h y x k l = let f = some_is (g, y) (h, x) (sym k.0 ∙ l.0) in (ap (λ (p : ℕ × Event). p.0) f, ap (λ (p : ℕ × Event). p.1) f)
 
     step_at : (h : ℕ) (x : Event) → IsStepOf system w e h x → IsStepped w h x (happens system w e)
     step_at h x k = stepped_so w e h x k
@@ -528,7 +524,7 @@ module _ {S : Type 0} (system : System S) where
     comes_so : (f : WorldEvent) (h : ℕ) (bytes : Bytes) → arrival w f ≡ Some (h, event.Given bytes) → is_faulty s h ≡ false → delivered s w f ≡ Some bytes
     comes_so (Give m g) h bytes at correct = go (numbered w.pool m) refl at where
       parts : (a b : ℕ) (x y : Bytes) → (let p : Option (ℕ × Event) = Some (a, event.Given x) in let q : Option (ℕ × Event) = Some (b, event.Given y) in p ≡ q) → (a ≡ b) × (x ≡ y)
-      parts a b x y e = let f = some_is (a, event.Given x) (b, event.Given y) e in (ap (λ (p : ℕ × Event). p.0) f, given_same x y (ap (λ (p : ℕ × Event). p.1) f)) where
+      parts a b x y e = let f = some_is {A = ℕ × Event} (a, event.Given x) (b, event.Given y) e in (ap (λ (p : ℕ × Event). p.0) f, given_same x y (ap (λ (p : ℕ × Event). p.1) f)) where
         given_same : (x y : Bytes) → event.Given x ≡ event.Given y → x ≡ y
         given_same x y e = cc
 
@@ -541,7 +537,7 @@ module _ {S : Type 0} (system : System S) where
 
       go : (g h : ℕ) (b bytes : Bytes) → (let p : Option (ℕ × Event) = Some (g, event.Given b) in let q : Option (ℕ × Event) = Some (h, event.Given bytes) in p ≡ q) → is_faulty s h ≡ false → delivered s w (Raw (name.Host g) b) ≡ Some bytes
       go g h b bytes at correct =
-          let f = some_is (g, event.Given b) (h, event.Given bytes) at in
+          let f = some_is {A = ℕ × Event} (g, event.Given b) (h, event.Given bytes) at in
           let host : g ≡ h = ap (λ (p : ℕ × Event). p.0) f in
           rw (subst (λ (k : ℕ). is_faulty s k ≡ false) (sym host) correct) (ap (λ (y : Bytes). Some y) (given_same b bytes (ap (λ (p : ℕ × Event). p.1) f)))
     comes_so (Patience g) h bytes at correct = absurd cc
