@@ -19,7 +19,7 @@ use Rattle.mb_model.specs.Positions.{slot_in, slot_at, in_window}
 use Rattle.mb_model.specs.Execution.{state_of, pending, if_above, if_fresh, if_restored, state_from}
 use Rattle.mb_model.specs.Passed.{PassesRequest}
 use Rattle.mb_model.specs.EnabledRules.{number_of, greatest, greatest_in, number_in_slot, greatest_in_slots, window, unordered_of, unordered}
-use Rattle.mb_model.proofs.Members.{In, in_contained, contained, in_left, in_right}
+use Rattle.mb_model.proofs.Members.{In, in_contained, contained, in_left, in_right, in_map}
 use Rattle.mb_model.proofs.Options.{option_cases, if_some}
 use Rattle.mb_searches.proofs.Executing.{pending_client}
 use Rattle.mb_steps.proofs.StepArises.{Arises}
@@ -158,15 +158,11 @@ module _ {S : Type 0} (self : Identity S) (d : History) where
       let near = inside.near in
       let held : slot_at self d p ≡ Some k = slot_held self d p k inside has.0.1 in
       let place : In (window self d) p = in_range (low_of self d + 1) (span self.shape) p (omega (arith, above)) (omega (arith, near)) in
-      let all : number_in_slot self d c p ≤ greatest (map (number_in_slot self d c) (window self d)) = at_most (map (number_in_slot self d c) (window self d)) (number_in_slot self d c p) (in_mapped (number_in_slot self d c) (window self d) p place) in
+      let all : number_in_slot self d c p ≤ greatest (map (number_in_slot self d c) (window self d)) = at_most (map (number_in_slot self d c) (window self d)) (number_in_slot self d c p) (in_map (number_in_slot self d c) (window self d) p place) in
       let here : number_in_slot self d c p ≡ greatest (map (number_of c) b.requests) = rw (held, has.1) refl in
-      let one : number_of c q ≤ greatest (map (number_of c) b.requests) = at_most (map (number_of c) b.requests) (number_of c q) (in_mapped (number_of c) b.requests q (in_contained b.requests q there)) in
+      let one : number_of c q ≤ greatest (map (number_of c) b.requests) = at_most (map (number_of c) b.requests) (number_of c q) (in_map (number_of c) b.requests q (in_contained b.requests q there)) in
       let own : number_of c q ≡ q.seq = rw (eq-eqb q.client c client) refl in
-      omega (arith, low, all, here, one, own) where
-        in_mapped : {A : Type 0} (f : A → ℕ) (l : List A) (x : A) → In l x → In (map f l) (f x)
-        in_mapped f [] x i = absurd i
-        in_mapped f (y ∷ l) x (inl is) = inl (ap f is)
-        in_mapped f (y ∷ l) x (inr i) = inr (in_mapped f l x i)
+      omega (arith, low, all, here, one, own)
 
 -- ---- a request that waits is fresh
 

@@ -70,7 +70,7 @@ use Rattle.mb_pins.proofs.ClosedGates.{IsShut, AreShut, shut_at, shut_past}
 
 -- a fault that was looked for where a body is whole
 whole_none : {B : Type 0} (f : B → Option Fault) (body : Body B) (b : B) → option_and_then f (whole_body body) ≡ None → body ≡ Whole b → f b ≡ None
-whole_none f body b none is = subst (λ (x : Body B). option_and_then f (whole_body x) ≡ None) is none
+whole_none {B = B} f body b none is = subst (λ (x : Body B). option_and_then f (whole_body x) ≡ None) is none
 
 map_none : {A B : Type 0} (f : A → B) (o : Option A) → option_map f o ≡ None → o ≡ None
 map_none f None e = refl
