@@ -131,8 +131,8 @@ module _ {A : Type 0} where
             subst (λ (k : ℕ). slice_get (reverse (take k (m ∷ l))) 0 ≡ Some x) place
             (subst (λ (t : List A). slice_get t 0 ≡ Some x) (sym (reverse-append (m ∷ []) (take (n - i) l))) (get_more (reverse (take (n - i) l)) (m ∷ []) 0 x before))
         | inr (last, is) ↦
-            let place : 1 ≡ suc n - i = omega (arith, last, many) in
-            subst (λ (k : ℕ). slice_get (reverse (take k (m ∷ l))) 0 ≡ Some x) place (ap (λ (y : A). Some y) is)
+            let place : suc n - i ≡ 1 = omega (arith, last, many) in
+            subst (λ (k : ℕ). slice_get (reverse (take k (m ∷ l))) 0 ≡ Some x) (sym place) (ap (λ (y : A). Some y) is)
       ]
 
 repeated : (c n : ℕ) → unwrap_or (slice_get (replicate (suc n) c) n) 0 ≡ c

@@ -175,8 +175,8 @@ module _ {S : Type 0} (self : Identity S) where
         let faulty : IsFaulty self m f.0.0 f.0.1 = faulty_so m f.0 f.1 in
         inr (f.0.0, subst (λ (n : ℕ). IsFaulty self m f.0.0 n) f.2 faulty)
     | inr none ↦
-        let ten : 10 ≡ reason = some_is 10 reason (rw none at e) in
-        inl (sym ten, λ view right. not_both (is_member self v m) (and_from (m.view == v) _ (eq-eqb m.view v view) (certified self (stamped.ViewChange m) right)) none)
+        let ten : reason ≡ 10 = sym (some_is {A = ℕ} 10 reason (rw none at e)) in
+        inl (ten, λ view right. not_both (is_member self v m) (and_from (m.view == v) _ (eq-eqb m.view v view) (certified self (stamped.ViewChange m) right)) none)
   ]
 
   first_no_member : (v i : ℕ) (l : List ViewChange) (f : Fault) → members_fault self v i l ≡ Some f → (j : ℕ) × (x : ViewChange) × (slice_get l j ≡ Some x) × (f.0 ≡ i + j) × IsNoMember self v x f.1

@@ -12,6 +12,9 @@ use Rattle.mb_model.proofs.PlanLaws.{one_more}
 use Rattle.mb_steps.proofs.StepPotential.{tally_same}
 use Rattle.mb_results.specs.Accepts.{first_of}
 
+abbrev one_if : Bool → ℕ
+one_if b = cond b 1 0
+
 -- They are of different hosts.
 abbrev pub AreDistinct : List Reply → Type 0
 AreDistinct [] = Unit {0}
@@ -79,16 +82,16 @@ module _ (q : Option Reply → Bool) (none : q None ≡ false) where
       | inr other ↦ rw other (ap q (or_nothing (p h)))
     ]
 
-    one_put : (n : ℕ) → x.host < n → tally (λ h. q (put h)) n ≡ cond (q (Some x)) 1 0 + tally (λ h. q (p h)) n
+    one_put : (n : ℕ) → x.host < n → tally (λ h. q (put h)) n ≡ one_if (q (Some x)) + tally (λ h. q (p h)) n
     one_put n lt = elim (cases_Bool (q (Some x))) [
       | inl passes ↦
           let many = tally_same (λ h. q (put h)) (λ h. (x.host == h) || q (p h)) n (here_too passes) in
           let more = one_more (λ h. q (p h)) x.host n (ap q new ∙ none) lt in
-          let one : cond (q (Some x)) 1 0 ≡ 1 = rw passes refl in
+          let one : one_if (q (Some x)) ≡ 1 = ap one_if passes in
           omega (arith, many, more, one)
       | inr fails ↦
           let many = tally_same (λ h. q (put h)) (λ h. q (p h)) n (not_here fails) in
-          let zeroth : cond (q (Some x)) 1 0 ≡ 0 = rw fails refl in
+          let zeroth : one_if (q (Some x)) ≡ 0 = ap one_if fails in
           omega (arith, many, zeroth)
     ]
 
@@ -96,7 +99,7 @@ module _ (q : Option Reply → Bool) (none : q None ≡ false) where
   unfolding first_of
   count_is_tally [] n d a = sym (tally_none (λ h. q None) n (λ h. none))
   count_is_tally (x ∷ l) n d a =
-      let list = sum_by-cons (λ (y : Reply). cond (q (Some y)) 1 0) x l in
+      let list = sum_by-cons (λ (y : Reply). one_if (q (Some y))) x l in
       let rest = count_is_tally l n d.1 a.1 in
       let more = one_put (first_of l) x d.0 n a.0 in
       omega (arith, list, rest, more)

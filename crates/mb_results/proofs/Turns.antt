@@ -26,6 +26,9 @@ use Rattle.mb_theory.specs.FaultyHosts.{stamp_some, stamp_content, stamp_bytes, 
 use Rattle.mb_theory.specs.WorldSteps.{where_faulty, with_message, stamps_some, happens, after}
 use Rattle.mb_results.specs.Accepts.{asked_count, answer_in, hears}
 
+abbrev one_if : Bool → ℕ
+one_if b = cond b 1 0
+
 module _ {S : Type 0} (system : System S) (c : ℕ) (w : World) where
   abbrev s : Schedule
   s = system.schedule
@@ -132,16 +135,16 @@ module _ {S : Type 0} (system : System S) (c : ℕ) (w : World) where
     unfolding happens
     asks_turn op l =
         let r : Request = request_of s c ((w.askers c).number + 1) op in
-        let list = sum_by-cons (λ (q : Request). cond (q.client == c) 1 0) r w.asked in
-        let one : cond (c == c) 1 0 ≡ 1 = rw (eq-eqb c c refl) refl in
+        let list = sum_by-cons (λ (q : Request). one_if (q.client == c)) r w.asked in
+        let one : one_if (c == c) ≡ 1 = ap one_if (eq-eqb c c refl) in
         inr (inl (record { asker = rw (eq-eqb c c refl) refl; count = omega (arith, list, one); heard = refl }))
 
     other_asks : (d : ℕ) (op : Bytes) (l : List Reply) → (d ≡ c → ⊥) → Turns (happens system w (Ask d op)) l l
     unfolding happens
     other_asks d op l other =
         let r : Request = request_of s d ((w.askers d).number + 1) op in
-        let list = sum_by-cons (λ (q : Request). cond (q.client == c) 1 0) r w.asked in
-        let none : cond (d == c) 1 0 ≡ 0 = rw (ne_eqb d c other) refl in
+        let list = sum_by-cons (λ (q : Request). one_if (q.client == c)) r w.asked in
+        let none : one_if (d == c) ≡ 0 = ap one_if (ne_eqb d c other) in
         inl (record { asker = rw (ne_eqb c d (λ e. other (sym e))) refl; count = omega (arith, list, none); heard = refl })
 
     any_asks : (d : ℕ) (op : Bytes) (l : List Reply) → Turns (happens system w (Ask d op)) l (if d == c then [] else l)
