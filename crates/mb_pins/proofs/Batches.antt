@@ -86,11 +86,11 @@ module _ (f : ℕ → Option Request) (own : (c : ℕ) (r : Request) → f c ≡
   found_is [] r i = absurd i
   found_is (a ∷ l) r i = elim (option_cases (f a)) [
     | inl none ↦ let x = found_is l r (rw none at i) in (x.0, inr x.1, x.2)
-    | inr (q, some) ↦ first q some (rw some at i)
+    | inr (q, some) ↦ first q some (λ j. found_is l r j) (rw some at i)
   ] where
-    first : (q : Request) → f a ≡ Some q → In (q ∷ filter_map f l) r → (c : ℕ) × (In (a ∷ l) c) × (f c ≡ Some r)
-    first q some (inl is) = (a, inl refl, some ∙ ap (λ (x : Request). Some x) is)
-    first q some (inr j) = let x = found_is l r j in (x.0, inr x.1, x.2)
+    first : (q : Request) → f a ≡ Some q → (In (filter_map f l) r → (c : ℕ) × (In l c) × (f c ≡ Some r)) → In (q ∷ filter_map f l) r → (c : ℕ) × (In (a ∷ l) c) × (f c ≡ Some r)
+    first q some more (inl is) = (a, inl refl, some ∙ ap (λ (x : Request). Some x) is)
+    first q some more (inr j) = let x = more j in (x.0, inr x.1, x.2)
 
   is_found : (l : List ℕ) (c : ℕ) (r : Request) → In l c → f c ≡ Some r → In (filter_map f l) r
   is_found [] c r i e = absurd i
@@ -315,8 +315,8 @@ module _ {S : Type 0} (self : Identity S) (d : History) (arises : Arises self d)
 
 orders_in_turn : {S : Type 0} (self : Identity S) (d : History) → Arises self d → ((later before : History) (m : Prepare) (b : Batch) → d ≡ later ++ Stamped (stamped.Prepare m) ∷ before → m.body ≡ Whole b → IsFull (unordered self before) b) → OrdersAllInTurn self d
 orders_in_turn self d arises full later before m b is whole =
-    let then : Arises self before = (arises_by self later (Stamped (stamped.Prepare m) ∷ before) (subst (λ (h : History). Arises self h) is arises)).1 in
-    in_turn self before then b (full later before m b is whole)
+    let earlier : Arises self before = (arises_by self later (Stamped (stamped.Prepare m) ∷ before) (subst (λ (h : History). Arises self h) is arises)).1 in
+    in_turn self before earlier b (full later before m b is whole)
 
 pub hosts_order_in_turn : (S : Type 0) → HostsOrderInTurn S
 hosts_order_in_turn S system k h = orders_in_turn (self_of system h) ((world system k).histories h) (world_arises system k h) (orders_all_that_fit system k h)

@@ -330,8 +330,8 @@ module _ {S : Type 0} (self : Identity S) (d : History) where
   pub only_valid : Arises self d → AreShut d → AcceptsOnlyValid self d
   only_valid arises shut later before m n is =
       let p = was_passed later before m is arises in
-      let then : AreShut before = (shut_past later (Accepted m ∷ before) (subst AreShut is shut)).1 in
-      valid_so self before m (no_log before m n) (steady self before p.1).list.own (shut_at before then) p.0
+      let earlier : AreShut before = (shut_past later (Accepted m ∷ before) (subst AreShut is shut)).1 in
+      valid_so self before m (no_log before m n) (steady self before p.1).list.own (shut_at before earlier) p.0
 
   pub only_valid_logs : Arises self d → AcceptsOnlyValidLogs self d
   only_valid_logs arises later before m is = log_so self m (was_passed later before (message.Log m) is arises).0

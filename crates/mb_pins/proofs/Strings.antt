@@ -19,6 +19,7 @@ use Rattle.mb_msg.specs.declared.change.ChangeBody.{ChangeBody}
 use Rattle.mb_msg.specs.declared.change.NewViewBody.{NewViewBody}
 use Rattle.mb_msg.specs.declared.change.ViewChange.{ViewChange}
 use Rattle.mb_msg.specs.declared.change.ReqViewChange.{ReqViewChange}
+use Rattle.mb_msg.specs.declared.change.Plan.{Plan}
 use Rattle.mb_msg.specs.declared.transfer.Resend.{Resend}
 use Rattle.mb_msg.specs.declared.transfer.Log.{Log}
 use Rattle.mb_msg.specs.declared.transfer.Fetch.{Fetch}
@@ -36,16 +37,16 @@ use Rattle.mb_msg.specs.Plans.{plan_text}
 use Rattle.mb_msg.specs.Reading.{message_of}
 use Rattle.mb_msg.specs.Stamps.{ui_of}
 use Rattle.mb_model.specs.States.{digest_string, part_digests}
-use Rattle.mb_model.specs.UsableLogs.{floor_of}
+use Rattle.mb_model.specs.UsableLogs.{is_comparable_body, floor_of}
 use Rattle.mb_model.specs.Histories.{Accepted, History, Identity, view_of, closed_at, gate}
-use Rattle.mb_model.specs.Held.{view_limit, wish_of, plan_from}
+use Rattle.mb_model.specs.Held.{view_limit, wish_of, is_current, plan_from}
 use Rattle.mb_model.specs.OwnLog.{has_room}
 use Rattle.mb_model.specs.Execution.{missing}
-use Rattle.mb_model.specs.Compared.{strings_where, inside_some, compared_in_open, compared_in_entry, compared_in_entries, compared_in_body, compared_in_change, compared_in_members, compared_in_new_view, compared_in_kind, compared_in}
+use Rattle.mb_model.specs.Compared.{strings_where, inside_some, reaches_body, fault_at, reaches_entries, compared_in_open, compared_in_entry, compared_in_entries, compared_in_body, compared_in_change, compared_in_members, compared_in_new_view, compared_in_kind, compared_in}
 use Rattle.mb_model.specs.Sending.{Progress, begin, write, note, stamp, signed}
 use Rattle.mb_model.specs.Making.{present_parts, view_change, new_view, opening}
-use Rattle.mb_model.specs.GateChecks.{valid}
-use Rattle.mb_model.specs.KindChecks.{stamped_refusal}
+use Rattle.mb_model.specs.GateChecks.{valid, identifier_refusal}
+use Rattle.mb_model.specs.KindChecks.{is_member, member_fault, members_fault, stamped_refusal}
 use Rattle.mb_model.specs.PlainChecks.{request_refusal, wish_refusal, resend_refusal, log_refusal, fetch_refusal, state_refusal}
 use Rattle.mb_model.specs.EnabledRules.{Rule}
 use Rattle.mb_model.specs.EnabledRules as rule
@@ -77,8 +78,16 @@ module _ {S : Type 0} (self : Identity S) where
   plans_some f (Some b) all = all b
   plans_some f None all = tt
 
+  plans_both : (a b : List Bytes) → ArePlans a → ArePlans b → ArePlans (a ++ b)
+  plans_both a b x y = all_append IsPlanString a b x y
+
+  one_plan : (p : Plan) → ArePlans (plan_text p ∷ [])
+  one_plan p = ((p, refl), tt)
+
   in_open : (e : Evidence) (b : OpenBody) → ArePlans (compared_in_open self e b)
-  in_open e b = plans_where _ _ ((record { base = b.stable; batches = b.batches }, refl), tt)
+  in_open e b =
+      let p : Plan = record { base = b.stable; batches = b.batches } in
+      plans_where (is_comparable_body self.shape self.secret (valid self) e.base e.end b) (plan_text p ∷ []) (one_plan p)
 
   in_entry : (e : Shown) → ArePlans (compared_in_entry self e)
   in_entry (shown.Open m) = plans_whole (compared_in_open self m.evidence) m.body (in_open m.evidence)
@@ -87,10 +96,17 @@ module _ {S : Type 0} (self : Identity S) where
   in_entries : (host stable : ℕ) (o : Floor) (before l : List Shown) → ArePlans (compared_in_entries self host stable o before l)
   unfolding compared_in_entries
   in_entries host stable o before [] = tt
-  in_entries host stable o before (e ∷ behind) = all_append IsPlanString _ _ (plans_where _ _ (in_entry e)) (plans_where _ _ (in_entries host stable o (e ∷ before) behind))
+  in_entries host stable o before (e ∷ behind) =
+      let fault : Option ℕ = fault_at self host stable o before e behind in
+      let later : List Bytes = compared_in_entries self host stable o (e ∷ before) behind in
+      plans_both (strings_where (reaches_body fault) (compared_in_entry self e)) (strings_where (is_none fault) later)
+      (plans_where (reaches_body fault) (compared_in_entry self e) (in_entry e)) (plans_where (is_none fault) later (in_entries host stable o (e ∷ before) behind))
 
   in_body : (host : ℕ) (b : ChangeBody) → ArePlans (compared_in_body self host b)
-  in_body host b = plans_where _ _ (plans_some (λ (o : Floor). compared_in_entries self host b.stable.pos o [] b.entries) (floor_of self.shape (valid self) host b.floor) (λ o. in_entries host b.stable.pos o [] b.entries))
+  in_body host b =
+      let entries : Floor → List Bytes = λ o. compared_in_entries self host b.stable.pos o [] b.entries in
+      let o : Option Floor = floor_of self.shape (valid self) host b.floor in
+      plans_where (reaches_entries self b) (inside_some entries o) (plans_some entries o (λ f. in_entries host b.stable.pos f [] b.entries))
 
   in_change : (m : ViewChange) → ArePlans (compared_in_change self m)
   in_change m = plans_whole (compared_in_body self m.ui.host) m.body (in_body m.ui.host)
@@ -98,20 +114,26 @@ module _ {S : Type 0} (self : Identity S) where
   in_members : (view : ℕ) (l : List ViewChange) → ArePlans (compared_in_members self view l)
   unfolding compared_in_members
   in_members view [] = tt
-  in_members view (m ∷ l) = all_append IsPlanString _ _ (plans_where _ _ (in_change m)) (plans_where _ _ (in_members view l))
+  in_members view (m ∷ l) =
+      let later : List Bytes = compared_in_members self view l in
+      plans_both (strings_where (is_member self view m) (compared_in_change self m)) (strings_where (is_none (member_fault self view m)) later)
+      (plans_where (is_member self view m) (compared_in_change self m) (in_change m)) (plans_where (is_none (member_fault self view m)) later (in_members view l))
 
   in_new_view : (view : ℕ) (b : NewViewBody) → ArePlans (compared_in_new_view self view b)
-  in_new_view view b = all_append IsPlanString _ _ (in_members view b.changes) (plans_where _ _ ((plan_from self b.changes, refl), tt))
+  in_new_view view b =
+      let whole : Bool = is_none (members_fault self view 0 b.changes) in
+      let plan : List Bytes = plan_text (plan_from self b.changes) ∷ [] in
+      plans_both (compared_in_members self view b.changes) (strings_where whole plan) (in_members view b.changes) (plans_where whole plan (one_plan (plan_from self b.changes)))
 
   in_kind : (d : History) (m : StampedMessage) → ArePlans (compared_in_kind self d m)
-  in_kind d (stamped.ViewChange m) = plans_where _ _ (in_change m)
-  in_kind d (stamped.NewView m) = plans_where _ _ (plans_whole (compared_in_new_view self m.view) m.body (in_new_view m.view))
-  in_kind d (stamped.Open m) = plans_where _ _ (plans_whole (compared_in_open self m.evidence) m.body (in_open m.evidence))
+  in_kind d (stamped.ViewChange m) = plans_where (is_current self d m.view) (compared_in_change self m) (in_change m)
+  in_kind d (stamped.NewView m) = plans_where (is_current self d m.view) (inside_whole (compared_in_new_view self m.view) m.body) (plans_whole (compared_in_new_view self m.view) m.body (in_new_view m.view))
+  in_kind d (stamped.Open m) = plans_where (is_current self d m.evidence.view) (inside_whole (compared_in_open self m.evidence) m.body) (plans_whole (compared_in_open self m.evidence) m.body (in_open m.evidence))
   in_kind d m = tt
 
   in_given : (d : History) (m : StampedMessage) → ArePlans (compared_in self d m)
   unfolding compared_in
-  in_given d m = plans_where _ _ (in_kind d m)
+  in_given d m = plans_where (is_none (identifier_refusal self d m)) (compared_in_kind self d m) (in_kind d m)
 
   in_own : (m : StampedMessage) → ArePlans (compared_in_own self m)
   in_own (stamped.ViewChange m) = in_change m
@@ -265,9 +287,9 @@ module _ {S : Type 0} (self : Identity S) where
   unfolding carry_out
   carried_noted (rule.ChangeView view) x q =
       noted (compared_in_own self (signed self x.history (view_change self x.history view))) (stamp self (view_change self x.history view) x) (in_own (signed self x.history (view_change self x.history view))) q
-  carried_noted (rule.Announce changes) x q = noted (plan_text (plan_from self changes) ∷ []) (stamp self (new_view self x.history changes) x) ((plan_from self changes, refl), tt) q
+  carried_noted (rule.Announce changes) x q = noted (plan_text (plan_from self changes) ∷ []) (stamp self (new_view self x.history changes) x) (one_plan (plan_from self changes)) q
   carried_noted (rule.Enter n) x q = q
-  carried_noted (rule.Open e plan) x q = noted (plan_text plan ∷ []) (stamp self (opening e plan) x) ((plan, refl), tt) q
+  carried_noted (rule.Open e plan) x q = noted (plan_text plan ∷ []) (stamp self (opening e plan) x) (one_plan plan) q
   carried_noted rule.Join x q = q
   carried_noted (rule.Commit pos k b) x q = q
   carried_noted (rule.Execute pos b) x q = executed_noted pos b x q

@@ -50,7 +50,7 @@ use Rattle.mb_model.specs.Execution.{state_from, parts_held, missing}
 use Rattle.mb_model.specs.Sending.{Progress, begin, write, next_of}
 use Rattle.mb_model.specs.GateChecks.{valid, is_bad_ui, conviction, is_permitted, gate_refusal, identifier_refusal}
 use Rattle.mb_model.specs.KindChecks.{unusable, only_where, is_of_view, has_bad_tag, is_badly_tagged, body_refusal, vote_refusal, is_member, member_fault, members_fault, announces, new_view_fault, is_body_of, opening_fault, kind_refusal, stamped_refusal}
-use Rattle.mb_model.specs.PlainChecks.{string_at, wrong_part, wrong_digest, last_seq, number_refusal, request_refusal, wish_refusal, resend_refusal, is_certified_floor, is_certified_evidence, log_refusal, fetch_refusal, is_list_right, fault_of, state_refusal, is_bad_stop, stop_answer}
+use Rattle.mb_model.specs.PlainChecks.{has_news_for, string_at, wrong_part, wrong_digest, last_seq, number_refusal, request_refusal, wish_refusal, resend_refusal, is_certified_floor, is_certified_evidence, log_refusal, fetch_refusal, is_list_right, fault_of, state_refusal, is_bad_stop, stop_answer}
 use Rattle.mb_model.specs.Given.{Answer, floor_shown, jump, go_on, answer_request, answer_state, give_stamped, give_request, give_wish, give_resend, give_fetch, give_state, give_entries, give_log, give}
 use Rattle.mb_model.specs.HostStep.{rules_follow, asks_on, finished_where, on_bytes, transition}
 use Rattle.mb_model.proofs.Options.{option_cases, or_some, if_some}
@@ -289,7 +289,11 @@ module _ {S : Type 0} (self : Identity S) where
 
     resend_why : (m : Resend) → Each (Tells self d (message.Resend m)) (resend_refusal self d m)
     unfolding resend_refusal
-    resend_why m = let M : Message = message.Resend m in each_or (Tells self d M) _ _ (each_then (Tells self d M) _ outcome.Idle (λ idle. tt)) (each_then (Tells self d M) _ outcome.Idle (λ idle. tt))
+    resend_why m =
+        let own : Option Outcome = then_some (m.host == self.host) outcome.Idle in
+        let none : Option Outcome = then_some (not (has_news_for self d m)) outcome.Idle in
+        each_or (Tells self d (message.Resend m)) own none (each_then (Tells self d (message.Resend m)) (m.host == self.host) outcome.Idle (λ idle. tt))
+        (each_then (Tells self d (message.Resend m)) (not (has_news_for self d m)) outcome.Idle (λ idle. tt))
 
     fetch_why : (m : Fetch) → Each (Tells self d (message.Fetch m)) (fetch_refusal self d m)
     fetch_why m = each_then (Tells self d (message.Fetch m)) _ outcome.Idle (λ idle. tt)

@@ -111,11 +111,11 @@ all_tagged (k ∷ ls) t l (inl is) kind =
 
 string_of : (s : Schedule) (m : Message) (x : Bytes) → In (strings_in s.shape m) x → IsStringOf s m x
 unfolding strings_in
-string_of s m x i = elim (in_parts (map request_bytes (requests_in m)) (bodies_in m ++ map (λ (c : Claim). bare_bytes c.says) (claims_in s.shape m)) x i) [
-  | inl request ↦ let r = map_from request_bytes (requests_in m) x request in inl (r.0, contained (requests_in m) r.0 r.1, r.2)
-  | inr other ↦ elim (in_parts (bodies_in m) (map (λ (c : Claim). bare_bytes c.says) (claims_in s.shape m)) x other) [
-    | inl body ↦ inr (inl (contained (bodies_in m) x body))
-    | inr bare ↦ let c = map_from (λ (c : Claim). bare_bytes c.says) (claims_in s.shape m) x bare in inr (inr (c.0, contained (claims_in s.shape m) c.0 c.1, c.2))
+string_of s m x i = elim (in_parts (map request_bytes (requests_in m) ++ bodies_in m) (map (λ (c : Claim). bare_bytes c.says) (claims_in s.shape m)) x i) [
+  | inr bare ↦ let c = map_from (λ (c : Claim). bare_bytes c.says) (claims_in s.shape m) x bare in inr (inr (c.0, contained (claims_in s.shape m) c.0 c.1, c.2))
+  | inl other ↦ elim (in_parts (map request_bytes (requests_in m)) (bodies_in m) x other) [
+    | inl request ↦ let r = map_from request_bytes (requests_in m) x request in inl (r.0, contained (requests_in m) r.0 r.1, r.2)
+    | inr body ↦ inr (inl (contained (bodies_in m) x body))
   ]
 ]
 
@@ -175,8 +175,12 @@ module _ {S : Type 0} (system : System S) where
       histories : (g : ℕ) → (g ≡ h → ⊥) → v.histories g ≡ w.histories g
       hashed : (y : Bytes) → In v.hashed y → In w.hashed y ⊎ IsOfStep y
 
-    step_strings : (y : Bytes) → In (left.hashed ++ letter_strings) y → IsOfStep y
-    step_strings y i = elim (in_parts left.hashed letter_strings y i) [ inl own ↦ inr (inl own) | inr sent ↦ inr (inr sent) ]
+    -- of the strings behind those before the step
+    step_strings : (before : List Bytes) (y : Bytes) → In ((before ++ left.hashed) ++ letter_strings) y → In before y ⊎ IsOfStep y
+    step_strings before y i = elim (in_parts (before ++ left.hashed) letter_strings y i) [
+      | inr sent ↦ inr (inr (inr sent))
+      | inl own ↦ elim (in_parts before left.hashed y own) [ inl old ↦ inl old | inr new ↦ inr (inr (inl new)) ]
+    ]
 
   given_stepped : (w : World) (h : ℕ) (bytes : Bytes) → is_faulty s h ≡ false → IsStepped w h (event.Given bytes) (give_host system h bytes w)
   unfolding give_host
@@ -190,8 +194,8 @@ module _ {S : Type 0} (system : System S) where
         others = λ g ne. rw (ne_eqb g h ne) refl;
         history = rw (eq-eqb h h refl) refl;
         histories = λ g ne. rw (ne_eqb g h ne) refl;
-        hashed = λ y i. elim (in_parts (w.hashed ++ given_strings s bytes) ((left w h x).hashed ++ letter_strings w h x) y i) [
-          | inr own ↦ inr (step_strings w h x y own)
+        hashed = λ y i. elim (step_strings w h x (w.hashed ++ given_strings s bytes) y i) [
+          | inr own ↦ inr own
           | inl before ↦ elim (in_parts w.hashed (given_strings s bytes) y before) [ inl old ↦ inl old | inr new ↦ inr (inl new) ]
         ];
       })
@@ -211,7 +215,7 @@ module _ {S : Type 0} (system : System S) where
     others = λ g ne. refl;
     history = rw (eq-eqb h h refl) refl;
     histories = λ g ne. rw (ne_eqb g h ne) refl;
-    hashed = λ y i. elim (in_parts w.hashed ((left w h event.Patience).hashed ++ letter_strings w h event.Patience) y i) [ inl old ↦ inl old | inr own ↦ inr (step_strings w h event.Patience y own) ];
+    hashed = λ y i. step_strings w h event.Patience w.hashed y i;
   })
   signal_stepped w h event.Nudge q correct = rw correct (record {
     pool = refl;
@@ -221,7 +225,7 @@ module _ {S : Type 0} (system : System S) where
     others = λ g ne. refl;
     history = rw (eq-eqb h h refl) refl;
     histories = λ g ne. rw (ne_eqb g h ne) refl;
-    hashed = λ y i. elim (in_parts w.hashed ((left w h event.Nudge).hashed ++ letter_strings w h event.Nudge) y i) [ inl old ↦ inl old | inr own ↦ inr (step_strings w h event.Nudge y own) ];
+    hashed = λ y i. step_strings w h event.Nudge w.hashed y i;
   })
 
   moved : (a b : ℕ × Event) (w v : World) → Some a ≡ Some b → (is_faulty s a.0 ≡ false → IsStepped w a.0 a.1 v) → is_faulty s b.0 ≡ false → IsStepped w b.0 b.1 v
@@ -540,8 +544,8 @@ module _ {S : Type 0} (system : System S) where
           let f = some_is {A = ℕ × Event} (g, event.Given b) (h, event.Given bytes) at in
           let host : g ≡ h = ap (λ (p : ℕ × Event). p.0) f in
           rw (subst (λ (k : ℕ). is_faulty s k ≡ false) (sym host) correct) (ap (λ (y : Bytes). Some y) (given_same b bytes (ap (λ (p : ℕ × Event). p.1) f)))
-    comes_so (Patience g) h bytes at correct = absurd cc
-    comes_so (Nudge g) h bytes at correct = absurd cc
+    comes_so (Patience g) h bytes at correct = let other : event.Patience ≡ event.Given bytes = ap (λ (p : ℕ × Event). p.1) (some_is {A = ℕ × Event} (g, event.Patience) (h, event.Given bytes) at) in absurd cc
+    comes_so (Nudge g) h bytes at correct = let other : event.Nudge ≡ event.Given bytes = ap (λ (p : ℕ × Event). p.1) (some_is {A = ℕ × Event} (g, event.Nudge) (h, event.Given bytes) at) in absurd cc
     comes_so (Raw (name.Client c) b) h bytes at correct = absurd cc
     comes_so (Ask c op) h bytes at correct = absurd cc
     comes_so (Take m c) h bytes at correct = absurd cc

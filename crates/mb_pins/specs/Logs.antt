@@ -31,6 +31,10 @@ pub record IsFilled (all some : List StampedMessage) : Type 0 where
   pub short : (length some ≤ 1) ⊎ (bytes_of some ≤ 800000)
   pub full : (m : StampedMessage) (more : List StampedMessage) → rest ≡ m ∷ more → (length some ≡ 64) ⊎ (800000 < bytes_of (some ++ m ∷ []))
 
+-- how long the log of a host was as it stamped the next message, with it, and before what it cuts
+abbrev pub length_with : {S : Type 0} → Identity S → History → ℕ
+length_with self before = length (own_log self before) + 1
+
 module _ {S : Type 0} (self : Identity S) (d : History) where
   -- These are all messages that the host stamped from a counter on, in the forms in which it keeps them.
   pub record AreAllFrom (counter : ℕ) (all : List StampedMessage) : Type 0 where
@@ -53,14 +57,10 @@ module _ {S : Type 0} (self : Identity S) (d : History) where
     pub normal : count_by is_normal (own_log self d) ≤ 6 * interval self.shape
     pub others : count_by (λ m. not (is_normal m)) (own_log self d) ≤ 768
 
-  -- how long the log was as this was stamped, with it, and before what it cuts
-  abbrev pub length_with : History → ℕ
-  length_with before = length (own_log self before) + 1
-
   -- What a report tells is the greatest of these lengths, and 0 where nothing was stamped.
   pub record TellsLongest : Type 0 where
-    pub least : (later before : History) (m : StampedMessage) → d ≡ later ++ Stamped m ∷ before → length_with before ≤ log_longest self d
-    pub reached : (log_longest self d ≡ 0) ⊎ ((later before : History) × (m : StampedMessage) × (d ≡ later ++ Stamped m ∷ before) × (log_longest self d ≡ length_with before))
+    pub least : (later before : History) (m : StampedMessage) → d ≡ later ++ Stamped m ∷ before → length_with self before ≤ log_longest self d
+    pub reached : (log_longest self d ≡ 0) ⊎ ((later before : History) × (m : StampedMessage) × (d ≡ later ++ Stamped m ∷ before) × (log_longest self d ≡ length_with self before))
 
   pub record KeepsLogs : Type 0 where
     pub fills : FillsLogs
