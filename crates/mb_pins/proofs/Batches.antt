@@ -144,7 +144,7 @@ module _ {S : Type 0} (self : Identity S) (d : History) where
         let t = if_some (in_window self d p) (slot_in self d (view_of self d) p) k some in
         let below : AreBelow self d c n b.requests = free p k b ((window_says self d p t.0, t.1), is) in
         all_below (map (number_of c) b.requests) n more (λ m i. let q = mapped (number_of c) b.requests m i in
-          let lt = own_number c n q.0 more (λ own. below q.0 (contained b.requests q.0 q.1) own) in let is = q.2 in omega (arith, lt, is))
+        let lt = own_number c n q.0 more (λ own. below q.0 (contained b.requests q.0 q.1) own) in let is = q.2 in omega (arith, lt, is))
 
   free_below : (c n : ℕ) → 0 < n → IsUnordered self d c n → greatest_in_slots self d c (window self d) < n
   unfolding greatest_in_slots

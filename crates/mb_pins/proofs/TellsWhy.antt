@@ -227,8 +227,8 @@ module _ {S : Type 0} (self : Identity S) where
     vote_why m view pos body vote at bad =
         each_or (Tells self d m) _ _ (each_then (Tells self d m) _ (outcome.LaterView (view_of self d)) (λ later. (refl, view, pos, body, vote, ltb-true (view_of self d) view later)))
         (each_where (Tells self d m) (is_of_view self d view) _ (λ own.
-          each_or (Tells self d m) _ _ (each_then (Tells self d m) _ (outcome.BeyondWindow (low_of self d)) (λ beyond. (refl, pos, at, ltb-true (low_of self d + span self.shape) pos beyond)))
-          (body_why m pos body (subst (λ (v : ℕ). IsVoteOf m v pos body) (sym (eqb-true (view_of self d) view own)) vote) bad)))
+        each_or (Tells self d m) _ _ (each_then (Tells self d m) _ (outcome.BeyondWindow (low_of self d)) (λ beyond. (refl, pos, at, ltb-true (low_of self d + span self.shape) pos beyond)))
+        (body_why m pos body (subst (λ (v : ℕ). IsVoteOf m v pos body) (sym (eqb-true (view_of self d) view own)) vote) bad)))
 
     -- what is unusable, where it is looked for
     unusable_why : (m : Message) (t : Bool) (f : Option Fault) → ((g : Fault) → f ≡ Some g → Tells self d m (outcome.Unusable g.0 g.1)) → Each (Tells self d m) (only_where t (unusable f))
@@ -238,16 +238,19 @@ module _ {S : Type 0} (self : Identity S) where
     unfolding new_view_fault
     new_view_why m g e =
         let t = then_some_of (new_view_fault self m) (whole_body m.body) g e in
-        let b : NewViewBody = t.0 in
-        (b, whole_is m.body b t.1, elim (or_some (members_fault self m.view 0 b.changes) (then_some (not (announces self m (plan_from self b.changes))) (255, 11)) g t.2) [
-          | inl member ↦
-              let r = first_no_member m.view 0 b.changes g member in
-              let index : r.0 ≡ g.0 = let at = r.3 in omega (arith, at) in
-              inl (r.1, subst (λ (k : ℕ). slice_get b.changes k ≡ Some r.1) index r.2, r.4)
-          | inr plan ↦
-              let p = then_is (not (announces self m (plan_from self b.changes))) (255, 11) g plan in
-              inr (sym (ap (λ (f : Fault). f.0) p.1), sym (ap (λ (f : Fault). f.1) p.1), misplanned m b (not_true (announces self m (plan_from self b.changes)) p.0))
-        ])
+        let b : NewViewBody = t.0 in (
+          b,
+          whole_is m.body b t.1,
+          elim (or_some (members_fault self m.view 0 b.changes) (then_some (not (announces self m (plan_from self b.changes))) (255, 11)) g t.2) [
+            | inl member ↦
+                let r = first_no_member m.view 0 b.changes g member in
+                let index : r.0 ≡ g.0 = let at = r.3 in omega (arith, at) in
+                inl (r.1, subst (λ (k : ℕ). slice_get b.changes k ≡ Some r.1) index r.2, r.4)
+            | inr plan ↦
+                let p = then_is (not (announces self m (plan_from self b.changes))) (255, 11) g plan in
+                inr (sym (ap (λ (f : Fault). f.0) p.1), sym (ap (λ (f : Fault). f.1) p.1), misplanned m b (not_true (announces self m (plan_from self b.changes)) p.0))
+          ],
+        )
 
     open_why : (e : Evidence) (body : Body OpenBody) (g : Fault) → option_and_then (opening_fault self e) (whole_body body) ≡ Some g → (b : OpenBody) × (body ≡ Whole b) × (g.0 ≡ 0) × (g.1 ≡ 8) × (is_body_of self e b ≡ false)
     open_why e body g none =
@@ -303,10 +306,14 @@ module _ {S : Type 0} (self : Identity S) where
     unfolding wrong_part
     part_why m i e =
         let t = found_in (λ j. not (same_bytes (sha256 (string_at m.parts (j - m.first))) (string_at m.digests j))) m.first (length m.parts) i e in
-        inr (t.0, t.1, λ p there listed.
-          let here : string_at m.parts (i - m.first) ≡ p = ap (λ (o : Option Bytes). unwrap_or o []) there in
-          let list : string_at m.digests i ≡ sha256 p = ap (λ (o : Option Bytes). unwrap_or o []) listed in
-          not_both (same_bytes (sha256 (string_at m.parts (i - m.first))) (string_at m.digests i)) (true-same_bytes _ _ (ap sha256 here ∙ sym list)) (not_true _ t.2))
+        inr (
+          t.0,
+          t.1,
+          λ p there listed.
+              let here : string_at m.parts (i - m.first) ≡ p = ap (λ (o : Option Bytes). unwrap_or o []) there in
+              let list : string_at m.digests i ≡ sha256 p = ap (λ (o : Option Bytes). unwrap_or o []) listed in
+              not_both (same_bytes (sha256 (string_at m.parts (i - m.first))) (string_at m.digests i)) (true-same_bytes _ _ (ap sha256 here ∙ sym list)) (not_true _ t.2),
+        )
 
     digest_why : (m : StateMsg) (o : Option ℕ) → wrong_part m.digests m.first m.parts ≡ o → Each (Tells self d (message.State m)) (wrong_digest o)
     digest_why m None e = tt

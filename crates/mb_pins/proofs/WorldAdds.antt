@@ -579,13 +579,17 @@ module _ {S : Type 0} (system : System S) where
         let sent : List Letter = (left w h x).sent in
         let r = flat_from (λ (l : Letter). strings_in s.shape l.says) sent y i in
         let l : Letter = r.0 in
-        inl (l.says, record {
-          bytes = spelling l.says;
-          more = map (λ (l : Letter). spelling l.says) sent;
-          added = (step_at h x k).pool;
-          there = contained (map (λ (l : Letter). spelling l.says) sent) (spelling l.says) (in_map (λ (l : Letter). spelling l.says) sent l r.1);
-          is = inl refl;
-        }, string_of s l.says y r.2)
+        inl (
+          l.says,
+          record {
+            bytes = spelling l.says;
+            more = map (λ (l : Letter). spelling l.says) sent;
+            added = (step_at h x k).pool;
+            there = contained (map (λ (l : Letter). spelling l.says) sent) (spelling l.says) (in_map (λ (l : Letter). spelling l.says) sent l r.1);
+            is = inl refl;
+          },
+          string_of s l.says y r.2,
+        )
 
     step_new : (h : ℕ) (x : Event) (y : Bytes) → IsStepOf system w e h x → IsOfStep w h x y → IsNew y
     step_new h x y k (inl given) = brought_new h x y k given

@@ -1,5 +1,5 @@
 -- What a primary orders: of each client the request that waits, from the lowest client on, none left out, and as many as go into one batch.
-use Rattle.std.specs.Prelude.{◌≡◌, ℕ, ◌+◌, ◌≤◌, ◌<◌, ◌⊎◌, [], ◌∷◌, ◌++◌, length, slice_get, Some, Contains}
+use Rattle.std.specs.Prelude.{◌≡◌, ℕ, ◌≤◌, ◌<◌, ◌⊎◌, [], ◌∷◌, ◌++◌, length, slice_get, Some, Contains}
 use Rattle.std.specs.List.{flat_map}
 use Rattle.mb_base.specs.Shapes.{client_count}
 use Rattle.mb_parts.specs.declared.request.Request.{Request}

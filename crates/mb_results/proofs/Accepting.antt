@@ -162,8 +162,8 @@ module _ {S : Type 0} (system : System S) (c : ℕ) where
   still_said : (l : List Reply) (r : Reply) (pos : ℕ) (result : Bytes) → IsSaid l pos result → IsSaid (r ∷ l) pos result
   still_said l r pos result q =
       let more = tally_more (λ h. says pos result (first_of l h)) (λ h. says pos result (first_of (r ∷ l) h)) hosts (λ h e.
-          let y = said_true pos result (first_of l h) e in
-          subst (λ (o : Option Reply). says pos result o ≡ true) (y.1 ∙ sym (said_more l r h y.0 y.1)) e) in
+      let y = said_true pos result (first_of l h) e in
+      subst (λ (o : Option Reply). says pos result o ≡ true) (y.1 ∙ sym (said_more l r h y.0 y.1)) e) in
       omega (arith, q, more)
 
   -- where the new one says something else

@@ -146,7 +146,7 @@ module _ {S : Type 0} (system : System S) (w : World) (safe : IsSafe system w) w
         place = ap (λ (b : LastReply). b.pos) is ∙ (safe.line q slot at).place;
         result = ap (λ (b : LastReply). b.result) is ∙ ap (λ (y : S). m.result y p.request.op) (state_within system w safe q slot i at low short);
       },
-      inr (refl, omega arith)
+      inr (refl, omega arith),
     )
 
     new_known : is_fresh x p.request ≡ true → p.request.client < clients → IsKnown x p.request.client q i → IsKnown next p.request.client q (i + 1)
