@@ -1,6 +1,6 @@
 -- What each operation leaves and answers, by its bytes: a kind, a length of one byte with the key, and values with lengths of two bytes. Results are 0 done, 1
 -- found, 2 no such key, 3 another value, 5 no operation.
-use Rattle.std.proofs.Common.{◌≡◌, ℕ, List, [], ◌∷◌, refl}
+use Rattle.std.proofs.Common.{◌≡◌, [], ◌∷◌, refl}
 use Rattle.mb_base.specs.Shapes.{Bytes}
 use Rattle.mb_base.specs.Spelling.{number}
 use Rattle.mb_base.specs.Reading.{number_in, text_in}
