@@ -24,7 +24,7 @@ use Rattle.mb_edge.specs.Faults.{Rose}
 use Rattle.mb_cluster.specs.Ends.{EndsWell}
 use Rattle.mb_cluster.specs.Nodes.{RunsNodes, EndsAs, spawned}
 use Rattle.mb_answer.specs.Clusters.{run_status, cluster_statuses, HasRisen, RunsCluster, Clusters, TellsBadEnds, IsUnbroken, IsRun}
-use Rattle.mb_answer.proofs.Statuses.{low_is_not}
+use Rattle.mb_answer.proofs.Statuses.{low_no_end}
 use Rattle.mb_answer.proofs.Contained.{any_of}
 use Rattle.mb_answer.specs.Configs.{IsConfigText, RefusesConfig, too_long, bad_line, LacksConfig, lack_statuses, FindsConfig, Uses, used, unused}
 use Rattle.mb_answer.specs.Devices.{Device, LinkState, Devices, IsLow, answered, unread, starved}
@@ -142,7 +142,7 @@ pub ends_none : (status n : ℕ) (well : Type 0) → ¬ (status ≡ 18) → Tell
 ends_none status n well other = record { later = omega arith; rose = λ e. absurd (other e); none = λ w. other }
 
 pub no_ends : (status n : ℕ) (well : Type 0) → IsLow status → TellsBadEnds well n n (status ≡ 18)
-no_ends status n well low = ends_none status n well (low_is_not status 18 low (omega arith) (λ x. absurd (omega (arith, x))))
+no_ends status n well low = ends_none status n well (low_no_end status low)
 
 -- ---- where nothing fails
 

@@ -16,21 +16,42 @@ use Rattle.mb_answer.specs.Refusals.{IsRefusal}
 use Rattle.mb_answer.specs.Configs as config
 use Rattle.mb_answer.specs.Configs.{RefusesConfig, lack_statuses}
 use Rattle.mb_answer.specs.Texts.{too_long_text}
-use Rattle.mb_answer.specs.Devices.{Device, Says, said, failed, cut_short, SaysOrStarves, says, lacks, IsUnread, IsToldBy, IsLow, Responds, answered, unread, starved}
+use Rattle.mb_answer.specs.Devices.{Device, Says, said, failed, cut_short, SaysOrStarves, says, lacks, IsUnread, IsFinding, IsToldBy, IsLow, Responds, answered, unread, starved}
 
 -- ---- numbers
 
 pub told_low : (s : ℕ) → IsToldBy s → IsLow s
 told_low s (inl lt) = inl (omega (arith, lt))
-told_low s (inr ten) = inr ten
+told_low s (inr finding) = inr finding
+
+finding_least : (s : ℕ) → IsFinding s → 10 ≤ s
+finding_least s (inl is) = omega (arith, is)
+finding_least s (inr (inl is)) = omega (arith, is)
+finding_least s (inr (inr is)) = omega (arith, is)
+
+finding_most : (s : ℕ) → IsFinding s → s < 14
+finding_most s (inl is) = omega (arith, is)
+finding_most s (inr (inl is)) = omega (arith, is)
+finding_most s (inr (inr is)) = omega (arith, is)
 
 pub told_is_not : (s n : ℕ) → IsToldBy s → 4 ≤ n → n < 10 → ¬ (s ≡ n)
 told_is_not s n (inl lt) le below = λ is. absurd (omega (arith, lt, le, is))
-told_is_not s n (inr ten) le below = λ is. absurd (omega (arith, ten, below, is))
+told_is_not s n (inr finding) le below = let least = finding_least s finding in λ is. absurd (omega (arith, least, below, is))
 
-pub low_is_not : (s n : ℕ) → IsLow s → 7 ≤ n → ¬ (n ≡ 10) → ¬ (s ≡ n)
-low_is_not s n (inl lt) le other = λ is. absurd (omega (arith, lt, le, is))
-low_is_not s n (inr ten) le other = λ is. other (sym is ∙ ten)
+-- A low status is not that of a link's fault,
+pub low_no_link : (s : ℕ) → IsLow s → ¬ (s ≡ 7)
+low_no_link s (inl lt) = λ is. absurd (omega (arith, lt, is))
+low_no_link s (inr finding) = let least = finding_least s finding in λ is. absurd (omega (arith, least, is))
+
+-- nor that of a spawner's fault,
+pub low_no_spawner : (s : ℕ) → IsLow s → ¬ (s ≡ 8)
+low_no_spawner s (inl lt) = λ is. absurd (omega (arith, lt, is))
+low_no_spawner s (inr finding) = let least = finding_least s finding in λ is. absurd (omega (arith, least, is))
+
+-- nor that of a bad end.
+pub low_no_end : (s : ℕ) → IsLow s → ¬ (s ≡ 18)
+low_no_end s (inl lt) = λ is. absurd (omega (arith, lt, is))
+low_no_end s (inr finding) = let most = finding_most s finding in λ is. absurd (omega (arith, most, is))
 
 -- ---- the statuses of answers
 

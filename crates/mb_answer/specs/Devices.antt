@@ -66,13 +66,17 @@ IsUnread stop.TooLong status sink sink' = SaysOrStarves 2 too_long_text status s
 IsUnread stop.Fault status sink sink' = (status ≡ 5) × (sink ≡ sink')
 IsUnread stop.NoMemory status sink sink' = (status ≡ 4) × (sink ≡ sink')
 
+-- the statuses of what is found in a record
+abbrev pub IsFinding : ℕ → Type 0
+IsFinding status = (status ≡ 10) ⊎ ((status ≡ 12) ⊎ (status ≡ 13))
+
 -- the statuses that a text goes with
 abbrev pub IsToldBy : ℕ → Type 0
-IsToldBy status = (status < 4) ⊎ (status ≡ 10)
+IsToldBy status = (status < 4) ⊎ IsFinding status
 
 -- those of the words that use neither link nor spawner
 abbrev pub IsLow : ℕ → Type 0
-IsLow status = (status < 7) ⊎ (status ≡ 10)
+IsLow status = (status < 7) ⊎ IsFinding status
 
 -- A text is answered, or reading it fails, or memory runs out before it is answered. The devices are the source and the sink, before and after.
 pub data Responds (answers : ℕ → Bytes → Type 0) (status : ℕ) (source source' sink sink' : Device) : Type 0 where

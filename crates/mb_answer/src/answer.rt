@@ -1,7 +1,7 @@
 //! The statuses, and the texts that go with them.
 
 ghost use Rattle.std.specs.Prelude.{◌≡◌, IfOk};
-ghost use Rattle.mb_answer.specs.Texts.{too_long_text, bad_line_text, forged_text, forged_tag_text};
+ghost use Rattle.mb_answer.specs.Texts.{usage_text, too_long_text, bad_line_text, forged_text, forged_tag_text};
 ghost use Rattle.mb_answer.specs.Refusals.{IsRefusal};
 
 use mb_base::{Counter, Host, NoMemory};
@@ -16,6 +16,8 @@ pub const USAGE: u8 = 1;
 pub const BAD_INPUT: u8 = 2;
 /// An event delivers what is forged.
 pub const FORGED: u8 = 3;
+/// Two messages in a record have one counter.
+pub const DOUBLE: u8 = 3;
 /// Memory ran out.
 pub const NO_MEMORY: u8 = 4;
 /// The source failed.
@@ -28,20 +30,34 @@ pub const LINK_FAULT: u8 = 7;
 pub const SPAWN_FAULT: u8 = 8;
 /// All receives are spent.
 pub const BUDGET: u8 = 9;
-/// An entry of a record isn't that of its host's own step.
+/// What a record says differs from what was found.
 pub const DIFFERS: u8 = 10;
+/// A message in a record may not stand where it stands.
+pub const ILLEGAL: u8 = 12;
+/// A counter is missing in a record.
+pub const GAP: u8 = 13;
 /// A node ended with another status than 0.
 pub const CHILD_ENDED: u8 = 18;
 
 /// How the program is used.
 pub const USAGE_TEXT: &[u8] =
-    b"usage: minbft replay | soak SEED N | node ID EVENTS | retrace | cluster TURNS\n";
+    b"usage: minbft replay | soak SEED N | node ID EVENTS | retrace | cluster TURNS | audit H\n";
 
 /// A status, and what is written with it.
 #[derive(Drop)]
 pub struct Answer {
     pub status: u8,
     pub text: Vec<u8>,
+}
+
+/// The words name a host that there is not.
+pub fn usage(alloc: Global) -> Result<Answer, NoMemory>
+    ensures { IfOk result (λ a. (a.status ≡ 1) × (a.text.items ≡ usage_text)) }
+{
+    Ok(Answer {
+        status: USAGE,
+        text: Vec::from_slice(alloc, USAGE_TEXT)?,
+    })
 }
 
 /// The source has more bytes than the longest text.

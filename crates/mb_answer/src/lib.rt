@@ -2,7 +2,7 @@
 //!
 //! | Module | What it does | Its definitions |
 //! |---|---|---|
-//! | `answer` | the statuses, and the texts that go with them | `specs/Texts`, `Refusals` |
+//! | `answer` | the statuses, and the texts that go with them | `specs/Texts`, `Refusals`, `Records` |
 //! | `saying` | writes an answer | `specs/Devices` |
 //! | `configs` | reads a config, and runs a client program by it | `specs/Configs`, `Clusters` |
 //! | `ends` | how a run ended, as a status | `specs/Clusters` |
@@ -14,9 +14,9 @@ mod ends;
 mod saying;
 
 pub use answer::{
-    Answer, BAD_INPUT, BUDGET, CHILD_ENDED, DIFFERS, DONE, FORGED, LINK_FAULT, NO_MEMORY,
-    SINK_FAULT, SOURCE_FAULT, SPAWN_FAULT, USAGE, USAGE_TEXT, bad_line, forged, forged_tag,
-    refusal, too_long,
+    Answer, BAD_INPUT, BUDGET, CHILD_ENDED, DIFFERS, DONE, DOUBLE, FORGED, GAP, ILLEGAL,
+    LINK_FAULT, NO_MEMORY, SINK_FAULT, SOURCE_FAULT, SPAWN_FAULT, USAGE, USAGE_TEXT, bad_line,
+    forged, forged_tag, refusal, too_long, usage,
 };
 pub use configs::{cluster, config_from};
 pub use saying::{respond, say, tell_unread};

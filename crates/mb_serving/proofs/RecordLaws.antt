@@ -1,66 +1,21 @@
--- What a record's text says keeps the limits of its lines, and a text is that of one record. Where all entries are own, none differs.
-use Rattle.std.proofs.Common.{◌≡◌, ℕ, ◌*◌, ◌≤◌, ◌<◌, ◌&&◌, leb, List, [], ◌∷◌, ◌++◌, map, reverse, codes, Option, Some, None, refl, sym, ap, subst, ◌∙◌, append-nil, append_assoc, arith, ◌⊎◌, inl, inr}
-use Rattle.std.specs.Prelude.{Contains, slice_get, option_and_then}
-use Rattle.std.proofs.lemmas.Bool.{leb-true, and_parts}
+-- Where all entries of a record are own, none differs; and which statuses come.
+use Rattle.std.proofs.Common.{◌≡◌, ℕ, List, [], ◌∷◌, ◌++◌, map, reverse, refl, sym, ap, subst, ◌∙◌, append-nil, append_assoc, arith, ◌⊎◌, inl, inr}
+use Rattle.std.specs.Prelude.{Contains}
 use Rattle.std.proofs.lemmas.List.{append_cancel_left, map-append, reverse-append}
-use Rattle.mb_base.specs.Shapes.{Bytes, is_within, max_faults, host_count}
+use Rattle.mb_base.specs.Shapes.{Bytes}
 use Rattle.mb_edge.specs.Faults.{Rose}
 use Rattle.mb_model.specs.Histories.{Identity}
 use Rattle.mb_msg.specs.declared.event.Event.{Event}
 use Rattle.mb_node.specs.Events.{left_by}
 use Rattle.mb_node.specs.Recording.{entry_at, entries_of}
 use Rattle.mb_node.specs.Retracing.{events_in, AreOwn, own_entry, Differs}
-use Rattle.mb_sched.specs.declared.configs.Config.{Config}
 use Rattle.mb_sched.specs.declared.records.Entry.{Entry}
 use Rattle.mb_sched.specs.declared.records.Record.{Record}
-use Rattle.mb_sched.specs.Words.{is_decimal, decimal_value, number_in}
-use Rattle.mb_sched.specs.Lines.{lines}
-use Rattle.mb_sched.specs.TextLines.{word_behind}
-use Rattle.mb_sched.specs.Records.{RecordContents, record_contents, id_line}
-use Rattle.mb_sched.proofs.ReadSteps.{ok_is, allowed}
-use Rattle.mb_sched.proofs.ReadWords.{some_is}
-use Rattle.mb_sched.proofs.RecordSpellings.{record_spelled}
 use Rattle.mb_answer.specs.Devices.{Device, IsToldBy, answered, unread, starved}
-use Rattle.mb_serving.specs.Records.{recorded_host, IsRecordText, IsOwnRecord, IsRetraced, Retraces, AnswersRecord, same, differs, AnswersRecordText, too_long, bad_line, right, retrace_statuses}
-use Rattle.mb_answer.proofs.ConfigLaws.{same_settings}
+use Rattle.mb_answer.specs.Records.{IsRecordText, too_long, bad_line, right}
+use Rattle.mb_serving.specs.Records.{recorded_host, IsOwnRecord, IsRetraced, Retraces, AnswersRecord, same, differs, AnswersRecordText, retrace_statuses}
+use Rattle.mb_answer.proofs.RecordTexts.{same_record}
 use Rattle.mb_answer.proofs.Statuses.{said_completes}
-
--- ---- the host of a record
-
-number_most : (high n : ℕ) (word : Bytes) → number_in 0 high word ≡ Some n → n ≤ high
-number_most high n word e =
-    let a = allowed (is_decimal word && is_within 0 high (decimal_value word)) (Some (decimal_value word)) n e in
-    let b = and_parts (is_decimal word) (is_within 0 high (decimal_value word)) a.0 in
-    let c = and_parts (leb 0 (decimal_value word)) (leb (decimal_value word) high) b.1 in
-    subst (λ (m : ℕ). m ≤ high) (some_is (decimal_value word) n a.1) (leb-true _ _ c.1)
-
-word_most : (high n : ℕ) (word : Option Bytes) → option_and_then (number_in 0 high) word ≡ Some n → n ≤ high
-word_most high n None e = absurd cc
-word_most high n (Some word) e = number_most high n word e
-
-line_most : (f n : ℕ) (line : Option Bytes) → option_and_then (id_line f) line ≡ Some n → n ≤ 2 * f
-line_most f n None e = absurd cc
-line_most f n (Some line) e = word_most (2 * f) n (word_behind (codes "id") line) e
-
-pub host_below : (text : Bytes) (r : Record) → IsRecordText text r → r.id < host_count r.config.shape
-host_below text r is =
-    let spelled = record_spelled text (record_contents r) is.1 in
-    let most : r.id ≤ 2 * max_faults r.config.shape = line_most (max_faults r.config.shape) r.id (slice_get (lines text) 6) spelled.id in
-    omega (arith, most)
-
--- ---- one record
-
-abbrev made_of : Config → ℕ → List Entry → Record
-made_of config id entries = record { config = config; id = id; entries = entries }
-
-same_contents : (r s : Record) → record_contents r ≡ record_contents s → r ≡ s
-same_contents r s e =
-    ap (λ (x : Config). made_of x r.id r.entries) (same_settings r.config s.config (ap (λ (c : RecordContents). c.config) e))
-    ∙ ap (λ (x : ℕ). made_of s.config x r.entries) (ap (λ (c : RecordContents). c.id) e)
-    ∙ ap (λ (x : List Entry). made_of s.config s.id x) (ap (λ (c : RecordContents). c.entries) e)
-
-pub same_record : (text : Bytes) (r s : Record) → IsRecordText text r → IsRecordText text s → r ≡ s
-same_record text r s a b = same_contents r s (ok_is {E = ℕ} (record_contents r) (record_contents s) (sym a.1 ∙ b.1))
 
 -- ---- own entries
 
@@ -120,7 +75,7 @@ retrace_completes text status source source' sink sink' (starved four kept) r is
 
 record_told : {r : _} (status : ℕ) (out : Bytes) → AnswersRecord r status out → IsToldBy status
 record_told status out (same own zero text_is) = inl (omega (arith, zero))
-record_told status out (differs number recorded found first ten text_is) = inr ten
+record_told status out (differs number recorded found first ten text_is) = inr (inl ten)
 
 pub record_answers_told : (text : Bytes) (status : ℕ) (out : Bytes) → AnswersRecordText text status out → IsToldBy status
 record_answers_told text status out (too_long long two text_is) = inl (omega (arith, two))

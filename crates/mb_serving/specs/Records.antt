@@ -1,5 +1,5 @@
 -- What is answered to the text of a record: whether each of its entries is that of its host's own step, from the start on.
-use Rattle.std.specs.Prelude.{◌≡◌, ℕ, ◌≤◌, ◌<◌, ◌⊎◌, ◌++◌, List, [], ◌∷◌, length, codes, Ok, Err}
+use Rattle.std.specs.Prelude.{◌≡◌, ℕ, ◌⊎◌, ◌++◌, List, [], ◌∷◌, length, codes}
 use Rattle.std.specs.Fmt.{decimal}
 use Rattle.hex.specs.Hex.{encode_lower}
 use Rattle.mb_base.specs.Shapes.{Bytes}
@@ -11,9 +11,8 @@ use Rattle.mb_model.specs.Histories.{Identity}
 use Rattle.mb_node.specs.Retracing.{AreOwn, Differs}
 use Rattle.mb_sched.specs.declared.configs.Config.{Config}
 use Rattle.mb_sched.specs.declared.records.Record.{Record}
-use Rattle.mb_sched.specs.Records.{max_record, record_of, record_contents}
 use Rattle.mb_answer.specs.Devices.{Device, Responds}
-use Rattle.mb_answer.specs.Texts.{too_long_text, bad_line_text}
+use Rattle.mb_answer.specs.Records.{IsRecordText, AnswersText}
 
 -- a host of a config's system, made with the key-value service of no keys
 abbrev pub host_of : Config → ℕ → Identity Pairs
@@ -22,10 +21,6 @@ host_of c host = record { shape = c.shape; host = host; secret = c.secret; machi
 -- the host of a record
 abbrev pub recorded_host : Record → Identity Pairs
 recorded_host r = host_of r.config r.id
-
--- a text is that of a record
-abbrev pub IsRecordText : Bytes → Record → Type 0
-IsRecordText text r = (length text ≤ max_record) × (record_of text ≡ Ok (record_contents r))
 
 -- Each entry is that of its host's own step.
 abbrev pub IsOwnRecord : Record → Type 0
@@ -49,10 +44,9 @@ pub data AnswersRecord (r : Record) (status : ℕ) (out : Bytes) : Type 0 where
   differs : (number : ℕ) (recorded found : Bytes) → Differs (recorded_host r) r.entries number recorded found → status ≡ 10 → out ≡ differs_text number recorded found
       → AnswersRecord r status out
 
-pub data AnswersRecordText (text : Bytes) (status : ℕ) (out : Bytes) : Type 0 where
-  too_long : max_record < length text → status ≡ 2 → out ≡ too_long_text → AnswersRecordText text status out
-  bad_line : (n : ℕ) → length text ≤ max_record → record_of text ≡ Err n → status ≡ 2 → out ≡ bad_line_text n → AnswersRecordText text status out
-  right : (r : Record) → IsRecordText text r → AnswersRecord r status out → AnswersRecordText text status out
+-- ... to the text of one
+abbrev pub AnswersRecordText : Bytes → ℕ → Bytes → Type 0
+AnswersRecordText = AnswersText AnswersRecord
 
 -- the statuses of the word `retrace`
 abbrev pub retrace_statuses : List ℕ

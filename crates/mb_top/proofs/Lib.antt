@@ -9,3 +9,4 @@ pub mod Answered
 pub mod Summaries
 pub mod SoakLaws
 pub mod Doing
+pub mod Blamed

@@ -6,3 +6,4 @@ pub mod Soaks
 pub mod Responses
 pub mod Outcomes
 pub mod Doings
+pub mod Blames

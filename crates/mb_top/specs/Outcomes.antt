@@ -8,7 +8,8 @@ use Rattle.mb_sched.specs.declared.records.Record.{Record}
 use Rattle.mb_sched.specs.declared.configs.Config.{Config}
 use Rattle.mb_answer.specs.Clusters.{IsUnbroken}
 use Rattle.mb_answer.specs.Configs.{IsConfigText}
-use Rattle.mb_serving.specs.Records.{IsRecordText, IsOwnRecord}
+use Rattle.mb_answer.specs.Records.{IsRecordText}
+use Rattle.mb_serving.specs.Records.{IsOwnRecord}
 use Rattle.mb_top.specs.Runs.{AreUnstopped}
 use Rattle.mb_top.specs.Answers.{final_report, IsForgedText}
 

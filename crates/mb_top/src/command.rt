@@ -1,7 +1,7 @@
 //! What the words of a command ask for.
 
 ghost use Rattle.std.specs.Prelude.{◌≡◌, [], ◌∷◌, map, string_bytes, IfSome};
-ghost use Rattle.mb_top.specs.Commands.{command_of, soak_of, node_of, cluster_of, IsWithin};
+ghost use Rattle.mb_top.specs.Commands.{command_of, soak_of, node_of, cluster_of, audit_of, IsWithin};
 
 use mb_sched::{is_word, number_in};
 
@@ -10,6 +10,9 @@ const MAX_DRAWN: u64 = 100_000;
 
 /// The most receives of a node, and the most turns of a client program.
 const MAX_BUDGET: u64 = 1_000_000;
+
+/// The greatest number that a host of any system has.
+const LAST_HOST: u64 = 6;
 
 /// What the words ask for.
 #[derive(Clone, Copy, Debug, PartialEq, Eq)]
@@ -24,6 +27,8 @@ pub enum Command {
     Retrace,
     /// A client program asks hosts that it starts, with at most so many receives for each operation.
     Cluster { turns: u64 },
+    /// What the host of a record was given is held against a host.
+    Audit { host: u64 },
 }
 
 fn one_word(name: &[u8]) -> Option<Command>
@@ -47,12 +52,22 @@ fn cluster_of(turns: &[u8]) -> Option<Command>
     Some(Command::Cluster { turns })
 }
 
-fn two_words(name: &[u8], turns: &[u8]) -> Option<Command>
-    ensures command { result ≡ command_of (name.now ∷ turns.now ∷ []) }
+fn audit_of(host: &[u8]) -> Option<Command>
+    ensures command { result ≡ audit_of host.now }
+    ensures within { IfSome result IsWithin }
+{
+    let host = number_in(0, LAST_HOST, host)?;
+    Some(Command::Audit { host })
+}
+
+fn two_words(name: &[u8], number: &[u8]) -> Option<Command>
+    ensures command { result ≡ command_of (name.now ∷ number.now ∷ []) }
     ensures within { IfSome result IsWithin }
 {
     if is_word(name, b"cluster") {
-        cluster_of(turns)
+        cluster_of(number)
+    } else if is_word(name, b"audit") {
+        audit_of(number)
     } else {
         None
     }
@@ -96,7 +111,7 @@ pub(crate) fn command_in(words: &[String]) -> Option<Command>
 {
     match words {
         [name] => one_word(name.as_bytes()),
-        [name, turns] => two_words(name.as_bytes(), turns.as_bytes()),
+        [name, number] => two_words(name.as_bytes(), number.as_bytes()),
         [name, first, second] => {
             three_words(name.as_bytes(), first.as_bytes(), second.as_bytes())
         }

@@ -7,10 +7,12 @@ ghost use Rattle.mb_edge.specs.Faults.{Rose, TellsFaults};
 ghost use Rattle.mb_edge.specs.Pieces.{ConsumesBetween};
 ghost use Rattle.mb_schedule.specs.declared.schedule.Schedule.{Schedule};
 ghost use Rattle.mb_sched.specs.Schedules.{IsScheduleText};
+ghost use Rattle.mb_sched.specs.declared.records.Record.{Record};
 ghost use Rattle.mb_theory.specs.Hashed.{HashesApart};
 ghost use Rattle.mb_theory.specs.Headline.{Promises};
 ghost use Rattle.mb_top.specs.Commands.{command_of, IsWithin, reads};
 ghost use Rattle.mb_answer.specs.Texts.{usage_text};
+ghost use Rattle.mb_answer.specs.Records.{IsRecordText};
 ghost use Rattle.mb_top.specs.Systems.{system_of, world};
 ghost use Rattle.mb_top.specs.Answers.{IsFirstForged};
 ghost use Rattle.mb_answer.specs.Devices.{device, link_state, spawner_state, devices, Says};
@@ -18,8 +20,10 @@ ghost use Rattle.mb_top.specs.Responses.{Replays, Soaks};
 ghost use Rattle.mb_serving.specs.Records.{Retraces, IsRetraced};
 ghost use Rattle.mb_top.specs.Soaks.{soak_of};
 ghost use Rattle.mb_serving.specs.Nodes.{Nodes, IsServed};
+ghost use Rattle.mb_reviewing.specs.Audits.{Audits, IsAudited, audit_findings};
 ghost use Rattle.mb_answer.specs.Clusters.{Clusters, TellsBadEnds, IsRun};
 ghost use Rattle.mb_top.specs.Outcomes.{ReportsOn, TellsForged, IsComplete};
+ghost use Rattle.mb_top.specs.Blames.{AccusesRightly};
 ghost use Rattle.mb_top.specs.Doings.{Does, IsIdle, most_read, statuses};
 
 use crate::command::{Command, command_in};
@@ -27,6 +31,7 @@ use crate::replay::replay;
 use crate::soak::soak;
 use mb_answer::{USAGE, USAGE_TEXT, cluster, say};
 use mb_edge::{Link, Sink, Source, Spawner};
+use mb_reviewing::audit_of;
 use mb_serving::{node_of, retrace};
 use std::alloc::Global;
 
@@ -59,6 +64,7 @@ fn run<S: Source, K: Sink, L: Link, P: Spawner>(
         Some(Command::Node { host, events }) => node_of(alloc, host, events, source, sink, link),
         Some(Command::Retrace) => retrace(alloc, source, sink),
         Some(Command::Cluster { turns }) => cluster(alloc, turns, source, sink, link, spawner),
+        Some(Command::Audit { host }) => audit_of(alloc, host, source, sink),
         None => say(sink, USAGE_TEXT, USAGE),
     }
 }
@@ -69,7 +75,8 @@ fn run<S: Source, K: Sink, L: Link, P: Spawner>(
 /// runs so many drawn events, and writes one line. With `retrace` it reads a record, takes the steps of its host again, and writes `same` and how many
 /// they are, or where they first differ. With `node`, a host and a number it reads a config, serves as that host over the link for so many receives, and
 /// writes its record. With `cluster` and a number it reads a config, starts a node for each host, asks them the config's operations over the link,
-/// with so many receives for each, and writes the results.
+/// with so many receives for each, and writes the results. With `audit` and a host's number it reads a record, and writes what its host was given shows of
+/// that host.
 pub fn minbft<S: Source, K: Sink, L: Link, P: Spawner>(
     alloc: Global,
     words: &[String],
@@ -135,6 +142,18 @@ pub fn minbft<S: Source, K: Sink, L: Link, P: Spawner>(
     ensures cluster_complete { (n : ℕ) → command_of (map string_bytes words.now) ≡ Some (Command.Cluster n)
         → IfSome (S.left source.old) (λ text. IsRun text result (Rose (S.faults source.old) (S.faults source.new) ⊎ (Rose (K.faults sink.old) (K.faults sink.new) ⊎ (Rose (L.faults link.old) (L.faults link.new)
         ⊎ (Rose (P.faults spawner.old) (P.faults spawner.new) ⊎ Rose (P.bad_ends spawner.old) (P.bad_ends spawner.new)))))) }
+    // With the word `audit` and a host each answer to the text of a record has its cause in the text or in a device: the verdict is that on the host's
+    // stamps in all that the record's host was given.
+    ensures audit { (host : ℕ) → command_of (map string_bytes words.now) ≡ Some (Command.Audit host)
+        → IfSome (S.left source.old) (λ text. Audits text host result (device (S.left source.old) (S.faults source.old)) (device (S.left source.new) (S.faults source.new))
+        (device (K.written sink.old) (K.faults sink.old)) (device (K.written sink.new) (K.faults sink.new))) }
+    ensures audit_complete { (host : ℕ) → command_of (map string_bytes words.now) ≡ Some (Command.Audit host)
+        → IfSome (S.left source.old) (λ text. IsAudited text host result (Rose (S.faults source.old) (S.faults source.new) ⊎ Rose (K.faults sink.old) (K.faults sink.new))) }
+    // Where the record says what a correct host was given in a world of at most f faulty hosts, in which nothing was forged: at status 12 the host is faulty,
+    // and no host is found to have two messages at one counter.
+    ensures audit_blame { (host : ℕ) → command_of (map string_bytes words.now) ≡ Some (Command.Audit host)
+        → (text : Bytes) (r : Record) → S.left source.old ≡ Some text → IsRecordText text r → AccusesRightly host result r }
+    ensures audit_ended { (host : ℕ) → command_of (map string_bytes words.now) ≡ Some (Command.Audit host) → Contains audit_findings result → IsAtEnd (S.left source.new) }
     // Each command has its statuses, whatever the source tells.
     ensures statuses { Contains (statuses (command_of (map string_bytes words.now))) result }
     // At status 0 of a word that reads, the source was read to its end.

@@ -3,7 +3,7 @@ use Rattle.std.proofs.lemmas.Option.{IfSome_then}
 use Rattle.mb_edge.proofs.FaultLemmas.{tells_both, tells_none, tells_as}
 use Rattle.mb_answer.specs.Configs.{used, unused}
 use Rattle.mb_answer.proofs.ConfigLaws.{runs_cluster, cause_of, told_by, ends_told, no_ends, run_known, lack_known}
-use Rattle.mb_answer.proofs.Statuses.{low_is_not}
+use Rattle.mb_answer.proofs.Statuses.{low_no_link, low_no_spawner}
 use Rattle.mb_answer.proofs.configs.cluster.Goals as goal
 
 pub run_cluster-ended-requires : goal.run_cluster-ended-requires
@@ -38,10 +38,10 @@ pub returns-in-Err-clause-ended : goal.returns-in-Err-clause-ended
 returns-in-Err-clause-ended g c = λ zero. absurd (c.in-Err.ensures.low.1 zero)
 
 pub returns-in-Err-clause-link : goal.returns-in-Err-clause-link
-returns-in-Err-clause-link g c = tells_none _ (low_is_not c.in-Err.status 7 c.in-Err.ensures.low.0 (omega arith) (λ x. absurd (omega (arith, x))))
+returns-in-Err-clause-link g c = tells_none _ (low_no_link c.in-Err.status c.in-Err.ensures.low.0)
 
 pub returns-in-Err-clause-spawner : goal.returns-in-Err-clause-spawner
-returns-in-Err-clause-spawner g c = tells_none _ (low_is_not c.in-Err.status 8 c.in-Err.ensures.low.0 (omega arith) (λ x. absurd (omega (arith, x))))
+returns-in-Err-clause-spawner g c = tells_none _ (low_no_spawner c.in-Err.status c.in-Err.ensures.low.0)
 
 pub returns-in-Err-clause-bad_ends : goal.returns-in-Err-clause-bad_ends
 returns-in-Err-clause-bad_ends g c = no_ends c.in-Err.status _ _ c.in-Err.ensures.low.0

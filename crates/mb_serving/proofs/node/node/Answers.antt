@@ -2,7 +2,7 @@ use Rattle.std.proofs.Common.{refl, sym, inr, arith}
 use Rattle.std.proofs.lemmas.Option.{IfSome_then}
 use Rattle.mb_edge.proofs.FaultLemmas.{tells_both, tells_none, tells_as}
 use Rattle.mb_answer.specs.Configs.{used, unused}
-use Rattle.mb_answer.proofs.Statuses.{low_is_not}
+use Rattle.mb_answer.proofs.Statuses.{low_no_end, low_no_link, low_no_spawner}
 use Rattle.mb_serving.proofs.NodeLaws.{served_from, serving_known, no_config_known, node_is_not, is_node_not}
 use Rattle.mb_serving.proofs.node.node.Goals as goal
 
@@ -29,10 +29,10 @@ returns-in-Err-clause-ended g c = λ zero. absurd (c.in-Err.ensures.low.1 zero)
 
 pub returns-in-Err-clause-known : goal.returns-in-Err-clause-known
 returns-in-Err-clause-known g c =
-    (low_is_not c.in-Err.status 8 c.in-Err.ensures.low.0 (omega arith) (λ x. absurd (omega (arith, x))), low_is_not c.in-Err.status 18 c.in-Err.ensures.low.0 (omega arith) (λ x. absurd (omega (arith, x))))
+    (low_no_spawner c.in-Err.status c.in-Err.ensures.low.0, low_no_end c.in-Err.status c.in-Err.ensures.low.0)
 
 pub returns-in-Err-clause-link : goal.returns-in-Err-clause-link
-returns-in-Err-clause-link g c = tells_none _ (low_is_not c.in-Err.status 7 c.in-Err.ensures.low.0 (omega arith) (λ x. absurd (omega (arith, x))))
+returns-in-Err-clause-link g c = tells_none _ (low_no_link c.in-Err.status c.in-Err.ensures.low.0)
 
 pub returns-in-Ok-clause-statuses : goal.returns-in-Ok-clause-statuses
 returns-in-Ok-clause-statuses g c = serving_known c.serve_as.result c.serve_as.ensures.statuses

@@ -4,8 +4,8 @@ use Rattle.mb_sched.specs.declared.bad_text.BadText.{BadText}
 use Rattle.mb_sched.specs.Records.{max_record, record_of, record_contents}
 use Rattle.mb_sched.specs.TextLines.{ReadsText}
 use Rattle.mb_answer.specs.Texts.{bad_line_text}
-use Rattle.mb_serving.specs.Records.{bad_line, right}
-use Rattle.mb_serving.proofs.RecordLaws.{host_below}
+use Rattle.mb_answer.specs.Records.{bad_line, right}
+use Rattle.mb_answer.proofs.RecordTexts.{host_below}
 use Rattle.mb_serving.proofs.retracing.answer_to_record.Goals as goal
 
 pub answer_record-requires : goal.answer_record-requires

@@ -4,7 +4,8 @@ use Rattle.std.proofs.lemmas.Option.{IfSome_then}
 use Rattle.std.proofs.lemmas.Result.{IfOk-weaker}
 use Rattle.mb_base.specs.Shapes.{Bytes}
 use Rattle.mb_sched.specs.Records.{max_record}
-use Rattle.mb_serving.specs.Records.{AnswersRecordText, too_long, retrace_statuses}
+use Rattle.mb_answer.specs.Records.{too_long}
+use Rattle.mb_serving.specs.Records.{AnswersRecordText, retrace_statuses}
 use Rattle.mb_serving.proofs.RecordLaws.{record_answers_told, record_answers_known}
 use Rattle.mb_answer.proofs.Statuses.{responded, responded_is, unread_told, unread_is, tells_read}
 use Rattle.mb_serving.proofs.retracing.retrace.Goals as goal

@@ -7,7 +7,9 @@ use Rattle.mb_top.proofs.SoakLaws.{all_hold}
 use Rattle.mb_serving.proofs.RecordLaws.{retrace_completes}
 use Rattle.mb_answer.proofs.ConfigLaws.{cluster_completes}
 use Rattle.mb_serving.proofs.NodeLaws.{node_completes}
-use Rattle.mb_top.proofs.Doing.{reads_all, is_idle, replays, replay_ends, soaks, soaks_few, nodes, retraces, clusters, tells_usage}
+use Rattle.mb_reviewing.proofs.AuditLaws.{audit_completes}
+use Rattle.mb_top.proofs.Blamed.{audits_convict}
+use Rattle.mb_top.proofs.Doing.{reads_all, is_idle, replays, replay_ends, soaks, soaks_few, nodes, retraces, clusters, audits, audit_ends, tells_usage}
 use Rattle.mb_top.proofs.top.minbft.Goals as goal
 
 pub run-requires : goal.run-requires
@@ -63,6 +65,21 @@ returns-clause-cluster g c = λ n asked. clusters _ _ _ _ c.run.ensures.does n (
 pub returns-clause-cluster_complete : goal.returns-clause-cluster_complete
 returns-clause-cluster_complete g c = λ n asked.
     IfSome_then (g.S.Source.left c.args.source.now) (clusters _ _ _ _ c.run.ensures.does n (c.command_in.ensures.command ∙ asked)) (λ text r. cluster_completes text n _ _ _ r)
+
+pub returns-clause-audit : goal.returns-clause-audit
+returns-clause-audit g c = λ host asked. audits _ _ _ _ c.run.ensures.does host (c.command_in.ensures.command ∙ asked)
+
+pub returns-clause-audit_complete : goal.returns-clause-audit_complete
+returns-clause-audit_complete g c = λ host asked.
+    IfSome_then (g.S.Source.left c.args.source.now) (audits _ _ _ _ c.run.ensures.does host (c.command_in.ensures.command ∙ asked)) (λ text r. audit_completes host text _ _ _ _ _ r)
+
+pub returns-clause-audit_ended : goal.returns-clause-audit_ended
+returns-clause-audit_ended g c = λ host asked. audit_ends _ _ _ _ c.run.ensures.does host (c.command_in.ensures.command ∙ asked)
+
+pub returns-clause-audit_blame : goal.returns-clause-audit_blame
+returns-clause-audit_blame g c = λ host asked text r left is.
+    let told = rw left at (audits _ _ _ _ c.run.ensures.does host (c.command_in.ensures.command ∙ asked)) in
+    audits_convict host text r _ _ _ _ _ is told
 
 pub returns-clause-usage : goal.returns-clause-usage
 returns-clause-usage g c = λ asked. tells_usage _ _ _ _ c.run.ensures.does (c.command_in.ensures.command ∙ asked)

@@ -1,11 +1,11 @@
 use Rattle.std.proofs.Common.{◌≡◌, Option, Some, IfSome, refl, ap, subst, ◌∙◌, arith}
 use Rattle.mb_edge.proofs.FaultLemmas.{tells_none}
 use Rattle.mb_answer.proofs.ConfigLaws.{no_ends, ends_none}
-use Rattle.mb_answer.proofs.Statuses.{low_is_not}
+use Rattle.mb_answer.proofs.Statuses.{low_no_link, low_no_spawner}
 use Rattle.mb_top.specs.Commands.{IsWithin}
 use Rattle.mb_top.specs.declared.command.Command.{Command}
-use Rattle.mb_top.specs.declared.command.Command.TheVariants.{Replay, Soak, Node, Retrace, Cluster}
-use Rattle.mb_top.proofs.Doing.{does_replay, does_soak, does_node, does_retrace, does_cluster, does_usage, does_asked, statuses_asked, soak_known, usage_known}
+use Rattle.mb_top.specs.declared.command.Command.TheVariants.{Replay, Soak, Node, Retrace, Cluster, Audit}
+use Rattle.mb_top.proofs.Doing.{does_replay, does_soak, does_node, does_retrace, does_cluster, does_audit, does_usage, does_asked, statuses_asked, soak_known, usage_known}
 use Rattle.mb_top.proofs.top.run.Goals as goal
 
 pub returns-in-Some-Replay-clause-does : goal.returns-in-Some-Replay-clause-does
@@ -22,10 +22,10 @@ returns-in-Some-Replay-clause-statuses g c =
     statuses_asked _ (Some Replay) _ (first ∙ ap Some named) c.replay.ensures.statuses
 
 pub returns-in-Some-Replay-clause-link : goal.returns-in-Some-Replay-clause-link
-returns-in-Some-Replay-clause-link g c = tells_none _ (low_is_not _ 7 c.replay.ensures.low (omega arith) (λ x. absurd (omega (arith, x))))
+returns-in-Some-Replay-clause-link g c = tells_none _ (low_no_link _ c.replay.ensures.low)
 
 pub returns-in-Some-Replay-clause-spawner : goal.returns-in-Some-Replay-clause-spawner
-returns-in-Some-Replay-clause-spawner g c = tells_none _ (low_is_not _ 8 c.replay.ensures.low (omega arith) (λ x. absurd (omega (arith, x))))
+returns-in-Some-Replay-clause-spawner g c = tells_none _ (low_no_spawner _ c.replay.ensures.low)
 
 pub returns-in-Some-Replay-clause-bad_ends : goal.returns-in-Some-Replay-clause-bad_ends
 returns-in-Some-Replay-clause-bad_ends g c = no_ends _ _ _ c.replay.ensures.low
@@ -51,10 +51,10 @@ returns-in-Some-Soak-clause-statuses g c =
     statuses_asked _ (Some (Soak c.in-Some-Soak.seed c.in-Some-Soak.events)) _ (first ∙ ap Some named) (soak_known _ _ _ _ _ c.soak.ensures.told)
 
 pub returns-in-Some-Soak-clause-link : goal.returns-in-Some-Soak-clause-link
-returns-in-Some-Soak-clause-link g c = tells_none _ (low_is_not _ 7 c.soak.ensures.low (omega arith) (λ x. absurd (omega (arith, x))))
+returns-in-Some-Soak-clause-link g c = tells_none _ (low_no_link _ c.soak.ensures.low)
 
 pub returns-in-Some-Soak-clause-spawner : goal.returns-in-Some-Soak-clause-spawner
-returns-in-Some-Soak-clause-spawner g c = tells_none _ (low_is_not _ 8 c.soak.ensures.low (omega arith) (λ x. absurd (omega (arith, x))))
+returns-in-Some-Soak-clause-spawner g c = tells_none _ (low_no_spawner _ c.soak.ensures.low)
 
 pub returns-in-Some-Soak-clause-bad_ends : goal.returns-in-Some-Soak-clause-bad_ends
 returns-in-Some-Soak-clause-bad_ends g c = no_ends _ _ _ c.soak.ensures.low
@@ -92,10 +92,10 @@ returns-in-Some-Retrace-clause-statuses g c =
     statuses_asked _ (Some Retrace) _ (first ∙ ap Some named) c.retrace.ensures.statuses
 
 pub returns-in-Some-Retrace-clause-link : goal.returns-in-Some-Retrace-clause-link
-returns-in-Some-Retrace-clause-link g c = tells_none _ (low_is_not _ 7 c.retrace.ensures.low (omega arith) (λ x. absurd (omega (arith, x))))
+returns-in-Some-Retrace-clause-link g c = tells_none _ (low_no_link _ c.retrace.ensures.low)
 
 pub returns-in-Some-Retrace-clause-spawner : goal.returns-in-Some-Retrace-clause-spawner
-returns-in-Some-Retrace-clause-spawner g c = tells_none _ (low_is_not _ 8 c.retrace.ensures.low (omega arith) (λ x. absurd (omega (arith, x))))
+returns-in-Some-Retrace-clause-spawner g c = tells_none _ (low_no_spawner _ c.retrace.ensures.low)
 
 pub returns-in-Some-Retrace-clause-bad_ends : goal.returns-in-Some-Retrace-clause-bad_ends
 returns-in-Some-Retrace-clause-bad_ends g c = no_ends _ _ _ c.retrace.ensures.low
@@ -113,6 +113,28 @@ returns-in-Some-Cluster-clause-statuses g c =
     let named : c.in-Some-Cluster.field-0 ≡ Cluster c.in-Some-Cluster.turns = rw first at c.in-Some-Cluster.field-0-is in
     statuses_asked _ (Some (Cluster c.in-Some-Cluster.turns)) _ (first ∙ ap Some named) c.cluster.ensures.statuses
 
+pub returns-in-Some-Audit-clause-does : goal.returns-in-Some-Audit-clause-does
+returns-in-Some-Audit-clause-does g c =
+    let first : c.args.command ≡ Some c.in-Some-Audit.field-0 = c.in-Some-Audit.is in
+    let named : c.in-Some-Audit.field-0 ≡ Audit c.in-Some-Audit.host = rw first at c.in-Some-Audit.field-0-is in
+    let same : c.args.command ≡ Some (Audit c.in-Some-Audit.host) = first ∙ ap Some named in
+    does_asked _ _ _ _ (Some (Audit c.in-Some-Audit.host)) same (does_audit _ _ _ _ c.audit.ensures.told c.audit.ensures.ended refl refl)
+
+pub returns-in-Some-Audit-clause-statuses : goal.returns-in-Some-Audit-clause-statuses
+returns-in-Some-Audit-clause-statuses g c =
+    let first : c.args.command ≡ Some c.in-Some-Audit.field-0 = c.in-Some-Audit.is in
+    let named : c.in-Some-Audit.field-0 ≡ Audit c.in-Some-Audit.host = rw first at c.in-Some-Audit.field-0-is in
+    statuses_asked _ (Some (Audit c.in-Some-Audit.host)) _ (first ∙ ap Some named) c.audit.ensures.statuses
+
+pub returns-in-Some-Audit-clause-link : goal.returns-in-Some-Audit-clause-link
+returns-in-Some-Audit-clause-link g c = tells_none _ (low_no_link _ c.audit.ensures.low)
+
+pub returns-in-Some-Audit-clause-spawner : goal.returns-in-Some-Audit-clause-spawner
+returns-in-Some-Audit-clause-spawner g c = tells_none _ (low_no_spawner _ c.audit.ensures.low)
+
+pub returns-in-Some-Audit-clause-bad_ends : goal.returns-in-Some-Audit-clause-bad_ends
+returns-in-Some-Audit-clause-bad_ends g c = no_ends _ _ _ c.audit.ensures.low
+
 pub returns-in-None-clause-does : goal.returns-in-None-clause-does
 returns-in-None-clause-does g c = does_asked _ _ _ _ _ c.in-None.is (does_usage _ _ _ c.say.ensures.says refl refl)
 
@@ -120,10 +142,10 @@ pub returns-in-None-clause-statuses : goal.returns-in-None-clause-statuses
 returns-in-None-clause-statuses g c = statuses_asked _ _ _ c.in-None.is (usage_known _ _ _ c.say.ensures.says)
 
 pub returns-in-None-clause-link : goal.returns-in-None-clause-link
-returns-in-None-clause-link g c = tells_none _ (low_is_not _ 7 c.say.ensures.low (omega arith) (λ x. absurd (omega (arith, x))))
+returns-in-None-clause-link g c = tells_none _ (low_no_link _ c.say.ensures.low)
 
 pub returns-in-None-clause-spawner : goal.returns-in-None-clause-spawner
-returns-in-None-clause-spawner g c = tells_none _ (low_is_not _ 8 c.say.ensures.low (omega arith) (λ x. absurd (omega (arith, x))))
+returns-in-None-clause-spawner g c = tells_none _ (low_no_spawner _ c.say.ensures.low)
 
 pub returns-in-None-clause-bad_ends : goal.returns-in-None-clause-bad_ends
 returns-in-None-clause-bad_ends g c = no_ends _ _ _ c.say.ensures.low

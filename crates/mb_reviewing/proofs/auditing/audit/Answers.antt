@@ -1,0 +1,41 @@
+use Rattle.std.proofs.Common.{Err, refl, ap, subst, ◌∙◌, arith}
+use Rattle.std.specs.Prelude.{Contains}
+use Rattle.std.proofs.lemmas.Option.{IfSome_then}
+use Rattle.std.proofs.lemmas.Result.{IfOk-weaker}
+use Rattle.mb_base.specs.Shapes.{Bytes}
+use Rattle.mb_sched.specs.Records.{max_record}
+use Rattle.mb_answer.specs.Records.{AnswersText, too_long}
+use Rattle.mb_reviewing.specs.Audits.{AnswersAudit, audit_statuses}
+use Rattle.mb_reviewing.proofs.AuditLaws.{audit_told, audit_known, unread_unfound}
+use Rattle.mb_answer.proofs.Statuses.{responded, responded_is, unread_told, unread_is, tells_read}
+use Rattle.mb_reviewing.proofs.auditing.audit.Goals as goal
+
+pub respond-requires : goal.respond-requires
+respond-requires g c = IfOk-weaker c.answer_to_record.result _ _ (λ a h. audit_told c.args.host _ a.status a.text.items h) c.answer_to_record.ensures
+
+pub returns-in-Ok-clause-told : goal.returns-in-Ok-clause-told
+returns-in-Ok-clause-told g c =
+    IfSome_then (g.S.Source.left c.args.source.now) c.in-Ok.ensures.all (λ text is.
+    responded (AnswersText (AnswersAudit c.args.host) text) c.answer_to_record.result _ _ _ _ _ (IfOk-weaker c.answer_to_record.result _ _ (λ a h. subst (λ (t : Bytes). AnswersText (AnswersAudit c.args.host) t a.status a.text.items) (c.deref.ensures.value ∙ is) h) c.answer_to_record.ensures)
+    c.respond.ensures.says c.respond.ensures.lacks)
+
+pub returns-in-Ok-clause-source : goal.returns-in-Ok-clause-source
+returns-in-Ok-clause-source g c = tells_read _ _ c.in-Ok.ensures.fault c.in-Ok.ensures.later c.in-Ok.ensures.sound c.in-Ok.ensures.quiet (λ five. absurd (c.respond.ensures.unread five))
+
+pub returns-in-Err-clause-told : goal.returns-in-Err-clause-told
+returns-in-Err-clause-told g c =
+    unread_told (AnswersText (AnswersAudit c.args.host)) max_record (g.S.Source.left c.args.source.now) c.in-Err.stop _ _ _ _ _ (λ text long. too_long long refl refl) (λ e. c.in-Err.ensures.long (ap Err e)) (λ e. c.in-Err.ensures.fault (ap Err e)) c.tell_unread.ensures.told
+
+pub returns-in-Err-clause-source : goal.returns-in-Err-clause-source
+returns-in-Err-clause-source g c = tells_read _ _ c.in-Err.ensures.fault c.in-Err.ensures.later c.in-Err.ensures.sound c.in-Err.ensures.quiet (λ told. ap Err (c.tell_unread.ensures.source told))
+
+pub returns-in-Ok-clause-statuses : goal.returns-in-Ok-clause-statuses
+returns-in-Ok-clause-statuses g c =
+    responded_is (Contains audit_statuses) (4, omega arith, refl) (6, omega arith, refl) c.answer_to_record.result _ _ _
+    (IfOk-weaker c.answer_to_record.result _ _ (λ a h. audit_known c.args.host _ a.status a.text.items h) c.answer_to_record.ensures) c.respond.ensures.says c.respond.ensures.lacks
+
+pub returns-in-Err-clause-statuses : goal.returns-in-Err-clause-statuses
+returns-in-Err-clause-statuses g c = unread_is (Contains audit_statuses) (4, omega arith, refl) (6, omega arith, refl) c.in-Err.stop _ _ _ (2, omega arith, refl) (5, omega arith, refl) c.tell_unread.ensures.told
+
+pub returns-in-Err-clause-ended : goal.returns-in-Err-clause-ended
+returns-in-Err-clause-ended g c = λ found. absurd (unread_unfound c.in-Err.stop _ _ _ c.tell_unread.ensures.told found)
