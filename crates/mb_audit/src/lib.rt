@@ -17,6 +17,3 @@ mod shown;
 pub use auditing::{Verdict, audit};
 pub use certified::certified_in;
 pub use shown::stamps;
-
-#[cfg(test)]
-mod tests;

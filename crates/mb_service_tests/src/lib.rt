@@ -1,7 +1,9 @@
-//! Tests of how a service is used: what clients ask for and count, what a host executes and keeps of it, and the long schedules in which both are
-//! drawn.
+//! Tests of how a service is used: what clients ask for and count, what a host executes and keeps of it, the long schedules in which both are drawn, and
+//! what is found of hosts afterwards.
 #![tactic(auto)]
 
+#[cfg(test)]
+mod audit;
 #[cfg(test)]
 mod cache;
 #[cfg(test)]
