@@ -1,5 +1,5 @@
 -- What a command does, by its words.
-use Rattle.std.proofs.Common.{◌≡◌, ℕ, ◌+◌, ◌≤◌, true, false, Option, Some, None, IfSome, refl, sym, subst, arith, ◌⊎◌, inl, inr}
+use Rattle.std.proofs.Common.{◌≡◌, ℕ, ◌+◌, ◌≤◌, true, false, List, Option, Some, None, IfSome, refl, sym, subst, arith, ◌⊎◌, inl, inr}
 use Rattle.std.specs.Prelude.{Contains}
 use Rattle.std.specs.Io.KnownBytes.{IsAtEnd}
 use Rattle.std.proofs.lemmas.Option.{IfSome_then}
@@ -13,7 +13,7 @@ use Rattle.mb_top.specs.Responses.{Replays, Soaks, summed_up, exhausted}
 use Rattle.mb_top.specs.Soaks.{soak_text}
 use Rattle.mb_answer.proofs.Statuses.{said_is}
 use Rattle.mb_serving.specs.Records.{Retraces}
-use Rattle.mb_top.specs.Doings.{DoesWith, Does, IsIdle, statuses}
+use Rattle.mb_top.specs.Doings.{DoesWith, DoesWithRecord, Does, IsIdle, statuses}
 use Rattle.mb_serving.specs.Nodes.{Nodes}
 use Rattle.mb_reviewing.specs.Audits.{Audits, audit_findings}
 use Rattle.mb_answer.specs.Texts.{usage_text}
@@ -81,6 +81,9 @@ module _ (status : ℕ) (old new : Devices) where
   with_text : (does : Bytes → Type 0) → IfSome old.source.bytes does → (status ≡ 0 → IsAtEnd new.source.bytes) → DoesWith does status old.source new.source
   with_text does told ended = record { told = told; ended = ended }
 
+  with_record : (does : Bytes → Type 0) (findings : List ℕ) → IfSome old.source.bytes does → (Contains findings status → IsAtEnd new.source.bytes) → DoesWithRecord does findings status old.source new.source
+  with_record does findings told ended = record { told = told; ended = ended }
+
   pub does_replay : IfSome old.source.bytes (λ text. Replays text status old.source new.source old.sink new.sink) → (status ≡ 0 → IsAtEnd new.source.bytes) → old.link ≡ new.link → old.spawner ≡ new.spawner
       → Does (Some Replay) status old new
   does_replay told ended link spawner = (with_text (λ text. Replays text status old.source new.source old.sink new.sink) told ended, stay link spawner)
@@ -101,7 +104,7 @@ module _ (status : ℕ) (old new : Devices) where
 
   pub does_audit : (host : ℕ) → IfSome old.source.bytes (λ text. Audits text host status old.source new.source old.sink new.sink) → (Contains audit_findings status → IsAtEnd new.source.bytes)
       → old.link ≡ new.link → old.spawner ≡ new.spawner → Does (Some (Audit host)) status old new
-  does_audit host told ended link spawner = (record { told = told; ended = ended }, stay link spawner)
+  does_audit host told ended link spawner = (with_record (λ text. Audits text host status old.source new.source old.sink new.sink) audit_findings told ended, stay link spawner)
 
   pub does_usage : Says 1 usage_text status old.sink new.sink → old.link ≡ new.link → old.spawner ≡ new.spawner → Does None status old new
   does_usage told link spawner = (told, stay link spawner)
