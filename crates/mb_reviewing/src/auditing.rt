@@ -57,9 +57,10 @@ fn answer_record(alloc: Global, host: u64, written: Record) -> Result<Answer, No
     let usig = Usig::new(shape, host, &written.config.secret);
     let given = given_in(alloc, written.entries)?;
     let verdict = mb_audit::audit(alloc, &shape, &usig, given.as_slice(), host)?;
+    let text = text_of(alloc, host, &verdict)?;
     Ok(Answer {
         status: status_of(&verdict),
-        text: text_of(alloc, host, &verdict)?.into_bytes(),
+        text: text.into_bytes(),
     })
 }
 
