@@ -14,6 +14,6 @@ mod certified;
 mod kept;
 mod shown;
 
-pub use auditing::{Verdict, audit, verdicts_are_one};
+pub use auditing::{Verdict, audit, illegal_is_disorder, verdicts_are_one};
 pub use certified::certified_in;
 pub use shown::stamps;
