@@ -1,5 +1,5 @@
 -- A message that may not stand behind those that are taken makes a list that is not in order.
-use Rattle.std.proofs.Common.{◌≡◌, ℕ, ◌&&◌, Bool, List, [], ◌∷◌, ap, subst, arith}
+use Rattle.std.proofs.Common.{ℕ, ◌&&◌, Bool, List, [], ◌∷◌, ap, subst, arith}
 use Rattle.mb_base.specs.Shapes.{Bytes}
 use Rattle.mb_base.specs.declared.shape.Shape.{Shape}
 use Rattle.mb_parts.specs.Bares.{Bare}

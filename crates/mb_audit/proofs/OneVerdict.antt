@@ -1,6 +1,6 @@
 -- The verdict is one: two lists that are taken are beginnings of each other, and of the shorter one the next counter would be taken in the longer one,
 -- which no verdict allows.
-use Rattle.std.proofs.Common.{◌≡◌, ℕ, ◌+◌, ◌<◌, ◌≤◌, true, false, List, [], ◌∷◌, length, refl, sym, ap, subst, ◌∙◌, arith, ◌⊎◌, inl, inr}
+use Rattle.std.proofs.Common.{◌≡◌, ℕ, ◌+◌, ◌<◌, ◌≤◌, true, false, List, [], ◌∷◌, length, refl, sym, ap, subst, ◌∙◌, arith, inl, inr}
 use Rattle.std.proofs.lemmas.Bool.{cases_order}
 use Rattle.mb_base.specs.Shapes.{Bytes}
 use Rattle.mb_base.specs.declared.shape.Shape.{Shape}

@@ -2,7 +2,7 @@
 --
 -- A certificate that verifies in what a correct host was given was issued, so no host has two messages at one counter (`one_message`). What a correct
 -- host's messages are found to be is a beginning of its own list (`is_beginning`), in which each message may stand behind those before it.
-use Rattle.std.proofs.Common.{◌≡◌, ℕ, ◌+◌, ◌<◌, ◌⊎◌, Bool, true, false, List, [], ◌∷◌, ◌++◌, length, refl, sym, ap, subst, ◌∙◌, inl, inr, arith, length-append, Option, Some, None}
+use Rattle.std.proofs.Common.{◌≡◌, ℕ, ◌+◌, ◌<◌, ◌⊎◌, Bool, true, List, [], ◌∷◌, ◌++◌, length, refl, sym, ap, subst, ◌∙◌, inl, inr, arith, length-append, Option, Some, None}
 use Rattle.std.specs.Prelude.{reverse}
 use Rattle.std.specs.List.{flat_map}
 use Rattle.std.proofs.lemmas.Bool.{cases_Bool}
@@ -12,7 +12,7 @@ use Rattle.mb_parts.specs.Bares.{Bare, bare_bytes}
 use Rattle.mb_parts.specs.Certificates.{inner_valid}
 use Rattle.mb_parts.specs.Claims.{Claim}
 use Rattle.mb_parts.specs.Counters.{at_counter, IsBeginning}
-use Rattle.mb_parts.specs.Ordered.{initial_floor, is_ordered, permits}
+use Rattle.mb_parts.specs.Ordered.{initial_floor, is_ordered}
 use Rattle.mb_parts.proofs.Counters.{StandsAt, at_split}
 use Rattle.mb_parts.proofs.IssuedLaws.{says}
 use Rattle.mb_parts.proofs.OrderedParts.{head, ordered_before}
@@ -33,9 +33,9 @@ use Rattle.mb_known.proofs.Facts.{Facts}
 use Rattle.mb_known.proofs.FactsOf.{facts_in}
 use Rattle.mb_known.proofs.Grown.{IsGivenTo}
 use Rattle.mb_views.proofs.CorrectOne.{issued_said}
-use Rattle.mb_audit.specs.Stamps.{claims_of, claims_among, IsStamp}
+use Rattle.mb_audit.specs.Stamps.{claims_of, IsStamp}
 use Rattle.mb_audit.specs.declared.auditing.Verdict.TheVariants.{Double, Illegal}
-use Rattle.mb_audit.specs.Verdicts.{IsVerdict, IsOnly, AreTaken, may_follow}
+use Rattle.mb_audit.specs.Verdicts.{IsVerdict, AreTaken, may_follow}
 use Rattle.mb_audited.specs.Blame.{given_to, AccusesRightly, AuditsAccuseRightly}
 
 -- ---- members

@@ -1,13 +1,12 @@
 -- An audit of what a correct host was given accuses nobody who is correct.
-use Rattle.std.proofs.Common.{◌≡◌, ℕ, ◌<◌, true, List, refl, sym, ap, subst, ◌∙◌, arith}
+use Rattle.std.proofs.Common.{◌≡◌, ℕ, ◌<◌, true, List, sym, subst, ◌∙◌, arith}
 use Rattle.mb_base.specs.Shapes.{Bytes, host_count}
 use Rattle.mb_base.specs.declared.shape.Shape.{Shape}
 use Rattle.mb_kv.specs.Pairs.{Pairs}
 use Rattle.mb_audit.specs.declared.auditing.Verdict.{Verdict}
 use Rattle.mb_audit.specs.declared.auditing.Verdict.TheVariants.{Double, Gap, Illegal, Ordered}
 use Rattle.mb_audit.specs.Verdicts.{IsVerdict}
-use Rattle.mb_audited.specs.Blame as rightly
-use Rattle.mb_audited.specs.Blame.{given_to}
+use Rattle.mb_audited.specs.Blame.{given_to, AccusesRightly}
 use Rattle.mb_audited.proofs.Blame.{audits_accuse_rightly}
 use Rattle.mb_schedule.specs.declared.schedule.Schedule.{Schedule}
 use Rattle.mb_schedule.specs.Limits.{is_faulty}
@@ -19,7 +18,7 @@ use Rattle.mb_answer.proofs.RecordTexts.{same_record}
 use Rattle.mb_reviewing.specs.Given.{given_in}
 use Rattle.mb_reviewing.specs.Audits.{verdict_status, AnswersAudit, no_host, judged, Audits}
 use Rattle.mb_top.specs.Systems.{system_of, world}
-use Rattle.mb_top.specs.Blames.{IsRecordIn, AccusesRightly}
+use Rattle.mb_top.specs.Blames.{IsRecordIn, ConvictsRightly}
 
 module _ (host : ℕ) (s : Schedule) (w : World) where
   -- Status 12 convicts, and status 3 isn't told.
@@ -29,7 +28,7 @@ module _ (host : ℕ) (s : Schedule) (w : World) where
   none_told : (status n : ℕ) → status ≡ n → ¬ (n ≡ 12) → ¬ (n ≡ 3) → Convicts status
   none_told status n is twelve three = (λ told. absurd (twelve (sym is ∙ told)), λ told. three (sym is ∙ told))
 
-  module _ (r : Record) (of : IsRecordIn s w r) (accuses : rightly.AccusesRightly (system_of s) w r.id) where
+  module _ (r : Record) (of : IsRecordIn s w r) (accuses : AccusesRightly (system_of s) w r.id) where
     -- the verdict in the words of the schedule
     moved : (v : Verdict) → IsVerdict r.config.shape r.config.secret (given_in r.entries) host v → IsVerdict s.shape s.secret (given_to (system_of s) w r.id) host v
     moved v is =
@@ -63,6 +62,6 @@ module _ (host : ℕ) (s : Schedule) (w : World) where
     audit_convicts text status source source' sink sink' is (unread five rose kept) = none_told status 5 five (λ e. absurd (omega (arith, e))) (λ e. absurd (omega (arith, e)))
     audit_convicts text status source source' sink sink' is (starved four kept) = none_told status 4 four (λ e. absurd (omega (arith, e))) (λ e. absurd (omega (arith, e)))
 
-pub audits_convict : (host : ℕ) (text : Bytes) (r : Record) (status : ℕ) (source source' sink sink' : Device) → IsRecordText text r → Audits text host status source source' sink sink' → AccusesRightly host status r
+pub audits_convict : (host : ℕ) (text : Bytes) (r : Record) (status : ℕ) (source source' sink sink' : Device) → IsRecordText text r → Audits text host status source source' sink sink' → ConvictsRightly host status r
 audits_convict host text r status source source' sink sink' is told = λ s fits k le none apart of.
     audit_convicts host s (world s k) r of (audits_accuse_rightly Pairs (system_of s) fits k le none apart r.id of.correct) text status source source' sink sink' is told

@@ -20,6 +20,6 @@ pub record IsRecordIn (s : Schedule) (w : World) (r : Record) : Type 0 where
 
 -- Whatever schedule it is, with at most f faulty hosts and while nothing is forged or refused by the world and no two of the strings hashed so far share a
 -- digest: at status 12 the host is faulty, and status 3 never comes.
-abbrev pub AccusesRightly : ℕ → ℕ → Record → Type 0
-AccusesRightly host status r = (s : Schedule) → IsSchedule s → (k : ℕ) → k ≤ length s.events → IsUnstopped (system_of s) k → HashesApart (world s k).hashed → IsRecordIn s (world s k) r
+abbrev pub ConvictsRightly : ℕ → ℕ → Record → Type 0
+ConvictsRightly host status r = (s : Schedule) → IsSchedule s → (k : ℕ) → k ≤ length s.events → IsUnstopped (system_of s) k → HashesApart (world s k).hashed → IsRecordIn s (world s k) r
     → (status ≡ 12 → is_faulty s host ≡ true) × ¬ (status ≡ 3)

@@ -23,7 +23,7 @@ ghost use Rattle.mb_serving.specs.Nodes.{Nodes, IsServed};
 ghost use Rattle.mb_reviewing.specs.Audits.{Audits, IsAudited, audit_findings};
 ghost use Rattle.mb_answer.specs.Clusters.{Clusters, TellsBadEnds, IsRun};
 ghost use Rattle.mb_top.specs.Outcomes.{ReportsOn, TellsForged, IsComplete};
-ghost use Rattle.mb_top.specs.Blames.{AccusesRightly};
+ghost use Rattle.mb_top.specs.Blames.{ConvictsRightly};
 ghost use Rattle.mb_top.specs.Doings.{Does, IsIdle, most_read, statuses};
 
 use crate::command::{Command, command_in};
@@ -152,7 +152,7 @@ pub fn minbft<S: Source, K: Sink, L: Link, P: Spawner>(
     // Where the record says what a correct host was given in a world of at most f faulty hosts, in which nothing was forged: at status 12 the host is faulty,
     // and no host is found to have two messages at one counter.
     ensures audit_blame { (host : ℕ) → command_of (map string_bytes words.now) ≡ Some (Command.Audit host)
-        → (text : Bytes) (r : Record) → S.left source.old ≡ Some text → IsRecordText text r → AccusesRightly host result r }
+        → (text : Bytes) (r : Record) → S.left source.old ≡ Some text → IsRecordText text r → ConvictsRightly host result r }
     ensures audit_ended { (host : ℕ) → command_of (map string_bytes words.now) ≡ Some (Command.Audit host) → Contains audit_findings result → IsAtEnd (S.left source.new) }
     // Each command has its statuses, whatever the source tells.
     ensures statuses { Contains (statuses (command_of (map string_bytes words.now))) result }

@@ -1,4 +1,4 @@
-use Rattle.std.proofs.Common.{refl, inr, arith}
+use Rattle.std.proofs.Common.{refl, inr}
 use Rattle.std.proofs.lemmas.Option.{IfSome_then}
 use Rattle.mb_edge.proofs.FaultLemmas.{tells_both, tells_none, tells_as}
 use Rattle.mb_answer.specs.Configs.{used, unused}

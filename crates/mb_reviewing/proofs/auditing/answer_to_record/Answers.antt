@@ -1,4 +1,3 @@
-use Rattle.std.proofs.Common.{Err, subst}
 use Rattle.std.proofs.lemmas.Result.{IfOk-weaker}
 use Rattle.mb_answer.specs.Records.{right}
 use Rattle.mb_answer.proofs.RecordTexts.{refuses_record}

@@ -1,4 +1,4 @@
-use Rattle.std.proofs.Common.{◌≡◌, Option, Some, IfSome, refl, ap, subst, ◌∙◌, arith}
+use Rattle.std.proofs.Common.{◌≡◌, Option, Some, IfSome, refl, ap, subst, ◌∙◌}
 use Rattle.mb_edge.proofs.FaultLemmas.{tells_none}
 use Rattle.mb_answer.proofs.ConfigLaws.{no_ends, ends_none}
 use Rattle.mb_answer.proofs.Statuses.{low_no_link, low_no_spawner}
