@@ -81,7 +81,7 @@ module _ (s : Shape) (secret : Bytes) (given : List Bytes) (host : ℕ) where
   none_goes_on a (Double counter) f m only may = two_differ a counter f m only
   none_goes_on a (Gap missing seen) f m only may = gap_none a missing seen f (m, only.stamped)
   none_goes_on a (Illegal counter rule) f m only may =
-      let same : f.1.0 ≡ m = only.only f.1.0 (illegal_is a counter rule f).1 in
+      let same : f.1.0 ≡ m = only.only f.1.0 (illegal_only a counter rule f).stamped in
       let e : true ≡ false = sym may ∙ (ap (may_follow s secret given host a) (sym same) ∙ f.1.2) in
       absurd cc
   none_goes_on a (Ordered last) f m only may = ordered_none a last f (m, only.stamped)
@@ -105,7 +105,7 @@ module _ (s : Shape) (secret : Bytes) (given : List Bytes) (host : ℕ) where
   one a (Illegal c r) (Double d) f g = absurd (two_differ a d g f.1.0 (illegal_only a c r f))
   one a (Illegal c r) (Gap m x) f g = absurd (gap_none a m x g (illegal_is a c r f))
   one a (Illegal c r) (Illegal d q) f g =
-      let same : f.1.0 ≡ g.1.0 = (illegal_only a d q g).only f.1.0 (illegal_is a c r f).1 in
+      let same : f.1.0 ≡ g.1.0 = (illegal_only a d q g).only f.1.0 (illegal_only a c r f).stamped in
       ap (λ (k : ℕ). Illegal k r) (f.0 ∙ sym g.0) ∙ ap (λ (k : ℕ). Illegal d k) (f.1.3 ∙ (ap rule_of same ∙ sym g.1.3))
   one a (Illegal c r) (Ordered l) f g = absurd (ordered_none a l g (illegal_is a c r f))
   one a (Ordered l) (Double d) f g = absurd (ordered_none a l f (double_is a d g))
