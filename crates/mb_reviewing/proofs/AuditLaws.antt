@@ -37,7 +37,7 @@ verdict_told (Ordered last) = inl (omega arith)
 -- ---- no verdict
 
 unfound : (n : ℕ) → ¬ (0 ≡ n) → ¬ (3 ≡ n) → ¬ (12 ≡ n) → ¬ (13 ≡ n) → ¬ Contains audit_findings n
-unfound n zero three twelve thirteen = λ is. any_of (λ x. ¬ (x ≡ n)) audit_findings n (zero, three, twelve, thirteen, tt) is refl
+unfound n zero three twelve thirteen = λ is. any_of (λ x. ¬ (x ≡ n)) audit_findings n (zero, (three, (twelve, (thirteen, tt)))) is refl
 
 -- Where the text could not be read, no verdict is told.
 pub unread_unfound : (found : ReadStop) (status : ℕ) (sink sink' : Device) → IsUnread found status sink sink' → ¬ Contains audit_findings status
