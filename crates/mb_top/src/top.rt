@@ -14,6 +14,7 @@ ghost use Rattle.mb_top.specs.Commands.{command_of, IsWithin, reads};
 ghost use Rattle.mb_answer.specs.Texts.{usage_text};
 ghost use Rattle.mb_answer.specs.Records.{IsRecordText};
 ghost use Rattle.mb_top.specs.Systems.{system_of, world};
+ghost use Rattle.mb_top.specs.Runs.{AreUnstopped};
 ghost use Rattle.mb_top.specs.Answers.{IsFirstForged};
 ghost use Rattle.mb_answer.specs.Devices.{device, link_state, spawner_state, devices, Says};
 ghost use Rattle.mb_top.specs.Responses.{Replays, Soaks};
@@ -95,6 +96,10 @@ pub fn minbft<S: Source, K: Sink, L: Link, P: Spawner>(
     ensures history { command_of (map string_bytes words.now) ≡ Some Command.Replay → result ≡ 0
         → (text : Bytes) (s : Schedule) → S.left source.old ≡ Some text → IsScheduleText text s
         → (k : ℕ) → k ≤ length s.events → HashesApart (world s k).hashed → Promises (system_of s) (world s k) }
+    // Whatever the status, also where memory runs out or the sink fails: behind events none of which something stood in the way of, the same holds.
+    ensures history_so_far { command_of (map string_bytes words.now) ≡ Some Command.Replay
+        → (text : Bytes) (s : Schedule) → S.left source.old ≡ Some text → IsScheduleText text s
+        → (k : ℕ) → k ≤ length s.events → AreUnstopped s k → HashesApart (world s k).hashed → Promises (system_of s) (world s k) }
     // At status 3 the first event that something stands in the way of delivers what is forged, and it was told. Up to it the same holds.
     ensures forged { command_of (map string_bytes words.now) ≡ Some Command.Replay → result ≡ 3
         → IfSome (S.left source.old) (λ text. TellsForged text (K.written sink.old) (K.written sink.new)) }

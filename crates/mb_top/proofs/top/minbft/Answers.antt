@@ -2,7 +2,7 @@ use Rattle.std.proofs.Common.{Option, Some, IfSome, ◌∙◌, subst, sym}
 use Rattle.std.proofs.lemmas.Option.{IfSome_then}
 use Rattle.mb_sched.proofs.EventLimits.{schedule_fits}
 use Rattle.mb_top.proofs.Answered.{reports, reported_is_unstopped, tells_forged, completes}
-use Rattle.mb_top.proofs.Promised.{hold_throughout, hold_before_forged}
+use Rattle.mb_top.proofs.Promised.{hold_at_each_event, hold_throughout, hold_before_forged}
 use Rattle.mb_top.proofs.SoakLaws.{all_hold}
 use Rattle.mb_serving.proofs.RecordLaws.{retrace_completes}
 use Rattle.mb_answer.proofs.ConfigLaws.{cluster_completes}
@@ -24,6 +24,9 @@ pub returns-clause-history : goal.returns-clause-history
 returns-clause-history g c = λ asked zero text s left is.
     let told = rw left at (replays _ _ _ _ c.run.ensures.does (c.command_in.ensures.command ∙ asked)) in
     hold_throughout s (schedule_fits text s is) (reported_is_unstopped text s _ _ is (reports text _ _ _ _ _ told zero))
+
+pub returns-clause-history_so_far : goal.returns-clause-history_so_far
+returns-clause-history_so_far g c = λ asked text s left is k le none apart. hold_at_each_event s (schedule_fits text s is) k le none apart
 
 pub returns-clause-forged : goal.returns-clause-forged
 returns-clause-forged g c = λ asked three.
