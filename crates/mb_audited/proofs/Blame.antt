@@ -2,17 +2,22 @@
 --
 -- A certificate that verifies in what a correct host was given was issued, so no host has two messages at one counter (`one_message`). What a correct
 -- host's messages are found to be is a beginning of its own list (`is_beginning`), in which each message may stand behind those before it.
-use Rattle.std.proofs.Common.{◌≡◌, ℕ, ◌+◌, ◌<◌, ◌⊎◌, Bool, true, List, [], ◌∷◌, ◌++◌, length, refl, sym, ap, subst, ◌∙◌, inl, inr, arith, length-append, Option, Some, None}
-use Rattle.std.specs.Prelude.{reverse}
-use Rattle.std.specs.List.{flat_map}
+use Rattle.std.proofs.Common.{◌≡◌, ℕ, ◌+◌, ◌<◌, Bool, true, List, [], ◌∷◌, ◌++◌, length, map, refl, sym, ap, subst, ◌∙◌, inl, inr, arith, length-append, eqb, Option, Some, None}
+use Rattle.std.specs.Prelude.{reverse, option_and_then}
+use Rattle.std.specs.List.{flat_map, AllByRecursion}
 use Rattle.std.proofs.lemmas.Bool.{cases_Bool}
-use Rattle.std.proofs.lemmas.List.{reverse-append}
-use Rattle.mb_base.specs.Shapes.{Bytes, host_count}
+use Rattle.std.proofs.lemmas.List.{reverse-append, length-map}
+use Rattle.std.proofs.lemmas.Option.{none-some}
+use Rattle.mb_base.specs.Shapes.{Bytes, IsShape, host_count}
+use Rattle.mb_base.specs.declared.shape.Shape.{Shape}
 use Rattle.mb_parts.specs.Bares.{Bare, bare_bytes}
+use Rattle.mb_parts.specs.BareReading.{bare_of_bytes}
 use Rattle.mb_parts.specs.Certificates.{inner_valid}
 use Rattle.mb_parts.specs.Claims.{Claim}
 use Rattle.mb_parts.specs.Counters.{at_counter, IsBeginning}
+use Rattle.mb_parts.specs.Fits.{FitsBare}
 use Rattle.mb_parts.specs.Ordered.{initial_floor, is_ordered}
+use Rattle.mb_parts.proofs.BareLaws.{bare_again}
 use Rattle.mb_parts.proofs.Counters.{StandsAt, at_split}
 use Rattle.mb_parts.proofs.IssuedLaws.{says}
 use Rattle.mb_parts.proofs.OrderedParts.{head, ordered_before}
@@ -29,24 +34,16 @@ use Rattle.mb_theory.specs.WorldEvents.{IsCorrect}
 use Rattle.mb_theory.specs.WorldRecord.{issued}
 use Rattle.mb_theory.specs.WorldSteps.{world}
 use Rattle.mb_known.proofs.Cases.{not_both, some_is}
-use Rattle.mb_known.proofs.Facts.{Facts}
-use Rattle.mb_known.proofs.FactsOf.{facts_in}
 use Rattle.mb_known.proofs.Grown.{IsGivenTo}
-use Rattle.mb_views.proofs.CorrectOne.{issued_said}
+use Rattle.mb_known.proofs.OwnStamps.{own_fits}
+use Rattle.mb_genuine.proofs.Ready.{IsReady, ready, given_fits}
 use Rattle.mb_audit.specs.Stamps.{claims_of, IsStamp}
 use Rattle.mb_audit.specs.declared.auditing.Verdict.TheVariants.{Double, Illegal}
 use Rattle.mb_audit.specs.Verdicts.{IsVerdict, AreTaken, may_follow}
+use Rattle.mb_audit.proofs.Keeping.{in_either}
 use Rattle.mb_audited.specs.Blame.{given_to, AccusesRightly, AuditsAccuseRightly}
 
 -- ---- members
-
-in_either : {A : Type 0} (a b : List A) (x : A) → In (a ++ b) x → In a x ⊎ In b x
-in_either [] b x i = inr i
-in_either (y ∷ a) b x (inl is) = inl (inl is)
-in_either (y ∷ a) b x (inr i) = elim (in_either a b x i) [
-  | inl front ↦ inl (inr front)
-  | inr back ↦ inr back
-]
 
 in_turned : {A : Type 0} (l : List A) (x : A) → In (reverse l) x → In l x
 in_turned [] x i = i
@@ -73,7 +70,19 @@ same_end {A} (c ∷ a) (d ∷ b) x y e l = same_end a b x y (rest c d (a ++ x) (
   rest : (c d : A) (u v : List A) → c ∷ u ≡ d ∷ v → u ≡ v
   rest c d u v e = cc
 
-module _ {S : Type 0} (system : System S) (w : World) (f : Facts system w) (id : ℕ) where
+-- ---- what is read of the bytes that were stamped
+
+-- What is read at a counter stands there, where all of the list has the values of the grammar.
+read_said : (s : Shape) → IsShape s → (l : List Bare) → AllByRecursion (FitsBare s) l → (n : ℕ) (m : Bare) → option_and_then (bare_of_bytes s) (at_counter (map bare_bytes l) n) ≡ Some m → at_counter l n ≡ Some m
+read_said s shape [] fits n m e = absurd (none-some m e)
+read_said s shape (b ∷ l) fits n m e = elim (cases_Bool (eqb n (length l + 1))) [
+  | inl same ↦
+      let read : bare_of_bytes s (bare_bytes b) ≡ Some m = rw (length-map l bare_bytes, same) at e in
+      rw same (sym (bare_again s shape b fits.0) ∙ read)
+  | inr other ↦ rw other (read_said s shape l fits.1 n m (rw (length-map l bare_bytes, other) at e))
+]
+
+module _ {S : Type 0} (system : System S) (w : World) (r : IsReady system w) (id : ℕ) where
   -- that the host stamped this at this counter, as was shown
   abbrev claim : ℕ → ℕ → Bare → Bytes → Claim
   claim host counter m cert = record { host = host; counter = counter; says = m; cert = cert }
@@ -95,7 +104,7 @@ module _ {S : Type 0} (system : System S) (w : World) (f : Facts system w) (id :
         by bytes given None is i = absurd i
         by bytes given (Some x) is i =
             let there : IsGivenTo system.schedule w id x = record { bytes = bytes; delivered = given; reads = is } in
-            (f.standing.clean id x there).issues (claim host counter m s.cert) i s.certified
+            (r.standing.clean id x there).issues (claim host counter m s.cert) i s.certified
 
   -- So no host has two messages at one counter.
   one_message : (host counter : ℕ) (a b : Bare) → Shown host counter a → Shown host counter b → a ≡ b
@@ -109,8 +118,14 @@ module _ {S : Type 0} (system : System S) (w : World) (f : Facts system w) (id :
     abbrev own : List Bare
     own = said (w.histories host)
 
+    fits : AllByRecursion (FitsBare system.schedule.shape) own
+    fits = own_fits system w r.shape r.standing r.numbered (given_fits system w) r.low r.arises host correct
+
     stands : (counter : ℕ) (m : Bare) → Shown host counter m → at_counter own counter ≡ Some m
-    stands counter m s = issued_said system w f (claim host counter m s.cert) correct (stamp_issued host counter m s)
+    stands counter m s =
+        let told : option_and_then (bare_of_bytes system.schedule.shape) (at_counter (stamps system.schedule w host) counter) ≡ Some m =
+        says system.schedule.shape (stamps system.schedule w) (claim host counter m s.cert) (stamp_issued host counter m s) in
+        read_said system.schedule.shape r.shape own fits counter m (rw correct.1 at told)
 
     -- the next one behind a beginning
     goes_on : (l : List Bare) (m : Bare) → IsBeginning l own → at_counter own (length l + 1) ≡ Some m → IsBeginning (m ∷ l) own
@@ -134,7 +149,7 @@ module _ {S : Type 0} (system : System S) (w : World) (f : Facts system w) (id :
     may_stand l m t s =
         let inner : Bare → Bool = inner_valid system.schedule.shape (verifies system.schedule.secret) in
         let b : IsBeginning (m ∷ l) own = goes_on l m (is_beginning l t) (stands (length l + 1) m s) in
-        let ordered : is_ordered initial_floor system.schedule.shape host inner own ≡ true = (steady (self_of system host) (w.histories host) (f.arises host)).list.ordered in
+        let ordered : is_ordered initial_floor system.schedule.shape host inner own ≡ true = (steady (self_of system host) (w.histories host) (r.arises host)).list.ordered in
         head initial_floor system.schedule.shape host inner m l (ordered_before initial_floor system.schedule.shape host inner b.later (m ∷ l)
         (subst (λ (x : List Bare). is_ordered initial_floor system.schedule.shape host inner x ≡ true) (sym b.is) ordered))
 
@@ -155,4 +170,4 @@ module _ {S : Type 0} (system : System S) (w : World) (f : Facts system w) (id :
     ]
 
 pub audits_accuse_rightly : (S : Type 0) → AuditsAccuseRightly S
-audits_accuse_rightly S system fits k le none apart id correct = accuses_rightly system (world system k) (facts_in system fits k none apart) id
+audits_accuse_rightly S system k none id correct = accuses_rightly system (world system k) (ready system k none) id

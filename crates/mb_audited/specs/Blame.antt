@@ -1,8 +1,7 @@
 -- Whom an audit of what a correct host was given can accuse.
-use Rattle.std.specs.Prelude.{◌≡◌, ℕ, ◌≤◌, ◌<◌, true, List, length, reverse}
+use Rattle.std.specs.Prelude.{◌≡◌, ℕ, ◌<◌, true, List, reverse}
 use Rattle.mb_base.specs.Shapes.{Bytes, host_count}
-use Rattle.mb_schedule.specs.Limits.{IsSchedule, is_faulty}
-use Rattle.mb_theory.specs.Hashed.{HashesApart}
+use Rattle.mb_schedule.specs.Limits.{is_faulty}
 use Rattle.mb_theory.specs.Stops.{IsUnstopped}
 use Rattle.mb_theory.specs.World.{World, System}
 use Rattle.mb_theory.specs.WorldEvents.{IsCorrect}
@@ -21,9 +20,6 @@ module _ {S : Type 0} (system : System S) (w : World) (id : ℕ) where
     pub guilty : (host counter rule : ℕ) → host < host_count system.schedule.shape → IsVerdict system.schedule.shape system.schedule.secret given_to host (Illegal counter rule)
         → is_faulty system.schedule host ≡ true
 
--- For every service and every schedule with at most f faulty hosts: after each event, while nothing was
--- forged or refused by the world and no two of the strings hashed so far share a digest.
+-- For every service and every schedule, however many hosts are faulty: after each event, while nothing was forged or refused by the world.
 abbrev pub AuditsAccuseRightly : Type 0 → Type 0
-AuditsAccuseRightly S = (system : System S) → IsSchedule system.schedule
-    → (k : ℕ) → k ≤ length system.schedule.events → IsUnstopped system k → HashesApart (world system k).hashed
-    → (id : ℕ) → IsCorrect system.schedule id → AccusesRightly system (world system k) id
+AuditsAccuseRightly S = (system : System S) (k : ℕ) → IsUnstopped system k → (id : ℕ) → IsCorrect system.schedule id → AccusesRightly system (world system k) id

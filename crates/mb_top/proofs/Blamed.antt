@@ -63,5 +63,5 @@ module _ (host : ℕ) (s : Schedule) (w : World) where
     audit_convicts text status source source' sink sink' is (starved four kept) = none_told status 4 four (λ e. absurd (omega (arith, e))) (λ e. absurd (omega (arith, e)))
 
 pub audits_convict : (host : ℕ) (text : Bytes) (r : Record) (status : ℕ) (source source' sink sink' : Device) → IsRecordText text r → Audits text host status source source' sink sink' → ConvictsRightly host status r
-audits_convict host text r status source source' sink sink' is told = λ s fits k le none apart of.
-    audit_convicts host s (world s k) r of (audits_accuse_rightly Pairs (system_of s) fits k le none apart r.id of.correct) text status source source' sink sink' is told
+audits_convict host text r status source source' sink sink' is told = λ s k none of.
+    audit_convicts host s (world s k) r of (audits_accuse_rightly Pairs (system_of s) k none r.id of.correct) text status source source' sink sink' is told

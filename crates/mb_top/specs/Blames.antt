@@ -1,10 +1,9 @@
 -- Whom an audit can accuse, where the record says what a correct host was given in a world.
-use Rattle.std.specs.Prelude.{◌≡◌, ℕ, ◌≤◌, true, length}
+use Rattle.std.specs.Prelude.{◌≡◌, ℕ, true}
 use Rattle.mb_audited.specs.Blame.{given_to}
 use Rattle.mb_schedule.specs.declared.schedule.Schedule.{Schedule}
-use Rattle.mb_schedule.specs.Limits.{IsSchedule, is_faulty}
+use Rattle.mb_schedule.specs.Limits.{is_faulty}
 use Rattle.mb_sched.specs.declared.records.Record.{Record}
-use Rattle.mb_theory.specs.Hashed.{HashesApart}
 use Rattle.mb_theory.specs.Stops.{IsUnstopped}
 use Rattle.mb_theory.specs.World.{World}
 use Rattle.mb_theory.specs.WorldEvents.{IsCorrect}
@@ -18,8 +17,7 @@ pub record IsRecordIn (s : Schedule) (w : World) (r : Record) : Type 0 where
   pub correct : IsCorrect s r.id
   pub given : given_in r.entries ≡ given_to (system_of s) w r.id
 
--- Whatever schedule it is, with at most f faulty hosts and while nothing is forged or refused by the world and no two of the strings hashed so far share a
--- digest: at status 12 the host is faulty, and status 3 never comes.
+-- Whatever schedule it is, however many hosts are faulty, while nothing is forged or refused by the world: at status 12 the host is faulty, and status 3 never
+-- comes.
 abbrev pub ConvictsRightly : ℕ → ℕ → Record → Type 0
-ConvictsRightly host status r = (s : Schedule) → IsSchedule s → (k : ℕ) → k ≤ length s.events → IsUnstopped (system_of s) k → HashesApart (world s k).hashed → IsRecordIn s (world s k) r
-    → (status ≡ 12 → is_faulty s host ≡ true) × ¬ (status ≡ 3)
+ConvictsRightly host status r = (s : Schedule) (k : ℕ) → IsUnstopped (system_of s) k → IsRecordIn s (world s k) r → (status ≡ 12 → is_faulty s host ≡ true) × ¬ (status ≡ 3)

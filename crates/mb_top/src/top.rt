@@ -154,8 +154,8 @@ pub fn minbft<S: Source, K: Sink, L: Link, P: Spawner>(
         (device (K.written sink.old) (K.faults sink.old)) (device (K.written sink.new) (K.faults sink.new))) }
     ensures audit_complete { (host : ℕ) → command_of (map string_bytes words.now) ≡ Some (Command.Audit host)
         → IfSome (S.left source.old) (λ text. IsAudited text host result (Rose (S.faults source.old) (S.faults source.new) ⊎ Rose (K.faults sink.old) (K.faults sink.new))) }
-    // Where the record says what a correct host was given in a world of at most f faulty hosts, in which nothing was forged: at status 12 the host is faulty,
-    // and no host is found to have two messages at one counter.
+    // Where the record says what a correct host was given in a world in which nothing was forged, however many hosts are faulty there: at status 12 the host is
+    // faulty, and no host is found to have two messages at one counter.
     ensures audit_blame { (host : ℕ) → command_of (map string_bytes words.now) ≡ Some (Command.Audit host)
         → (text : Bytes) (r : Record) → S.left source.old ≡ Some text → IsRecordText text r → ConvictsRightly host result r }
     ensures audit_ended { (host : ℕ) → command_of (map string_bytes words.now) ≡ Some (Command.Audit host) → Contains audit_findings result → IsAtEnd (S.left source.new) }
