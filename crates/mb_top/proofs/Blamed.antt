@@ -1,11 +1,13 @@
--- An audit of what a correct host was given accuses nobody who is correct.
-use Rattle.std.proofs.Common.{◌≡◌, ℕ, ◌<◌, true, List, sym, subst, ◌∙◌, arith}
+-- An audit of what a correct host was given accuses nobody who is correct; and what it tells of a host's stamps, whatever was forged.
+use Rattle.std.proofs.Common.{◌≡◌, ℕ, ◌<◌, true, List, Option, sym, subst, ◌∙◌, arith}
+use Rattle.std.specs.Io.KnownBytes.{Appends}
 use Rattle.mb_base.specs.Shapes.{Bytes, host_count}
 use Rattle.mb_base.specs.declared.shape.Shape.{Shape}
 use Rattle.mb_kv.specs.Pairs.{Pairs}
 use Rattle.mb_audit.specs.declared.auditing.Verdict.{Verdict}
 use Rattle.mb_audit.specs.declared.auditing.Verdict.TheVariants.{Double, Gap, Illegal, Ordered}
 use Rattle.mb_audit.specs.Verdicts.{IsVerdict}
+use Rattle.mb_audit.proofs.Disorder.{disordered}
 use Rattle.mb_audited.specs.Blame.{given_to, AccusesRightly}
 use Rattle.mb_audited.proofs.Blame.{audits_accuse_rightly}
 use Rattle.mb_schedule.specs.declared.schedule.Schedule.{Schedule}
@@ -16,9 +18,9 @@ use Rattle.mb_answer.specs.Devices.{Device, Says, said, failed, cut_short, answe
 use Rattle.mb_answer.specs.Records.{IsRecordText, AnswersText, too_long, bad_line, right}
 use Rattle.mb_answer.proofs.RecordTexts.{same_record}
 use Rattle.mb_reviewing.specs.Given.{given_in}
-use Rattle.mb_reviewing.specs.Audits.{verdict_status, AnswersAudit, no_host, judged, Audits}
+use Rattle.mb_reviewing.specs.Audits.{verdict_status, verdict_text, AnswersAudit, no_host, judged, Audits}
 use Rattle.mb_top.specs.Systems.{system_of, world}
-use Rattle.mb_top.specs.Blames.{IsRecordIn, ConvictsRightly}
+use Rattle.mb_top.specs.Blames.{IsRecordIn, ConvictsRightly, TellsDisorder}
 
 module _ (host : ℕ) (s : Schedule) (w : World) where
   -- Status 12 convicts, and status 3 isn't told.
@@ -65,3 +67,32 @@ module _ (host : ℕ) (s : Schedule) (w : World) where
 pub audits_convict : (host : ℕ) (text : Bytes) (r : Record) (status : ℕ) (source source' sink sink' : Device) → IsRecordText text r → Audits text host status source source' sink sink' → ConvictsRightly host status r
 audits_convict host text r status source source' sink sink' is told = λ s k none of.
     audit_convicts host s (world s k) r of (audits_accuse_rightly Pairs (system_of s) k none r.id of.correct) text status source source' sink sink' is told
+
+-- ---- at status 12
+
+module _ (host : ℕ) (r : Record) (old new : Option Bytes) where
+  verdict_tells : (v : Verdict) → IsVerdict r.config.shape r.config.secret (given_in r.entries) host v → verdict_status v ≡ 12 → Appends old new (verdict_text host v) → TellsDisorder host r old new
+  verdict_tells (Double counter) is twelve grew = absurd (omega (arith, twelve))
+  verdict_tells (Gap missing seen) is twelve grew = absurd (omega (arith, twelve))
+  verdict_tells (Illegal counter rule) is twelve grew = record { counter = counter; rule = rule; wrote = grew; disorder = disordered r.config.shape r.config.secret (given_in r.entries) host counter rule is }
+  verdict_tells (Ordered last) is twelve grew = absurd (omega (arith, twelve))
+
+  record_tells : (status : ℕ) (out : Bytes) → status ≡ 12 → Appends old new out → AnswersAudit host r status out → TellsDisorder host r old new
+  record_tells status out twelve grew (no_host none one text_is) = absurd (omega (arith, one, twelve))
+  record_tells status out twelve grew (judged v below is told text_is) = verdict_tells v is (sym told ∙ twelve) (subst (λ (t : Bytes). Appends old new t) text_is grew)
+
+  text_tells : (text : Bytes) (status : ℕ) (out : Bytes) → status ≡ 12 → Appends old new out → IsRecordText text r → AnswersText (AnswersAudit host) text status out → TellsDisorder host r old new
+  text_tells text status out twelve grew is (too_long long two text_is) = absurd (omega (arith, two, twelve))
+  text_tells text status out twelve grew is (bad_line n short fault two text_is) = absurd (omega (arith, two, twelve))
+  text_tells text status out twelve grew is (right q is' answers) = record_tells status out twelve grew (subst (λ (x : Record). AnswersAudit host x status out) (sym (same_record text r q is is')) answers)
+
+module _ (host : ℕ) (text : Bytes) (r : Record) (status : ℕ) (twelve : status ≡ 12) (is : IsRecordText text r) where
+  said_tells : (wanted : ℕ) (out : Bytes) (sink sink' : Device) → AnswersText (AnswersAudit host) text wanted out → Says wanted out status sink sink' → TellsDisorder host r sink.bytes sink'.bytes
+  said_tells wanted out sink sink' a (said same grew) = text_tells host r sink.bytes sink'.bytes text wanted out (sym same ∙ twelve) grew is a
+  said_tells wanted out sink sink' a (failed six rose part) = absurd (omega (arith, six, twelve))
+  said_tells wanted out sink sink' a (cut_short four part) = absurd (omega (arith, four, twelve))
+
+  pub audit_tells : (source source' sink sink' : Device) → Audits text host status source source' sink sink' → TellsDisorder host r sink.bytes sink'.bytes
+  audit_tells source source' sink sink' (answered wanted out a says) = said_tells wanted out sink sink' a says
+  audit_tells source source' sink sink' (unread five rose kept) = absurd (omega (arith, five, twelve))
+  audit_tells source source' sink sink' (starved four kept) = absurd (omega (arith, four, twelve))

@@ -1,5 +1,9 @@
--- Whom an audit can accuse, where the record says what a correct host was given in a world.
-use Rattle.std.specs.Prelude.{◌≡◌, ℕ, true}
+-- Whom an audit can accuse, where the record says what a correct host was given in a world; and what it shows, whatever was forged.
+use Rattle.std.specs.Prelude.{◌≡◌, ℕ, true, Option}
+use Rattle.std.specs.Io.KnownBytes.{Appends}
+use Rattle.mb_base.specs.Shapes.{Bytes}
+use Rattle.mb_audit.specs.declared.auditing.Verdict.TheVariants.{Illegal}
+use Rattle.mb_audit.specs.Verdicts.{AreDisordered}
 use Rattle.mb_audited.specs.Blame.{given_to}
 use Rattle.mb_schedule.specs.declared.schedule.Schedule.{Schedule}
 use Rattle.mb_schedule.specs.Limits.{is_faulty}
@@ -7,6 +11,7 @@ use Rattle.mb_sched.specs.declared.records.Record.{Record}
 use Rattle.mb_theory.specs.Stops.{IsUnstopped}
 use Rattle.mb_theory.specs.World.{World}
 use Rattle.mb_theory.specs.WorldEvents.{IsCorrect}
+use Rattle.mb_reviewing.specs.Audits.{verdict_text}
 use Rattle.mb_reviewing.specs.Given.{given_in}
 use Rattle.mb_top.specs.Systems.{system_of, world}
 
@@ -21,3 +26,10 @@ pub record IsRecordIn (s : Schedule) (w : World) (r : Record) : Type 0 where
 -- comes.
 abbrev pub ConvictsRightly : ℕ → ℕ → Record → Type 0
 ConvictsRightly host status r = (s : Schedule) (k : ℕ) → IsUnstopped (system_of s) k → IsRecordIn s (world s k) r → (status ≡ 12 → is_faulty s host ≡ true) × ¬ (status ≡ 3)
+
+-- What was written tells a counter up to which all that the host stamped, as the record's host was given it, is no list in order.
+pub record TellsDisorder (host : ℕ) (r : Record) (old new : Option Bytes) : Type 0 where
+  pub counter : ℕ
+  pub rule : ℕ
+  pub wrote : Appends old new (verdict_text host (Illegal counter rule))
+  pub disorder : AreDisordered r.config.shape r.config.secret (given_in r.entries) host counter

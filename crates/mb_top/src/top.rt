@@ -24,7 +24,7 @@ ghost use Rattle.mb_serving.specs.Nodes.{Nodes, IsServed};
 ghost use Rattle.mb_reviewing.specs.Audits.{Audits, IsAudited, audit_findings};
 ghost use Rattle.mb_answer.specs.Clusters.{Clusters, TellsBadEnds, IsRun};
 ghost use Rattle.mb_top.specs.Outcomes.{ReportsOn, TellsForged, IsComplete};
-ghost use Rattle.mb_top.specs.Blames.{ConvictsRightly};
+ghost use Rattle.mb_top.specs.Blames.{ConvictsRightly, TellsDisorder};
 ghost use Rattle.mb_top.specs.Doings.{Does, IsIdle, most_read, statuses};
 
 use crate::command::{Command, command_in};
@@ -158,6 +158,10 @@ pub fn minbft<S: Source, K: Sink, L: Link, P: Spawner>(
     // faulty, and no host is found to have two messages at one counter.
     ensures audit_blame { (host : ℕ) → command_of (map string_bytes words.now) ≡ Some (Command.Audit host)
         → (text : Bytes) (r : Record) → S.left source.old ≡ Some text → IsRecordText text r → ConvictsRightly host result r }
+    // At status 12, whatever was forged, the text that was written tells a counter up to which the host's stamps, in all that the record's host was given, are
+    // no list in order.
+    ensures audit_disorder { (host : ℕ) → command_of (map string_bytes words.now) ≡ Some (Command.Audit host) → result ≡ 12
+        → (text : Bytes) (r : Record) → S.left source.old ≡ Some text → IsRecordText text r → TellsDisorder host r (K.written sink.old) (K.written sink.new) }
     ensures audit_ended { (host : ℕ) → command_of (map string_bytes words.now) ≡ Some (Command.Audit host) → Contains audit_findings result → IsAtEnd (S.left source.new) }
     // Each command has its statuses, whatever the source tells.
     ensures statuses { Contains (statuses (command_of (map string_bytes words.now))) result }

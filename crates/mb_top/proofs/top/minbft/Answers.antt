@@ -8,7 +8,7 @@ use Rattle.mb_serving.proofs.RecordLaws.{retrace_completes}
 use Rattle.mb_answer.proofs.ConfigLaws.{cluster_completes}
 use Rattle.mb_serving.proofs.NodeLaws.{node_completes}
 use Rattle.mb_reviewing.proofs.AuditLaws.{audit_completes}
-use Rattle.mb_top.proofs.Blamed.{audits_convict}
+use Rattle.mb_top.proofs.Blamed.{audits_convict, audit_tells}
 use Rattle.mb_top.proofs.Doing.{reads_all, is_idle, replays, replay_ends, soaks, soaks_few, nodes, retraces, clusters, audits, audit_ends, tells_usage}
 use Rattle.mb_top.proofs.top.minbft.Goals as goal
 
@@ -83,6 +83,11 @@ pub returns-clause-audit_blame : goal.returns-clause-audit_blame
 returns-clause-audit_blame g c = λ host asked text r left is.
     let told = rw left at (audits _ _ _ _ c.run.ensures.does host (c.command_in.ensures.command ∙ asked)) in
     audits_convict host text r _ _ _ _ _ is told
+
+pub returns-clause-audit_disorder : goal.returns-clause-audit_disorder
+returns-clause-audit_disorder g c = λ host asked twelve text r left is.
+    let told = rw left at (audits _ _ _ _ c.run.ensures.does host (c.command_in.ensures.command ∙ asked)) in
+    audit_tells host text r _ twelve is _ _ _ _ told
 
 pub returns-clause-usage : goal.returns-clause-usage
 returns-clause-usage g c = λ asked. tells_usage _ _ _ _ c.run.ensures.does (c.command_in.ensures.command ∙ asked)
