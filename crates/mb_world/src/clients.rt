@@ -1,14 +1,18 @@
 //! What clients do: they ask, and take replies.
 
 ghost use Rattle.std.specs.Prelude.{◌≡◌, ◌+◌, ◌++◌, ◌∷◌, [], length, IfOk, OnOk};
+ghost use Rattle.mb_msg.specs.Fits.{Fits};
+ghost use Rattle.mb_msg.specs.Spelling.{spelling};
+ghost use Rattle.mb_msg.specs.declared.message.Message.TheVariants as message;
 ghost use Rattle.mb_theory.specs.World.{Made};
 ghost use Rattle.mb_world.specs.Answers.{as_answer};
 
 use crate::seen::Seen;
 use crate::world::World;
-use mb_base::{Client, Items, NoMemory};
+use mb_base::{Client, Items, NoMemory, Shape};
 use mb_msg::{Message, encode};
 use mb_parties::{ask_of, reply_in, take_of};
+use mb_parts::Request;
 use mb_service::Service;
 use std::alloc::Global;
 
@@ -22,6 +26,17 @@ pub(crate) fn add_message(pool: &mut Vec<Items<u8>>, bytes: Vec<u8>) -> Result<S
         first: pool.len() as u64,
         count: 1,
     })
+}
+
+/// The bytes of a REQUEST, which is dropped here by one call: a message that goes out of scope is dropped in place, kind by kind, at each exit.
+fn request_bytes(alloc: Global, shape: &Shape, request: Request) -> Result<Vec<u8>, NoMemory>
+    requires { Fits shape.now (message.Request request) }
+    ensures text { IfOk result (λ v. v.items ≡ spelling (message.Request request)) }
+{
+    let message = Message::Request(request);
+    let bytes = encode(alloc, shape, &message);
+    drop(message);
+    bytes
 }
 
 impl<V: Service + Drop> World<V> {
@@ -53,7 +68,7 @@ impl<V: Service + Drop> World<V> {
         self.events += 1;
         let request = ask_of(alloc, &mut self.askers, client, op.as_slice())?;
         self.ledger.note_asked(alloc, &request)?;
-        let bytes = encode(alloc, &self.shape, &Message::Request(request))?;
+        let bytes = request_bytes(alloc, &self.shape, request)?;
         add_message(&mut self.pool, bytes)
     }
 

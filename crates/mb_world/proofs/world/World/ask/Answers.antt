@@ -12,8 +12,8 @@ use Rattle.mb_parties.proofs.KeepLaws.{keeps_then}
 use Rattle.mb_world.proofs.WorldLaws.{if_both, made_one}
 use Rattle.mb_world.proofs.world.World.ask.Goals as goal
 
-pub encode-requires : goal.encode-requires
-encode-requires g c = small_request c.args.self.now.shape _ (c.in_ok-request.ensures.fits c.args.self.now.shape c.args.self.now.askers_shape)
+pub request_bytes-requires : goal.request_bytes-requires
+request_bytes-requires g c = small_request c.args.self.now.shape _ (c.in_ok-request.ensures.fits c.args.self.now.shape c.args.self.now.askers_shape)
 
 pub returns-clause-stands : goal.returns-clause-stands
 returns-clause-stands g c = λ y x h.
