@@ -1,8 +1,7 @@
 -- What a command does, by its words.
-use Rattle.std.proofs.Common.{◌≡◌, ℕ, ◌+◌, ◌≤◌, true, false, List, Option, Some, None, IfSome, refl, sym, subst, arith, ◌⊎◌, inl, inr}
+use Rattle.std.proofs.Common.{◌≡◌, ℕ, ◌≤◌, true, List, Option, Some, None, IfSome, refl, sym, subst, arith}
 use Rattle.std.specs.Prelude.{Contains}
 use Rattle.std.specs.Io.KnownBytes.{IsAtEnd}
-use Rattle.std.proofs.lemmas.Option.{IfSome_then}
 use Rattle.mb_base.specs.Shapes.{Bytes}
 use Rattle.mb_top.specs.declared.command.Command.{Command}
 use Rattle.mb_top.specs.declared.command.Command.TheVariants.{Replay, Soak, Node, Retrace, Cluster, Audit}

@@ -1,5 +1,5 @@
 -- A text is that of one schedule.
-use Rattle.std.proofs.Common.{◌≡◌, ℕ, ◌≤◌, List, Bool, Result, Ok, ap, subst, ◌∙◌}
+use Rattle.std.proofs.Common.{◌≡◌, ℕ, List, Bool, Result, Ok, ap, ◌∙◌}
 use Rattle.mb_answer.proofs.SameShapes.{same_shape}
 use Rattle.mb_base.specs.Shapes.{Bytes}
 use Rattle.mb_base.specs.declared.shape.Shape.{Shape}

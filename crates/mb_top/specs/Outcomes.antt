@@ -1,15 +1,9 @@
 -- What a status says of the text of a schedule, and which status has to come.
-use Rattle.std.specs.Prelude.{◌≡◌, ℕ, ◌<◌, ◌⊎◌, length, Option}
+use Rattle.std.specs.Prelude.{◌≡◌, ℕ, ◌⊎◌, length, Option}
 use Rattle.std.specs.Io.KnownBytes.{Appends}
-use Rattle.mb_base.specs.Shapes.{Bytes, host_count}
+use Rattle.mb_base.specs.Shapes.{Bytes}
 use Rattle.mb_schedule.specs.declared.schedule.Schedule.{Schedule}
 use Rattle.mb_sched.specs.Schedules.{IsScheduleText}
-use Rattle.mb_sched.specs.declared.records.Record.{Record}
-use Rattle.mb_sched.specs.declared.configs.Config.{Config}
-use Rattle.mb_answer.specs.Clusters.{IsUnbroken}
-use Rattle.mb_answer.specs.Configs.{IsConfigText}
-use Rattle.mb_answer.specs.Records.{IsRecordText}
-use Rattle.mb_serving.specs.Records.{IsOwnRecord}
 use Rattle.mb_top.specs.Runs.{AreUnstopped}
 use Rattle.mb_top.specs.Answers.{final_report, IsForgedText}
 
