@@ -4,7 +4,7 @@ use Rattle.std.specs.Fmt.{decimal}
 use Rattle.mb_base.specs.Shapes.{Bytes}
 
 abbrev pub usage_text : Bytes
-usage_text = codes "usage: minbft replay | soak SEED N | node ID EVENTS | retrace | cluster TURNS | audit H\n"
+usage_text = codes "usage: minbft replay | soak SEED N | node ID EVENTS | retrace | cluster TURNS | audit H | learn\n"
 
 abbrev pub too_long_text : Bytes
 too_long_text = codes "too long\n"

@@ -41,7 +41,7 @@ pub const CHILD_ENDED: u8 = 18;
 
 /// How the program is used.
 pub const USAGE_TEXT: &[u8] =
-    b"usage: minbft replay | soak SEED N | node ID EVENTS | retrace | cluster TURNS | audit H\n";
+    b"usage: minbft replay | soak SEED N | node ID EVENTS | retrace | cluster TURNS | audit H | learn\n";
 
 /// A status, and what is written with it.
 #[derive(Drop)]

@@ -45,7 +45,7 @@ use Rattle.mb_audited.specs.Blame.{given_to, AccusesRightly, AuditsAccuseRightly
 
 -- ---- members
 
-in_turned : {A : Type 0} (l : List A) (x : A) → In (reverse l) x → In l x
+pub in_turned : {A : Type 0} (l : List A) (x : A) → In (reverse l) x → In l x
 in_turned [] x i = i
 in_turned {A} (y ∷ l) x i = elim (in_either (reverse l) (y ∷ []) x (subst (λ (z : List A). In z x) (reverse-append (y ∷ []) l) i)) [
   | inl before ↦ inr (in_turned l x before)
@@ -53,7 +53,7 @@ in_turned {A} (y ∷ l) x i = elim (in_either (reverse l) (y ∷ []) x (subst (�
   | inr (inr none) ↦ absurd none
 ]
 
-from_flat : {A B : Type 0} (f : A → List B) (l : List A) (y : B) → In (flat_map f l) y → (x : A) × (In l x) × (In (f x) y)
+pub from_flat : {A B : Type 0} (f : A → List B) (l : List A) (y : B) → In (flat_map f l) y → (x : A) × (In l x) × (In (f x) y)
 from_flat f [] y i = absurd i
 from_flat f (x ∷ l) y i = elim (in_either (f x) (flat_map f l) y i) [
   | inl here ↦ (x, inl refl, here)
@@ -62,7 +62,7 @@ from_flat f (x ∷ l) y i = elim (in_either (f x) (flat_map f l) y i) [
 
 -- ---- lists that end alike
 
-same_end : {A : Type 0} (a b x y : List A) → a ++ x ≡ b ++ y → length x ≡ length y → x ≡ y
+pub same_end : {A : Type 0} (a b x y : List A) → a ++ x ≡ b ++ y → length x ≡ length y → x ≡ y
 same_end [] [] x y e l = e
 same_end [] (c ∷ b) x y e l = absurd (omega (arith, ap length e, length-append b y, l))
 same_end (c ∷ a) [] x y e l = absurd (omega (arith, ap length e, length-append a x, l))

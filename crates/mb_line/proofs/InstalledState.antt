@@ -73,7 +73,7 @@ module _ {S : Type 0} (system : System S) (w : World) (f : Facts system w) (jump
     pub strings : AllByRecursion (In w.hashed) (present_parts (self_of system host) (Executed slot ∷ before))
     pub string : In w.hashed (digest_string (part_digests (present_parts (self_of system host) (Executed slot ∷ before))) pos)
 
-  checkpoint_once : (h n pos : ℕ) (state digest : Bytes) → IsCorrect system.schedule h → IsStamped (w.histories h) n (bare.Checkpoint pos state digest) → IsOnceAt pos state
+  pub checkpoint_once : (h n pos : ℕ) (state digest : Bytes) → IsCorrect system.schedule h → IsStamped (w.histories h) n (bare.Checkpoint pos state digest) → IsOnceAt pos state
   checkpoint_once h n pos state digest correct x = go (checkpoint_said x.message pos state digest x.says) where
     self : Identity S
     self = self_of system h

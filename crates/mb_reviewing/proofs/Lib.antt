@@ -1,1 +1,3 @@
 pub mod AuditLaws
+pub mod LearnLaws
+pub mod LearntAll

@@ -4,7 +4,7 @@ use Rattle.std.specs.Prelude.{Contains}
 use Rattle.std.specs.Io.KnownBytes.{IsAtEnd}
 use Rattle.mb_base.specs.Shapes.{Bytes}
 use Rattle.mb_top.specs.declared.command.Command.{Command}
-use Rattle.mb_top.specs.declared.command.Command.TheVariants.{Replay, Soak, Node, Retrace, Cluster, Audit}
+use Rattle.mb_top.specs.declared.command.Command.TheVariants.{Replay, Soak, Node, Retrace, Cluster, Audit, Learn}
 use Rattle.mb_top.specs.Commands.{reads}
 use Rattle.mb_answer.specs.Clusters.{StayIdle, Clusters}
 use Rattle.mb_answer.specs.Devices.{Device, Devices, Says}
@@ -15,6 +15,7 @@ use Rattle.mb_serving.specs.Records.{Retraces}
 use Rattle.mb_top.specs.Doings.{DoesWith, DoesWithRecord, Does, IsIdle, statuses}
 use Rattle.mb_serving.specs.Nodes.{Nodes}
 use Rattle.mb_reviewing.specs.Audits.{Audits, audit_findings}
+use Rattle.mb_reviewing.specs.Learning.{LearnsFrom, learn_findings}
 use Rattle.mb_answer.specs.Texts.{usage_text}
 
 -- At the end of a word that reads, the source was read.
@@ -26,6 +27,7 @@ reads_all (Some (Node host n)) status old new does = λ it zero. does.0.ended ze
 reads_all (Some Retrace) status old new does = λ it zero. does.0.ended zero
 reads_all (Some (Cluster n)) status old new does = λ it zero. does.ended zero
 reads_all (Some (Audit host)) status old new does = λ it zero. does.0.ended (subst (Contains audit_findings) (sym zero) (0, omega arith, refl))
+reads_all (Some Learn) status old new does = λ it zero. does.0.ended (subst (Contains learn_findings) (sym zero) (0, omega arith, refl))
 
 pub is_idle : (o : Option Command) (status : ℕ) (old new : Devices) → Does o status old new → IsIdle o old new
 is_idle None status old new does = does.1
@@ -35,6 +37,7 @@ is_idle (Some (Node host n)) status old new does = does.1
 is_idle (Some Retrace) status old new does = does.1
 is_idle (Some (Cluster n)) status old new does = tt
 is_idle (Some (Audit host)) status old new does = does.1
+is_idle (Some Learn) status old new does = does.1
 
 module _ (o : Option Command) (status : ℕ) (old new : Devices) (does : Does o status old new) where
   does_as : (p : Option Command) → o ≡ p → Does p status old new
@@ -66,6 +69,12 @@ module _ (o : Option Command) (status : ℕ) (old new : Devices) (does : Does o 
 
   pub audit_ends : (host : ℕ) → o ≡ Some (Audit host) → Contains audit_findings status → IsAtEnd new.source.bytes
   audit_ends host is = (does_as (Some (Audit host)) is).0.ended
+
+  pub learns : o ≡ Some Learn → IfSome old.source.bytes (λ text. LearnsFrom text status old.source new.source old.sink new.sink)
+  learns is = (does_as (Some Learn) is).0.told
+
+  pub learn_ends : o ≡ Some Learn → Contains learn_findings status → IsAtEnd new.source.bytes
+  learn_ends is = (does_as (Some Learn) is).0.ended
 
   pub tells_usage : o ≡ None → Says 1 usage_text status old.sink new.sink
   tells_usage is = (does_as None is).0
@@ -104,6 +113,10 @@ module _ (status : ℕ) (old new : Devices) where
   pub does_audit : (host : ℕ) → IfSome old.source.bytes (λ text. Audits text host status old.source new.source old.sink new.sink) → (Contains audit_findings status → IsAtEnd new.source.bytes)
       → old.link ≡ new.link → old.spawner ≡ new.spawner → Does (Some (Audit host)) status old new
   does_audit host told ended link spawner = (with_record (λ text. Audits text host status old.source new.source old.sink new.sink) audit_findings told ended, stay link spawner)
+
+  pub does_learn : IfSome old.source.bytes (λ text. LearnsFrom text status old.source new.source old.sink new.sink) → (Contains learn_findings status → IsAtEnd new.source.bytes)
+      → old.link ≡ new.link → old.spawner ≡ new.spawner → Does (Some Learn) status old new
+  does_learn told ended link spawner = (with_record (λ text. LearnsFrom text status old.source new.source old.sink new.sink) learn_findings told ended, stay link spawner)
 
   pub does_usage : Says 1 usage_text status old.sink new.sink → old.link ≡ new.link → old.spawner ≡ new.spawner → Does None status old new
   does_usage told link spawner = (told, stay link spawner)

@@ -10,3 +10,4 @@ pub mod Summaries
 pub mod SoakLaws
 pub mod Doing
 pub mod Blamed
+pub mod Learnt

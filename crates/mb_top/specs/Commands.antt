@@ -3,7 +3,7 @@ use Rattle.std.specs.Prelude.{◌-◌, ◌^◌, ◌≤◌, Bool, true, false, Li
 use Rattle.mb_base.specs.Shapes.{Bytes}
 use Rattle.mb_sched.specs.Words.{◌>>=◌, is, number_in}
 use Rattle.mb_top.specs.declared.command.Command.{Command}
-use Rattle.mb_top.specs.declared.command.Command.TheVariants.{Replay, Soak, Node, Retrace, Cluster, Audit}
+use Rattle.mb_top.specs.declared.command.Command.TheVariants.{Replay, Soak, Node, Retrace, Cluster, Audit, Learn}
 
 -- `soak SEED N`
 abbrev pub soak_of : Bytes → Bytes → Option Command
@@ -32,7 +32,7 @@ audit_of host = do
   Some (Audit h)
 
 abbrev pub command_of : List Bytes → Option Command
-command_of (name ∷ []) = if is "replay" name then Some Replay else (if is "retrace" name then Some Retrace else None)
+command_of (name ∷ []) = if is "replay" name then Some Replay else (if is "retrace" name then Some Retrace else (if is "learn" name then Some Learn else None))
 command_of (name ∷ number ∷ []) = if is "cluster" name then cluster_of number else (if is "audit" name then audit_of number else None)
 command_of (name ∷ first ∷ second ∷ []) = if is "soak" name then soak_of first second else (if is "node" name then node_of first second else None)
 command_of _ = None
@@ -45,6 +45,7 @@ IsWithin (Node h n) = (1 ≤ n) × (n ≤ 1000000)
 IsWithin Retrace = Unit {0}
 IsWithin (Cluster n) = (1 ≤ n) × (n ≤ 1000000)
 IsWithin (Audit h) = h ≤ 6
+IsWithin Learn = Unit {0}
 
 -- It reads a text.
 abbrev pub reads : Command → Bool

@@ -6,13 +6,14 @@ use Rattle.mb_schedule.specs.Limits.{max_text}
 use Rattle.mb_sched.specs.Configs.{max_config}
 use Rattle.mb_sched.specs.Records.{max_record}
 use Rattle.mb_top.specs.declared.command.Command.{Command}
-use Rattle.mb_top.specs.declared.command.Command.TheVariants.{Replay, Soak, Node, Retrace, Cluster, Audit}
+use Rattle.mb_top.specs.declared.command.Command.TheVariants.{Replay, Soak, Node, Retrace, Cluster, Audit, Learn}
 use Rattle.mb_answer.specs.Clusters.{StayIdle, Clusters, cluster_statuses}
 use Rattle.mb_answer.specs.Devices.{Device, Devices, Says}
 use Rattle.mb_top.specs.Responses.{Replays, Soaks}
 use Rattle.mb_serving.specs.Records.{Retraces, retrace_statuses}
 use Rattle.mb_serving.specs.Nodes.{Nodes, node_statuses}
 use Rattle.mb_reviewing.specs.Audits.{Audits, audit_statuses, audit_findings}
+use Rattle.mb_reviewing.specs.Learning.{LearnsFrom, learn_statuses, learn_findings}
 use Rattle.mb_answer.specs.Texts.{usage_text}
 
 -- the most bytes that are taken from the source: those of the longest text and one more
@@ -24,13 +25,14 @@ most_read (Some (Node host n)) = max_config + 1
 most_read (Some Retrace) = max_record + 1
 most_read (Some (Cluster n)) = max_config + 1
 most_read (Some (Audit host)) = max_record + 1
+most_read (Some Learn) = max_record + 1
 
 -- the statuses of the word `replay`
 abbrev pub replay_statuses : List ℕ
 replay_statuses = 0 ∷ 2 ∷ 3 ∷ 4 ∷ 5 ∷ 6 ∷ []
 
 -- The statuses of each command: 0 done, 1 no command or no such host, 2 a bad line or text, 3 something forged or two messages at one counter, 4 memory,
--- 5 the source, 6 the sink, 7 the link, 8 the spawner, 9 a budget, 10 another entry, 12 a message against the rules, 13 a missing counter,
+-- 5 the source, 6 the sink, 7 the link, 8 the spawner, 9 a budget, 10 another entry or another state, 12 a message against the rules, 13 a missing counter,
 -- 18 a bad end.
 abbrev pub statuses : Option Command → List ℕ
 statuses None = 1 ∷ 4 ∷ 6 ∷ []
@@ -40,6 +42,7 @@ statuses (Some (Node host n)) = node_statuses
 statuses (Some Retrace) = retrace_statuses
 statuses (Some (Cluster n)) = cluster_statuses
 statuses (Some (Audit host)) = audit_statuses
+statuses (Some Learn) = learn_statuses
 
 -- This is done with the text that the source tells. At status 0 the source was read to its end.
 pub record DoesWith (does : Bytes → Type 0) (status : ℕ) (old new : Device) : Type 0 where
@@ -60,6 +63,7 @@ Does (Some (Node host n)) status old new = DoesWith (λ text. Nodes text host n 
 Does (Some Retrace) status old new = DoesWith (λ text. Retraces text status old.source new.source old.sink new.sink) status old.source new.source × StayIdle old new
 Does (Some (Cluster n)) status old new = DoesWith (λ text. Clusters text n status old new) status old.source new.source
 Does (Some (Audit host)) status old new = DoesWithRecord (λ text. Audits text host status old.source new.source old.sink new.sink) audit_findings status old.source new.source × StayIdle old new
+Does (Some Learn) status old new = DoesWithRecord (λ text. LearnsFrom text status old.source new.source old.sink new.sink) learn_findings status old.source new.source × StayIdle old new
 
 -- Only a node and a cluster use the link, and only a cluster the spawner.
 abbrev pub IsIdle : Option Command → Devices → Devices → Type 0

@@ -7,3 +7,4 @@ pub mod Responses
 pub mod Outcomes
 pub mod Doings
 pub mod Blames
+pub mod Histories

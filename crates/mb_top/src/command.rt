@@ -29,6 +29,8 @@ pub enum Command {
     Cluster { turns: u64 },
     /// What the host of a record was given is held against a host.
     Audit { host: u64 },
+    /// The history that a record proves is told.
+    Learn,
 }
 
 fn one_word(name: &[u8]) -> Option<Command>
@@ -39,6 +41,8 @@ fn one_word(name: &[u8]) -> Option<Command>
         Some(Command::Replay)
     } else if is_word(name, b"retrace") {
         Some(Command::Retrace)
+    } else if is_word(name, b"learn") {
+        Some(Command::Learn)
     } else {
         None
     }

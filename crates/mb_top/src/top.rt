@@ -22,9 +22,11 @@ ghost use Rattle.mb_serving.specs.Records.{Retraces, IsRetraced};
 ghost use Rattle.mb_top.specs.Soaks.{soak_of};
 ghost use Rattle.mb_serving.specs.Nodes.{Nodes, IsServed};
 ghost use Rattle.mb_reviewing.specs.Audits.{Audits, IsAudited, audit_findings};
+ghost use Rattle.mb_reviewing.specs.Learning.{LearnsFrom, IsLearntFrom, learn_findings};
 ghost use Rattle.mb_answer.specs.Clusters.{Clusters, TellsBadEnds, IsRun};
 ghost use Rattle.mb_top.specs.Outcomes.{ReportsOn, TellsForged, IsComplete};
 ghost use Rattle.mb_top.specs.Blames.{ConvictsRightly, TellsDisorder};
+ghost use Rattle.mb_top.specs.Histories.{LearnsTheLine};
 ghost use Rattle.mb_top.specs.Doings.{Does, IsIdle, most_read, statuses};
 
 use crate::command::{Command, command_in};
@@ -32,7 +34,7 @@ use crate::replay::replay;
 use crate::soak::soak;
 use mb_answer::{USAGE, USAGE_TEXT, cluster, say};
 use mb_edge::{Link, Sink, Source, Spawner};
-use mb_reviewing::audit_of;
+use mb_reviewing::{audit_of, learn_of};
 use mb_serving::{node_of, retrace};
 use std::alloc::Global;
 
@@ -66,6 +68,7 @@ fn run<S: Source, K: Sink, L: Link, P: Spawner>(
         Some(Command::Retrace) => retrace(alloc, source, sink),
         Some(Command::Cluster { turns }) => cluster(alloc, turns, source, sink, link, spawner),
         Some(Command::Audit { host }) => audit_of(alloc, host, source, sink),
+        Some(Command::Learn) => learn_of(alloc, source, sink),
         None => say(sink, USAGE_TEXT, USAGE),
     }
 }
@@ -77,7 +80,7 @@ fn run<S: Source, K: Sink, L: Link, P: Spawner>(
 /// they are, or where they first differ. With `node`, a host and a number it reads a config, serves as that host over the link for so many receives, and
 /// writes its record. With `cluster` and a number it reads a config, starts a node for each host, asks them the config's operations over the link,
 /// with so many receives for each, and writes the results. With `audit` and a host's number it reads a record, and writes what its host was given shows of
-/// that host.
+/// that host. With `learn` it reads a record, and writes the history that it proves.
 pub fn minbft<S: Source, K: Sink, L: Link, P: Spawner>(
     alloc: Global,
     words: &[String],
@@ -163,6 +166,17 @@ pub fn minbft<S: Source, K: Sink, L: Link, P: Spawner>(
     ensures audit_disorder { (host : ℕ) → command_of (map string_bytes words.now) ≡ Some (Command.Audit host) → result ≡ 12
         → (text : Bytes) (r : Record) → S.left source.old ≡ Some text → IsRecordText text r → TellsDisorder host r (K.written sink.old) (K.written sink.new) }
     ensures audit_ended { (host : ℕ) → command_of (map string_bytes words.now) ≡ Some (Command.Audit host) → Contains audit_findings result → IsAtEnd (S.left source.new) }
+    // With the word `learn` the history is one that is proved by what the record's host was given, or hosts say that their states differ from it.
+    ensures learn { command_of (map string_bytes words.now) ≡ Some Command.Learn
+        → IfSome (S.left source.old) (λ text. LearnsFrom text result (device (S.left source.old) (S.faults source.old)) (device (S.left source.new) (S.faults source.new))
+        (device (K.written sink.old) (K.faults sink.old)) (device (K.written sink.new) (K.faults sink.new))) }
+    ensures learn_complete { command_of (map string_bytes words.now) ≡ Some Command.Learn
+        → IfSome (S.left source.old) (λ text. IsLearntFrom text result (Rose (S.faults source.old) (S.faults source.new) ⊎ Rose (K.faults sink.old) (K.faults sink.new))) }
+    // Where the record says what a correct host was given in a world of at most f faulty hosts, in which nothing was forged: the history that is written and
+    // that of the world are beginnings of one another, and no f+1 hosts say that their states differ from it.
+    ensures learn_history { command_of (map string_bytes words.now) ≡ Some Command.Learn
+        → (text : Bytes) (r : Record) → S.left source.old ≡ Some text → IsRecordText text r → LearnsTheLine result r (device (K.written sink.old) (K.faults sink.old)) (device (K.written sink.new) (K.faults sink.new)) }
+    ensures learn_ended { command_of (map string_bytes words.now) ≡ Some Command.Learn → Contains learn_findings result → IsAtEnd (S.left source.new) }
     // Each command has its statuses, whatever the source tells.
     ensures statuses { Contains (statuses (command_of (map string_bytes words.now))) result }
     // At status 0 of a word that reads, the source was read to its end.

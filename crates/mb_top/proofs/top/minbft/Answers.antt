@@ -8,8 +8,10 @@ use Rattle.mb_serving.proofs.RecordLaws.{retrace_completes}
 use Rattle.mb_answer.proofs.ConfigLaws.{cluster_completes}
 use Rattle.mb_serving.proofs.NodeLaws.{node_completes}
 use Rattle.mb_reviewing.proofs.AuditLaws.{audit_completes}
+use Rattle.mb_reviewing.proofs.LearnLaws.{learn_completes}
 use Rattle.mb_top.proofs.Blamed.{audits_convict, audit_tells}
-use Rattle.mb_top.proofs.Doing.{reads_all, is_idle, replays, replay_ends, soaks, soaks_few, nodes, retraces, clusters, audits, audit_ends, tells_usage}
+use Rattle.mb_top.proofs.Learnt.{learns_the_line}
+use Rattle.mb_top.proofs.Doing.{reads_all, is_idle, replays, replay_ends, soaks, soaks_few, nodes, retraces, clusters, audits, audit_ends, learns, learn_ends, tells_usage}
 use Rattle.mb_top.proofs.top.minbft.Goals as goal
 
 pub run-requires : goal.run-requires
@@ -88,6 +90,21 @@ pub returns-clause-audit_disorder : goal.returns-clause-audit_disorder
 returns-clause-audit_disorder g c = λ host asked twelve text r left is.
     let told = rw left at (audits _ _ _ _ c.run.ensures.does host (c.command_in.ensures.command ∙ asked)) in
     audit_tells host text r _ twelve is _ _ _ _ told
+
+pub returns-clause-learn : goal.returns-clause-learn
+returns-clause-learn g c = λ asked. learns _ _ _ _ c.run.ensures.does (c.command_in.ensures.command ∙ asked)
+
+pub returns-clause-learn_complete : goal.returns-clause-learn_complete
+returns-clause-learn_complete g c = λ asked.
+    IfSome_then (g.S.Source.left c.args.source.now) (learns _ _ _ _ c.run.ensures.does (c.command_in.ensures.command ∙ asked)) (λ text r. learn_completes text _ _ _ _ _ r)
+
+pub returns-clause-learn_ended : goal.returns-clause-learn_ended
+returns-clause-learn_ended g c = λ asked. learn_ends _ _ _ _ c.run.ensures.does (c.command_in.ensures.command ∙ asked)
+
+pub returns-clause-learn_history : goal.returns-clause-learn_history
+returns-clause-learn_history g c = λ asked text r left is.
+    let told = rw left at (learns _ _ _ _ c.run.ensures.does (c.command_in.ensures.command ∙ asked)) in
+    learns_the_line text r _ _ _ _ _ is told
 
 pub returns-clause-usage : goal.returns-clause-usage
 returns-clause-usage g c = λ asked. tells_usage _ _ _ _ c.run.ensures.does (c.command_in.ensures.command ∙ asked)

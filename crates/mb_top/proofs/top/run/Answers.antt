@@ -4,8 +4,8 @@ use Rattle.mb_answer.proofs.ConfigLaws.{no_ends, ends_none}
 use Rattle.mb_answer.proofs.Statuses.{low_no_link, low_no_spawner}
 use Rattle.mb_top.specs.Commands.{IsWithin}
 use Rattle.mb_top.specs.declared.command.Command.{Command}
-use Rattle.mb_top.specs.declared.command.Command.TheVariants.{Replay, Soak, Node, Retrace, Cluster, Audit}
-use Rattle.mb_top.proofs.Doing.{does_replay, does_soak, does_node, does_retrace, does_cluster, does_audit, does_usage, does_asked, statuses_asked, soak_known, usage_known}
+use Rattle.mb_top.specs.declared.command.Command.TheVariants.{Replay, Soak, Node, Retrace, Cluster, Audit, Learn}
+use Rattle.mb_top.proofs.Doing.{does_replay, does_soak, does_node, does_retrace, does_cluster, does_audit, does_learn, does_usage, does_asked, statuses_asked, soak_known, usage_known}
 use Rattle.mb_top.proofs.top.run.Goals as goal
 
 pub returns-in-Some-Replay-clause-does : goal.returns-in-Some-Replay-clause-does
@@ -134,6 +134,28 @@ returns-in-Some-Audit-clause-spawner g c = tells_none _ (low_no_spawner _ c.audi
 
 pub returns-in-Some-Audit-clause-bad_ends : goal.returns-in-Some-Audit-clause-bad_ends
 returns-in-Some-Audit-clause-bad_ends g c = no_ends _ _ _ c.audit.ensures.low
+
+pub returns-in-Some-Learn-clause-does : goal.returns-in-Some-Learn-clause-does
+returns-in-Some-Learn-clause-does g c =
+    let first : c.args.command ≡ Some c.in-Some-Learn.field-0 = c.in-Some-Learn.is in
+    let named : c.in-Some-Learn.field-0 ≡ Learn = rw first at c.in-Some-Learn.field-0-is in
+    let same : c.args.command ≡ Some Learn = first ∙ ap Some named in
+    does_asked _ _ _ _ (Some Learn) same (does_learn _ _ _ c.learn.ensures.told c.learn.ensures.ended refl refl)
+
+pub returns-in-Some-Learn-clause-statuses : goal.returns-in-Some-Learn-clause-statuses
+returns-in-Some-Learn-clause-statuses g c =
+    let first : c.args.command ≡ Some c.in-Some-Learn.field-0 = c.in-Some-Learn.is in
+    let named : c.in-Some-Learn.field-0 ≡ Learn = rw first at c.in-Some-Learn.field-0-is in
+    statuses_asked _ (Some Learn) _ (first ∙ ap Some named) c.learn.ensures.statuses
+
+pub returns-in-Some-Learn-clause-link : goal.returns-in-Some-Learn-clause-link
+returns-in-Some-Learn-clause-link g c = tells_none _ (low_no_link _ c.learn.ensures.low)
+
+pub returns-in-Some-Learn-clause-spawner : goal.returns-in-Some-Learn-clause-spawner
+returns-in-Some-Learn-clause-spawner g c = tells_none _ (low_no_spawner _ c.learn.ensures.low)
+
+pub returns-in-Some-Learn-clause-bad_ends : goal.returns-in-Some-Learn-clause-bad_ends
+returns-in-Some-Learn-clause-bad_ends g c = no_ends _ _ _ c.learn.ensures.low
 
 pub returns-in-None-clause-does : goal.returns-in-None-clause-does
 returns-in-None-clause-does g c = does_asked _ _ _ _ _ c.in-None.is (does_usage _ _ _ c.say.ensures.says refl refl)

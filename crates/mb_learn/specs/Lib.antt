@@ -1,0 +1,14 @@
+pub mod AllowedProps
+pub mod Shown
+pub mod Held
+pub mod Lists
+pub mod Followers
+pub mod Proved
+pub mod Tables
+pub mod Hearing
+pub mod Holding
+pub mod Next
+pub mod Executed
+pub mod Running
+pub mod Differences
+pub mod Learners

@@ -1,0 +1,7 @@
+pub mod MorePlans
+pub mod GivenClaims
+pub mod GivenBatches
+pub mod Beginnings
+pub mod Voted
+pub mod History
+pub mod Learned

@@ -1,0 +1,41 @@
+use Rattle.std.proofs.Common.{Err, refl, ap, subst, ◌∙◌, arith}
+use Rattle.std.specs.Prelude.{Contains}
+use Rattle.std.proofs.lemmas.Option.{IfSome_then}
+use Rattle.std.proofs.lemmas.Result.{IfOk-weaker}
+use Rattle.mb_base.specs.Shapes.{Bytes}
+use Rattle.mb_sched.specs.Records.{max_record}
+use Rattle.mb_answer.specs.Records.{AnswersText, too_long}
+use Rattle.mb_reviewing.specs.Learning.{AnswersLearn, learn_statuses}
+use Rattle.mb_reviewing.proofs.LearnLaws.{learn_told, learn_known, unread_unlearnt}
+use Rattle.mb_answer.proofs.Statuses.{responded, responded_is, unread_told, unread_is, tells_read}
+use Rattle.mb_reviewing.proofs.learning.learn.Goals as goal
+
+pub respond-requires : goal.respond-requires
+respond-requires g c = IfOk-weaker c.answer_to_record.result _ _ (λ a h. learn_told _ a.status a.text.items h) c.answer_to_record.ensures
+
+pub returns-in-Ok-clause-told : goal.returns-in-Ok-clause-told
+returns-in-Ok-clause-told g c =
+    IfSome_then (g.S.Source.left c.args.source.now) c.in-Ok.ensures.all (λ text is.
+    responded (AnswersText AnswersLearn text) c.answer_to_record.result _ _ _ _ _ (IfOk-weaker c.answer_to_record.result _ _ (λ a h. subst (λ (t : Bytes). AnswersText AnswersLearn t a.status a.text.items) (c.deref.ensures.value ∙ is) h) c.answer_to_record.ensures)
+    c.respond.ensures.says c.respond.ensures.lacks)
+
+pub returns-in-Ok-clause-source : goal.returns-in-Ok-clause-source
+returns-in-Ok-clause-source g c = tells_read _ _ c.in-Ok.ensures.fault c.in-Ok.ensures.later c.in-Ok.ensures.sound c.in-Ok.ensures.quiet (λ five. absurd (c.respond.ensures.unread five))
+
+pub returns-in-Err-clause-told : goal.returns-in-Err-clause-told
+returns-in-Err-clause-told g c =
+    unread_told (AnswersText AnswersLearn) max_record (g.S.Source.left c.args.source.now) c.in-Err.stop _ _ _ _ _ (λ text long. too_long long refl refl) (λ e. c.in-Err.ensures.long (ap Err e)) (λ e. c.in-Err.ensures.fault (ap Err e)) c.tell_unread.ensures.told
+
+pub returns-in-Err-clause-source : goal.returns-in-Err-clause-source
+returns-in-Err-clause-source g c = tells_read _ _ c.in-Err.ensures.fault c.in-Err.ensures.later c.in-Err.ensures.sound c.in-Err.ensures.quiet (λ told. ap Err (c.tell_unread.ensures.source told))
+
+pub returns-in-Ok-clause-statuses : goal.returns-in-Ok-clause-statuses
+returns-in-Ok-clause-statuses g c =
+    responded_is (Contains learn_statuses) (2, omega arith, refl) (4, omega arith, refl) c.answer_to_record.result _ _ _
+    (IfOk-weaker c.answer_to_record.result _ _ (λ a h. learn_known _ a.status a.text.items h) c.answer_to_record.ensures) c.respond.ensures.says c.respond.ensures.lacks
+
+pub returns-in-Err-clause-statuses : goal.returns-in-Err-clause-statuses
+returns-in-Err-clause-statuses g c = unread_is (Contains learn_statuses) (2, omega arith, refl) (4, omega arith, refl) c.in-Err.stop _ _ _ (1, omega arith, refl) (3, omega arith, refl) c.tell_unread.ensures.told
+
+pub returns-in-Err-clause-ended : goal.returns-in-Err-clause-ended
+returns-in-Err-clause-ended g c = λ found. absurd (unread_unlearnt c.in-Err.stop _ _ _ c.tell_unread.ensures.told found)

@@ -1,0 +1,115 @@
+//! The word `learn`: the history that a record proves.
+
+ghost use Rattle.std.specs.Prelude.{◌≡◌, ◌+◌, Contains, List, [], length, IfOk, IfSome, OnOk};
+ghost use Rattle.std.specs.Io.KnownBytes.{IsAtEnd};
+ghost use Rattle.mb_edge.specs.Faults.{TellsFaults};
+ghost use Rattle.mb_edge.specs.Pieces.{ConsumesBetween};
+ghost use Rattle.mb_sched.specs.Records.{max_record};
+ghost use Rattle.mb_answer.specs.Devices.{device, IsLow};
+ghost use Rattle.mb_answer.specs.Records.{AnswersText};
+ghost use Rattle.mb_base.specs.Shapes.{Bytes};
+ghost use Rattle.mb_msg.specs.declared.event.Slot.{Slot as TheSlot};
+ghost use Rattle.mb_sched.specs.declared.records.Record.{Record as TheRecord};
+ghost use Rattle.mb_audit.specs.Stamps.{texts};
+ghost use Rattle.mb_learn.specs.Learners.{Represents};
+ghost use Rattle.mb_reviewing.specs.Learning.{machine, snapshots, state_behind, learnt_text, differs_text, LearnsAll, AnswersLearn, LearnsFrom, learn_statuses, learn_findings};
+
+use crate::given::given_in;
+use crate::slots::print_slots;
+use mb_answer::{Answer, DIFFERS, DONE, refusal, respond, tell_unread};
+use mb_base::{Digest, NoMemory, Pos};
+use mb_edge::{Sink, Source, read_all};
+use mb_kv::Kv;
+use mb_learn::{LearnStop, Learner};
+use mb_msg::Slot;
+use mb_sched::{MAX_RECORD, Record, parse_record};
+use std::alloc::Global;
+
+/// The history that was learnt: a line for each request, and the state behind them.
+fn learnt(alloc: Global, learner: &mut Learner<Kv>) -> Result<Answer, NoMemory>
+    ensures { (r : TheRecord) (given : List Bytes) (slots : List TheSlot) → Represents r.config.shape r.config.secret machine snapshots [] given slots learner.old
+        → IfOk result (λ a. (a.status ≡ 0) × (a.text.items ≡ learnt_text slots (state_behind r slots (length slots)))) }
+{
+    let state = learner.state(alloc)?;
+    let state = hex::encode(alloc, state.as_slice())?;
+    let slots = learner.line();
+    let mut text = format!(in alloc; "minbft learnt 1\nline {}\n", slots.len())?;
+    print_slots(alloc, &mut text, slots)?;
+    text.push_str("state ")?;
+    text.push_str(state.as_str())?;
+    text.push_str("\nend\n")?;
+    Ok(Answer {
+        status: DONE,
+        text: text.into_bytes(),
+    })
+}
+
+/// The first position at which f+1 hosts say another digest of their states than was found.
+fn differs(alloc: Global, pos: Pos, found: &Digest, certified: &Digest) -> Result<Answer, NoMemory>
+    ensures { IfOk result (λ a. (a.status ≡ 10) × (a.text.items ≡ differs_text pos found.now certified.now)) }
+{
+    let found = hex::encode(alloc, found.as_slice())?;
+    let certified = hex::encode(alloc, certified.as_slice())?;
+    let text = format!(in alloc; "differs pos {pos} {found} {certified}\n")?;
+    Ok(Answer {
+        status: DIFFERS,
+        text: text.into_bytes(),
+    })
+}
+
+/// Learns from byte strings, one after the other.
+fn learn_all(alloc: Global, learner: &mut Learner<Kv>, given: &[Vec<u8>]) -> Result<(), LearnStop>
+    ensures { (r : TheRecord) → Represents r.config.shape r.config.secret machine snapshots [] [] [] learner.old → LearnsAll r (texts given.now) result learner.new }
+{
+    for bytes in given {
+        let _executed = learner.learn(alloc, bytes.as_slice())?;
+    }
+    Ok(())
+}
+
+/// What a record proves.
+fn answer_record(alloc: Global, written: Record) -> Result<Answer, NoMemory>
+    ensures { IfOk result (λ a. AnswersLearn written a.status a.text.items) }
+{
+    let config = &written.config;
+    let mut learner = Learner::make(alloc, config.shape, &config.secret, Kv::new(alloc))?;
+    let given = given_in(alloc, written.entries)?;
+    match learn_all(alloc, &mut learner, given.as_slice()) {
+        Ok(()) => learnt(alloc, &mut learner),
+        Err(
+            LearnStop::Differs {
+                pos,
+                found,
+                certified,
+            },
+        ) => differs(alloc, pos, &found, &certified),
+        Err(LearnStop::NoMemory | LearnStop::Halted) => Err(NoMemory),
+    }
+}
+
+/// The answer to the text of a record.
+fn answer_to_record(alloc: Global, text: &[u8]) -> Result<Answer, NoMemory>
+    ensures { IfOk result (λ a. AnswersText AnswersLearn text.now a.status a.text.items) }
+{
+    match parse_record(alloc, text) {
+        Ok(record) => answer_record(alloc, record),
+        Err(fault) => refusal(alloc, fault),
+    }
+}
+
+/// Reads a record, and writes the history that it proves.
+pub fn learn<S: Source, K: Sink>(alloc: Global, source: &mut S, sink: &mut K) -> u8
+    ensures told { IfSome (S.left source.old) (λ text. LearnsFrom text result (device (S.left source.old) (S.faults source.old)) (device (S.left source.new) (S.faults source.new))
+        (device (K.written sink.old) (K.faults sink.old)) (device (K.written sink.new) (K.faults sink.new))) }
+    ensures ended { Contains learn_findings result → IsAtEnd (S.left source.new) }
+    ensures limit { ConsumesBetween 0 (max_record + 1) (S.left source.old) (S.left source.new) }
+    ensures low { IsLow result }
+    ensures statuses { Contains learn_statuses result }
+    ensures source { TellsFaults (S.never_fails source.old) (S.never_fails source.new) (S.faults source.old) (S.faults source.new) (result ≡ 5) }
+    ensures sink { TellsFaults (K.never_fails sink.old) (K.never_fails sink.new) (K.faults sink.old) (K.faults sink.new) (result ≡ 6) }
+{
+    match read_all(alloc, MAX_RECORD, source) {
+        Ok(text) => respond(sink, answer_to_record(alloc, &text)),
+        Err(stop) => tell_unread(alloc, sink, stop),
+    }
+}
