@@ -27,7 +27,7 @@ use Rattle.mb_top.proofs.KvService.{kv_is_service}
 module _ (s : Schedule) (w : World) (r : Record) (of : IsRecordIn s w r) (rightly : LearnsRightly (system_of s) w r.id) (old new : Device) where
   -- At status 0 the line is written, and status 10 isn't told.
   abbrev Right : ℕ → Type 0
-  Right status = (status ≡ 0 → WritesLine w r old new) × ¬ (status ≡ 10)
+  Right status = (status ≡ 0 → WritesLine s w r old new) × ¬ (status ≡ 10)
 
   none_told : (status n : ℕ) → status ≡ n → ¬ (n ≡ 0) → ¬ (n ≡ 10) → Right status
   none_told status n is zero ten = (λ told. absurd (zero (sym is ∙ told)), λ told. ten (sym is ∙ told))
@@ -60,6 +60,8 @@ module _ (s : Schedule) (w : World) (r : Record) (of : IsRecordIn s w r) (rightl
     λ told. record {
       slots = slots;
       written = subst (λ (b : Bytes). Appends old.bytes new.bytes b) text_is grew;
+      learnt = learns;
+      committed = rightly.committed (given_in r.entries) slots all_given (moved (given_in r.entries) slots learns);
       line = rightly.one_history (given_in r.entries) slots all_given (moved (given_in r.entries) slots learns);
     },
     λ ten. absurd (omega (arith, same, zero, ten)),

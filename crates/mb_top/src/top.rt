@@ -172,8 +172,9 @@ pub fn minbft<S: Source, K: Sink, L: Link, P: Spawner>(
         (device (K.written sink.old) (K.faults sink.old)) (device (K.written sink.new) (K.faults sink.new))) }
     ensures learn_complete { command_of (map string_bytes words.now) ≡ Some Command.Learn
         → IfSome (S.left source.old) (λ text. IsLearntFrom text result (Rose (S.faults source.old) (S.faults source.new) ⊎ Rose (K.faults sink.old) (K.faults sink.new))) }
-    // Where the record says what a correct host was given in a world of at most f faulty hosts, in which nothing was forged: the history that is written and
-    // that of the world are beginnings of one another, and no f+1 hosts say that their states differ from it.
+    // Where the record says what a correct host was given in a world of at most f faulty hosts, in which nothing was forged and no two of the strings share a
+    // digest: each batch that is written is committed, the history that is written and that of the world are beginnings of one another, and no f+1 hosts say
+    // that their states differ from it.
     ensures learn_history { command_of (map string_bytes words.now) ≡ Some Command.Learn
         → (text : Bytes) (r : Record) → S.left source.old ≡ Some text → IsRecordText text r → LearnsTheLine result r (device (K.written sink.old) (K.faults sink.old)) (device (K.written sink.new) (K.faults sink.new)) }
     ensures learn_ended { command_of (map string_bytes words.now) ≡ Some Command.Learn → Contains learn_findings result → IsAtEnd (S.left source.new) }
