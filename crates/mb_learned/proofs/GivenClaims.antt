@@ -74,9 +74,9 @@ module _ (s : Shape) where
   evidence_closed : (e : Evidence) → AreClosed s (evidence_claims s e)
   evidence_closed e = closed_both (new_view_claim s e ∷ []) (map (λ m. record { host = m.host; counter = m.counter; says = bare.Enter e.view e.counter e.plan; cert = m.cert }) e.members)
       (closed_plain (new_view_claim s e ∷ []) one) (closed_plain (map (λ m. record { host = m.host; counter = m.counter; says = bare.Enter e.view e.counter e.plan; cert = m.cert }) e.members) (plain_map (λ m. record { host = m.host; counter = m.counter; says = bare.Enter e.view e.counter e.plan; cert = m.cert }) (λ m. refl) e.members)) where
-    one : (c : Claim) → In (new_view_claim s e ∷ []) c → inner_claims s c.says ≡ []
-    one c (inl is) = subst (λ (y : Claim). inner_claims s y.says ≡ []) is refl
-    one c (inr none) = absurd none
+        one : (c : Claim) → In (new_view_claim s e ∷ []) c → inner_claims s c.says ≡ []
+        one c (inl is) = subst (λ (y : Claim). inner_claims s y.says ≡ []) is refl
+        one c (inr none) = absurd none
 
   -- with the claim of a message behind those in it
   closed_own : (l : List Claim) (own : Claim) → AreClosed s l → ((k : Claim) → In (inner_claims s own.says) k → In l k) → AreClosed s (l ++ own ∷ [])

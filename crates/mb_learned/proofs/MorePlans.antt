@@ -58,13 +58,16 @@ module _ (s : Shape) (secret : Bytes) (plans more : Plans) (ext : Extends plans 
     ordered = c.ordered;
     stands = c.stands;
     maximal = c.maximal;
-    evidences = λ e is. let made = c.evidences e is in (made.0, record {
+    evidences = λ e is. let made = c.evidences e is in (
+      made.0,
+      record {
         many = made.1.many;
         rising = made.1.rising;
         usable = usable_all e.view made.0 made.1.usable;
         base = made.1.base;
         end = made.1.end;
         plan = ext e.plan (text_of (plan_of s made.0)) made.1.plan;
-      });
+      },
+    );
     new_views = c.new_views;
   }

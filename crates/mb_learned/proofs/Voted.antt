@@ -75,7 +75,7 @@ module _ {S : Type 0} (system : System S) (w : World) (f : Facts system w) (fact
   committed_more v p x c = record {
     voted =
         let up = tally_up (λ h. is_vote (vote_in (plans system.schedule w) (prefix system.schedule w h) v p) x) (λ h. is_vote (vote_in all_plans (prefix system.schedule w h) v p) x) (host_count system.schedule.shape)
-            (λ h lt so. voted_there h v p x (plans system.schedule w) extends (in_prefix (prefix system.schedule w h) [] v p x so)) in
+        (λ h lt so. voted_there h v p x (plans system.schedule w) extends (in_prefix (prefix system.schedule w h) [] v p x so)) in
         let enough = c.voted in
         omega (arith, up, enough);
     led = c.led;
@@ -100,7 +100,7 @@ module _ {S : Type 0} (system : System S) (w : World) (f : Facts system w) (fact
       committed = subst (λ (r : Bytes). IsCommitted all_plans system.schedule.shape (prefix system.schedule w) view position (record { counter = vote.counter; request = r })) y.digest (record {
         voted =
             let up = tally_up (λ h. has_vote (known_plans system.schedule.shape system.schedule.secret (shown_among system.schedule.shape taken)) (y.lists h) view position vote)
-                (λ h. is_vote (vote_in all_plans (prefix system.schedule w h) view position) vote) (host_count system.schedule.shape) (λ h lt so. here h (begins h lt) so) in
+            (λ h. is_vote (vote_in all_plans (prefix system.schedule w h) view position) vote) (host_count system.schedule.shape) (λ h lt so. here h (begins h lt) so) in
             let enough = y.voted in
             omega (arith, up, enough);
         led = led;

@@ -1,4 +1,4 @@
-use Rattle.std.proofs.Common.{◌≡◌, ℕ, ◌+◌, List, [], ◌∷◌, ◌++◌, take, drop, take_all, Some, Err, slice_get, refl, sym, ap, subst, ◌∙◌}
+use Rattle.std.proofs.Common.{rules, ◌≡◌, ℕ, ◌+◌, List, [], ◌∷◌, ◌++◌, take, drop, take_all, Some, Err, slice_get, refl, sym, ap, subst, ◌∙◌}
 use Rattle.std.specs.Global.{Vec}
 use Rattle.std.proofs.lemmas.Option.{slice_get-get_or}
 use Rattle.mb_base.specs.Shapes.{Bytes}
@@ -23,10 +23,12 @@ returns c r rep = subst (λ (l : List (Vec ℕ)). Took r (texts l) c.loop-bytes.
 
 pub returns-in_err-_executed : goal.returns-in_err-_executed
 returns-in_err-_executed c r rep =
+    let failed : c.from_residual.result ≡ Err c.in_err-_executed.field-0.0 = search rules in
     let v : Vec ℕ = c.bytes-item.result in
     let i = c.loop-bytes.bytes-index in
     let there : slice_get c.args.given.now i ≡ Some v = slice_get-get_or _ _ v c.loop-bytes-test.true ∙ ap (λ x. Some x) (sym c.bytes-item.is) in
     let t = c.loop-bytes.invariant r rep in
-    stopped r (texts c.args.given.now) (texts (take i c.args.given.now)) c.as_slice.result.now (texts (drop (i + 1) c.args.given.now)) c.loop-bytes.learner c.learn.new.self t _
+    rw failed
+    (stopped r (texts c.args.given.now) (texts (take i c.args.given.now)) c.as_slice.result.now (texts (drop (i + 1) c.args.given.now)) c.loop-bytes.learner c.learn.new.self t c.in_err-_executed.field-0.0
     (texts_split c.args.given.now i v there ∙ ap (λ (b : Bytes). texts (take i c.args.given.now) ++ b ∷ texts (drop (i + 1) c.args.given.now)) (sym c.as_slice.ensures.value))
-    (c.in_err-_executed.ensures.answers _ _ [] (texts (take i c.args.given.now)) t.0 t.1)
+    (c.in_err-_executed.ensures.answers _ _ [] (texts (take i c.args.given.now)) t.0 t.1))
