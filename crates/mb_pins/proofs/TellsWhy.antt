@@ -1,11 +1,11 @@
 -- Each refusal tells why: of each test what it means that it fails, then of each kind of message the chain of its tests, and of a LOG its own tests and those of
--- its entries.
+-- its entries. What is taken is written into the history, and stays there.
 use Rattle.std.proofs.Common.{◌≡◌, ℕ, zero, suc, ◌+◌, ◌-◌, ◌≤◌, ◌<◌, ◌⊎◌, Bool, true, false, ◌&&◌, not, List, [], ◌∷◌, ◌++◌, length, refl, sym, ap, subst, ◌∙◌, inl, inr, arith, Option, Some, None, Result, Ok, Err}
-use Rattle.std.specs.Prelude.{◌==◌, nat_lt, nat_le, find, slice_get, unwrap_or, is_some, is_none, option_map, option_and_then, if◌then◌else◌, Contains}
+use Rattle.std.specs.Prelude.{◌==◌, ◌||◌, nat_lt, nat_le, find, slice_get, unwrap_or, is_some, is_none, option_map, option_and_then, if◌then◌else◌, Contains}
 use Rattle.std.specs.List.{AllByRecursion, list_all, range_with_len}
 use Rattle.std.specs.Bool.{then_some}
 use Rattle.std.specs.Option.{option_or}
-use Rattle.std.proofs.lemmas.Bool.{cases_Bool, and_from, eqb-true, eq-eqb, leb-true, ltb-true}
+use Rattle.std.proofs.lemmas.Bool.{cases_Bool, and_from, and_parts, eqb-true, eq-eqb, leb-true, leb-false, ltb-true, ltb-false, lt-ltb}
 use Rattle.sha2.specs.Sha256.{sha256}
 use Rattle.mb_base.specs.Shapes.{Bytes, span}
 use Rattle.mb_usig.specs.Tags.{same_bytes, request_tag, wish_tag, stop_tag}
@@ -21,6 +21,7 @@ use Rattle.mb_msg.specs.declared.message.Body.{Body}
 use Rattle.mb_msg.specs.declared.message.Body.TheVariants.{Whole, Bare as Short}
 use Rattle.mb_msg.specs.declared.message.Message.{Message}
 use Rattle.mb_msg.specs.declared.message.Message.TheVariants as message
+use Rattle.mb_msg.specs.declared.normal.Commit.{Commit}
 use Rattle.mb_msg.specs.declared.normal.Stop.{Stop}
 use Rattle.mb_msg.specs.declared.change.ReqViewChange.{ReqViewChange}
 use Rattle.mb_msg.specs.declared.change.ViewChange.{ViewChange}
@@ -42,26 +43,32 @@ use Rattle.mb_msg.specs.Stamps.{bare_of, ui_of, as_stamped, as_message}
 use Rattle.mb_model.specs.Service.{Served}
 use Rattle.mb_model.specs.Verified.{is_rightly_tagged, are_rightly_tagged}
 use Rattle.mb_model.specs.UsableLogs.{Fault, log_fault}
-use Rattle.mb_model.specs.Histories.{Entry, Accepted, History, Identity, view_of, closed_at, gate}
-use Rattle.mb_model.specs.Held.{change_fault, plan_from}
+use Rattle.mb_model.specs.Histories.{Entry, Accepted, History, Identity, view_of, closed_at, counter_of, gate}
+use Rattle.mb_model.specs.Held.{wish_of, change_fault, plan_from}
 use Rattle.mb_model.specs.Stable.{low_of}
 use Rattle.mb_model.specs.Positions.{exec_of}
-use Rattle.mb_model.specs.Execution.{state_from, parts_held, missing}
-use Rattle.mb_model.specs.Sending.{Progress, begin, write, next_of}
-use Rattle.mb_model.specs.GateChecks.{valid, is_bad_ui, conviction, is_permitted, gate_refusal, identifier_refusal}
+use Rattle.mb_model.specs.Execution.{state_from, pending, snapshot_of, part_held, parts_held, missing}
+use Rattle.mb_model.specs.Making.{expected}
+use Rattle.mb_model.specs.Compared.{compared_in}
+use Rattle.mb_model.specs.Sending.{Progress, begin, write, note, next_of}
+use Rattle.mb_model.specs.GateChecks.{valid, is_bad_ui, is_own_future, conviction, is_permitted, gate_refusal, identifier_refusal}
 use Rattle.mb_model.specs.KindChecks.{unusable, only_where, is_of_view, has_bad_tag, is_badly_tagged, body_refusal, vote_refusal, is_member, member_fault, members_fault, announces, new_view_fault, is_body_of, opening_fault, kind_refusal, stamped_refusal}
-use Rattle.mb_model.specs.PlainChecks.{has_news_for, string_at, wrong_part, wrong_digest, last_seq, number_refusal, request_refusal, wish_refusal, resend_refusal, is_certified_floor, is_certified_evidence, log_refusal, fetch_refusal, is_list_right, fault_of, state_refusal, is_bad_stop, stop_answer}
-use Rattle.mb_model.specs.Given.{Answer, floor_shown, jump, go_on, answer_request, answer_state, give_stamped, give_request, give_wish, give_resend, give_fetch, give_state, give_entries, give_log, give}
+use Rattle.mb_model.specs.PlainChecks.{is_behind_pending, has_news_for, are_all_held, string_at, wrong_part, wrong_digest, last_seq, number_refusal, request_refusal, wish_refusal, resend_refusal, is_certified_floor, is_certified_evidence, log_refusal, fetch_refusal, is_list_right, fault_of, state_refusal, is_bad_stop, stop_answer}
+use Rattle.mb_model.specs.Given.{Answer, closing, named_prepare, casts_vote, accept, floor_shown, jump, go_on, install_where_all, answer_request, answer_state, give_stamped, give_request, give_wish, give_resend, give_fetch, give_state, give_entries, give_log, give}
 use Rattle.mb_model.specs.HostStep.{rules_follow, asks_on, finished_where, on_bytes, transition}
 use Rattle.mb_model.proofs.Options.{option_cases, or_some, if_some}
+use Rattle.mb_steps.proofs.StepPassed.{passes_log}
 use Rattle.mb_theory.specs.NothingLeft.{IsNoLog}
-use Rattle.mb_theory.specs.TakesValid.{IsCertified, IsTagged, AreTagged, IsPlanOf}
+use Rattle.mb_theory.specs.TakesLogs.{IsValidLog}
+use Rattle.mb_theory.specs.TakesValid.{IsCertified, IsTagged, AreTagged, IsPlanOf, AsksForState}
 use Rattle.mb_theory.specs.World.{self_of}
 use Rattle.mb_theory.specs.WorldSteps.{world}
-use Rattle.mb_known.proofs.Cases.{not_true, not_false, not_both, some_is, then_some_of, whole_is}
-use Rattle.mb_line.proofs.Walks.{each_entry, entries_keep}
-use Rattle.mb_due.proofs.TakesValid.{certified}
-use Rattle.mb_pins.specs.TellsWhy.{IsVoteOf, IsOfPosition, kind_number, IsBadlyTagged, IsFaulty, IsNoMember, IsMisplanned, Tells, IsOfEntry, TellsOfLog, TellsOfLogs, TellsOfMessages, TellsOfBytes, HostsTellWhy}
+use Rattle.mb_known.proofs.Cases.{not_true, not_false, not_both, or_false, some_is, then_some_of, whole_is}
+use Rattle.mb_line.proofs.Walks.{each_entry, offer_keeps, entries_keep, finished_keeps}
+use Rattle.mb_due.proofs.LogsStand.{HasEntry, entry_walked}
+use Rattle.mb_due.proofs.TakesValid.{certified, valid_passes}
+use Rattle.mb_pins.specs.TellsWhy.{IsVoteOf, IsOfPosition, kind_number, IsBadlyTagged, IsFaulty, IsNoMember, IsMisplanned, IsOwnAhead, WaitsAlready, IsIdle, Tells, TellsOf, IsOfEntry, IsThrough, TellsOfLog, TellsOfLogs, TellsOfMessages, TellsOfBytes, HostsTellWhy}
+use Rattle.mb_pins.proofs.OnlyValid.{log_so}
 
 -- ---- a refusal, where there is one, has a property: so it is of a chain of tests where it is so of each
 
@@ -117,6 +124,26 @@ found_in t a (suc n) i e = elim (cases_Bool (t a)) [
       (omega (arith, same), omega (arith, same), subst (λ (k : ℕ). t k ≡ true) same here)
   | inr other ↦ let more = found_in t (a + 1) n i (rw other at e) in let low = more.0 in let high = more.1 in (omega (arith, low), omega (arith, high), more.2)
 ]
+
+all_pass : (t : ℕ → Bool) (a n : ℕ) → list_all t (range_with_len a n) ≡ true → (i : ℕ) → i < n → t (a + i) ≡ true
+all_pass t a zero e i lt = absurd (omega (arith, lt))
+all_pass t a (suc n) e zero lt =
+    let place : a ≡ a + 0 = omega arith in
+    subst (λ (k : ℕ). t k ≡ true) place (and_parts (t a) (list_all t (range_with_len (a + 1) n)) e).0
+all_pass t a (suc n) e (suc i) lt =
+    let place : (a + 1) + i ≡ a + suc i = omega arith in
+    subst (λ (k : ℕ). t k ≡ true) place (all_pass t (a + 1) n (and_parts (t a) (list_all t (range_with_len (a + 1) n)) e).1 i (omega (arith, lt)))
+
+-- what fails where one of two is wanted, or both
+neither : {A : Type 0} (a : Bool) (o : Option A) → (not a || is_none o) ≡ true → a ≡ true → is_some o ≡ true → ⊥
+neither true None e p q = absurd cc
+neither true (Some x) e p q = absurd cc
+neither false o e p q = absurd cc
+
+unwanted : (a b : Bool) → not (if a then b else false) ≡ true → a ≡ true → b ≡ true → ⊥
+unwanted true true e p q = absurd cc
+unwanted true false e p q = absurd cc
+unwanted false b e p q = absurd cc
 
 stamped_again : (x : StampedMessage) → as_stamped (as_message x) ≡ Some x
 stamped_again (stamped.Prepare m) = refl
@@ -201,6 +228,34 @@ module _ {S : Type 0} (self : Identity S) where
   module _ (d : History) where
     -- ---- stamped messages
 
+    own_ahead : (x : StampedMessage) → is_own_future self d (ui_of x) ≡ true → IsOwnAhead self d x
+    own_ahead x e =
+        let p = and_parts ((ui_of x).host == self.host) (nat_lt (counter_of d) (ui_of x).counter) e in
+        (eqb-true (ui_of x).host self.host p.0, ltb-true (counter_of d) (ui_of x).counter p.1)
+
+    stamped_idle : (x : StampedMessage) → IsOwnAhead self d x → IsIdle self d (as_message x)
+    stamped_idle (stamped.Prepare m) own = (stamped.Prepare m, refl, own)
+    stamped_idle (stamped.Commit m) own = (stamped.Commit m, refl, own)
+    stamped_idle (stamped.Checkpoint m) own = (stamped.Checkpoint m, refl, own)
+    stamped_idle (stamped.ViewChange m) own = (stamped.ViewChange m, refl, own)
+    stamped_idle (stamped.NewView m) own = (stamped.NewView m, refl, own)
+    stamped_idle (stamped.Enter m) own = (stamped.Enter m, refl, own)
+    stamped_idle (stamped.Open m) own = (stamped.Open m, refl, own)
+    stamped_idle (stamped.Join m) own = (stamped.Join m, refl, own)
+
+    own_is : (x y : StampedMessage) → Some x ≡ Some y → IsOwnAhead self d y → (ui_of x).host ≡ self.host
+    own_is x y is own = subst (λ (z : StampedMessage). (ui_of z).host ≡ self.host) (sym (some_is x y is)) own.0
+
+    idle_own : (x : StampedMessage) → IsIdle self d (as_message x) → (ui_of x).host ≡ self.host
+    idle_own (stamped.Prepare m) i = own_is (stamped.Prepare m) i.0 i.1 i.2
+    idle_own (stamped.Commit m) i = own_is (stamped.Commit m) i.0 i.1 i.2
+    idle_own (stamped.Checkpoint m) i = own_is (stamped.Checkpoint m) i.0 i.1 i.2
+    idle_own (stamped.ViewChange m) i = own_is (stamped.ViewChange m) i.0 i.1 i.2
+    idle_own (stamped.NewView m) i = own_is (stamped.NewView m) i.0 i.1 i.2
+    idle_own (stamped.Enter m) i = own_is (stamped.Enter m) i.0 i.1 i.2
+    idle_own (stamped.Open m) i = own_is (stamped.Open m) i.0 i.1 i.2
+    idle_own (stamped.Join m) i = own_is (stamped.Join m) i.0 i.1 i.2
+
     module _ (x : StampedMessage) where
       abbrev P : Outcome → Type 0
       P o = Tells self d (as_message x) o
@@ -212,7 +267,7 @@ module _ {S : Type 0} (self : Identity S) where
       unfolding identifier_refusal gate_refusal
       identifier_why =
           each_or P _ _ (each_then P _ outcome.BadUi (λ bad. (x, stamped_again x, bad_ui bad)))
-          (each_or P _ _ (each_then P _ outcome.Idle (λ own. tt))
+          (each_or P _ _ (each_then P _ outcome.Idle (λ own. stamped_idle x (own_ahead x own)))
           (each_or P _ _ (each_map P outcome.Convicted (conviction self d (ui_of x)) (λ n is. (x, stamped_again x, shut_is (closed_at d (ui_of x).host) (ui_of x).counter n is)))
           (each_or P _ _ (each_then P _ (outcome.Stale (next_of d (ui_of x).host)) (λ stale. (x, stamped_again x, (refl, leb-true (ui_of x).counter (gate d (ui_of x).host).counter stale))))
           (each_or P _ _ (each_then P _ (outcome.Ahead (next_of d (ui_of x).host)) (λ ahead. (x, stamped_again x, (refl, ltb-true ((gate d (ui_of x).host).counter + 1) (ui_of x).counter ahead))))
@@ -274,6 +329,10 @@ module _ {S : Type 0} (self : Identity S) where
 
     -- ---- the others
 
+    waits : (r : Request) (o : Option Request) → pending self d r.client ≡ o → is_behind_pending o r ≡ true → WaitsAlready self d r
+    waits r None is e = absurd cc
+    waits r (Some q) is e = (q, is, leb-true r.seq q.seq e)
+
     request_why : (r : Request) → Each (Tells self d (message.Request r)) (request_refusal self d r)
     unfolding request_refusal number_refusal
     request_why r =
@@ -281,25 +340,33 @@ module _ {S : Type 0} (self : Identity S) where
         each_or (Tells self d M) _ _ (each_then (Tells self d M) _ outcome.BadTag (λ bad. untagged r bad))
         (each_or (Tells self d M) _ _ (each_then (Tells self d M) _ (outcome.Old (last_seq self d r.client)) (λ old. (refl, ltb-true r.seq (last_seq self d r.client) old)))
         (each_or (Tells self d M) _ _ (each_then (Tells self d M) _ outcome.Again (λ again. eqb-true r.seq (last_seq self d r.client) again))
-        (each_then (Tells self d M) _ outcome.Idle (λ idle. tt))))
+        (each_then (Tells self d M) _ outcome.Idle (λ idle. waits r (pending self d r.client) refl idle))))
 
     wish_why : (m : ReqViewChange) → Each (Tells self d (message.ReqViewChange m)) (wish_refusal self d m)
     unfolding wish_refusal
     wish_why m =
         let M : Message = message.ReqViewChange m in
         each_or (Tells self d M) _ _ (each_then (Tells self d M) _ outcome.BadTag (λ bad right. not_both (same_bytes m.tag (wish_tag self.secret m.host m.view)) (true-same_bytes m.tag (wish_tag self.secret m.host m.view) right) (not_true _ bad)))
-        (each_then (Tells self d M) _ outcome.Idle (λ idle. tt))
+        (each_then (Tells self d M) _ outcome.Idle (λ idle. leb-true m.view (wish_of self d m.host) idle))
+
+    no_news : (m : Resend) → has_news_for self d m ≡ false → (counter_of d < expected self m) × (low_of self d ≤ m.low)
+    no_news m e =
+        let p = or_false (nat_le (expected self m) (counter_of d)) (nat_lt m.low (low_of self d)) e in
+        (leb-false (expected self m) (counter_of d) p.0, ltb-false m.low (low_of self d) p.1)
 
     resend_why : (m : Resend) → Each (Tells self d (message.Resend m)) (resend_refusal self d m)
     unfolding resend_refusal
     resend_why m =
         let own : Option Outcome = then_some (m.host == self.host) outcome.Idle in
         let none : Option Outcome = then_some (not (has_news_for self d m)) outcome.Idle in
-        each_or (Tells self d (message.Resend m)) own none (each_then (Tells self d (message.Resend m)) (m.host == self.host) outcome.Idle (λ idle. tt))
-        (each_then (Tells self d (message.Resend m)) (not (has_news_for self d m)) outcome.Idle (λ idle. tt))
+        each_or (Tells self d (message.Resend m)) own none (each_then (Tells self d (message.Resend m)) (m.host == self.host) outcome.Idle (λ idle. inl (eqb-true m.host self.host idle)))
+        (each_then (Tells self d (message.Resend m)) (not (has_news_for self d m)) outcome.Idle (λ idle. inr (no_news m (not_true (has_news_for self d m) idle))))
+
+    asks_not : (m : Fetch) → (not (m.of == self.host) || is_none (snapshot_of self d m.pos)) ≡ true → AsksForState self d m → ⊥
+    asks_not m e asks = let p = valid_passes self d (message.Fetch m) asks in neither (m.of == self.host) (snapshot_of self d m.pos) e p.asked p.has_snapshot
 
     fetch_why : (m : Fetch) → Each (Tells self d (message.Fetch m)) (fetch_refusal self d m)
-    fetch_why m = each_then (Tells self d (message.Fetch m)) _ outcome.Idle (λ idle. tt)
+    fetch_why m = each_then (Tells self d (message.Fetch m)) _ outcome.Idle (λ idle. asks_not m idle)
 
     -- a part that is not the listed one
     part_why : (m : StateMsg) (i : ℕ) → wrong_part m.digests m.first m.parts ≡ Some i → Tells self d (message.State m) (outcome.WrongDigest i)
@@ -327,10 +394,10 @@ module _ {S : Type 0} (self : Identity S) where
     unfolding state_refusal
     state_why m =
         let M : Message = message.State m in
-        each_or (Tells self d M) _ _ (each_then (Tells self d M) _ outcome.Idle (λ idle. tt))
+        each_or (Tells self d M) _ _ (each_then (Tells self d M) _ outcome.Idle (λ idle. inl (λ at behind. unwanted (m.pos == low_of self d) (nat_lt (exec_of d) (low_of self d)) idle (eq-eqb m.pos (low_of self d) at) (lt-ltb (exec_of d) (low_of self d) behind))))
         (each_or (Tells self d M) _ _ (each_then (Tells self d M) _ (outcome.WrongDigest 65) (λ wrong. inl (refl, λ right. not_both (is_list_right self d m) (true-same_bytes _ _ right) (not_true (is_list_right self d m) wrong))))
         (each_or (Tells self d M) _ _ (digest_why m (wrong_part m.digests m.first m.parts) refl)
-        (each_or (Tells self d M) _ _ (each_then (Tells self d M) _ outcome.Idle (λ idle. tt))
+        (each_or (Tells self d M) _ _ (each_then (Tells self d M) (are_all_held self d m) outcome.Idle (λ idle. inr (all_pass (λ (i : ℕ). is_some (part_held self d i)) m.first (length m.parts) idle)))
         (each_if (Tells self d M) (is_none (missing self (Accepted (message.State m) ∷ d))) _ (λ all. fault_why m _ refl)))))
 
     stop_why : (m : Stop) → Tells self d (message.Stop m) (stop_answer self m)
@@ -339,60 +406,95 @@ module _ {S : Type 0} (self : Identity S) where
       | inr good ↦ rw good (same_bytes-true m.tag (stop_tag self.secret) (not_false (same_bytes m.tag (stop_tag self.secret)) good))
     ]
 
-  -- ---- what is answered is the refusal
+  -- ---- what is answered is the refusal, or what was taken is written
 
-  stamped_told : (x : StampedMessage) (y : Progress) → Tells self y.history (as_message x) (give_stamped self x y).outcome
+  offered_there : (m : Commit) (x : Progress) → HasEntry self (Accepted (message.Commit m)) (accept self (stamped.Commit m) x)
+  offered_there m x =
+      let e : Entry = Accepted (message.Commit m) in
+      elim (cases_Bool (casts_vote self x.history m)) [
+        | inl votes ↦ rw votes (offer_keeps self (HasEntry self e) (entry_walked self e) (named_prepare self m) (write e x) (0, omega arith, refl))
+        | inr other ↦ rw other (0, omega arith, refl)
+      ]
+
+  accepted_there : (m : StampedMessage) (x : Progress) → HasEntry self (Accepted (as_message m)) (accept self m x)
+  accepted_there (stamped.Commit m) x = offered_there m x
+  accepted_there (stamped.Prepare m) x = (0, omega arith, refl)
+  accepted_there (stamped.Checkpoint m) x = (0, omega arith, refl)
+  accepted_there (stamped.ViewChange m) x = (0, omega arith, refl)
+  accepted_there (stamped.NewView m) x = (0, omega arith, refl)
+  accepted_there (stamped.Enter m) x = (0, omega arith, refl)
+  accepted_there (stamped.Open m) x = (0, omega arith, refl)
+  accepted_there (stamped.Join m) x = (0, omega arith, refl)
+
+  refused : (d left : History) (m : Message) (o : Outcome) → Tells self d m o → TellsOf self d left m o
+  refused d left m outcome.Took t = absurd t
+  refused d left m o t = t
+
+  stamped_told : (x : StampedMessage) (y : Progress) → TellsOf self y.history (give_stamped self x y).left.history (as_message x) (give_stamped self x y).outcome
   unfolding give_stamped
-  stamped_told x y = elim (option_cases (stamped_refusal self y.history x)) [
-    | inl none ↦ rw none tt
-    | inr (o, some) ↦ rw some (each_is (Tells self y.history (as_message x)) (stamped_refusal self y.history x) o some (stamped_why y.history x))
-  ]
+  stamped_told x y =
+      let z : Progress = note (compared_in self y.history x) y in
+      elim (option_cases (stamped_refusal self y.history x)) [
+        | inl none ↦ rw none (accepted_there x z)
+        | inr (o, some) ↦ rw some (refused y.history (closing o (ui_of x) z).history (as_message x) o (each_is (Tells self y.history (as_message x)) (stamped_refusal self y.history x) o some (stamped_why y.history x)))
+      ]
 
   module _ (d : History) where
     request_answered : (o : Outcome) (r : Request) (x : Progress) → (answer_request self (Some o) r x).outcome ≡ o
     request_answered outcome.Again r x = refl
     request_answered o r x = refl
 
-    request_told : (r : Request) → Tells self d (message.Request r) (give_request self r (begin d)).outcome
+    request_told : (r : Request) → TellsOf self d (give_request self r (begin d)).left.history (message.Request r) (give_request self r (begin d)).outcome
     unfolding give_request
     request_told r = elim (option_cases (request_refusal self d r)) [
-      | inl none ↦ rw none tt
-      | inr (o, some) ↦ rw some (subst (Tells self d (message.Request r)) (sym (request_answered o r (begin d))) (each_is (Tells self d (message.Request r)) (request_refusal self d r) o some (request_why d r)))
+      | inl none ↦ rw none (0, omega arith, refl)
+      | inr (o, some) ↦
+          let left : History = (answer_request self (Some o) r (begin d)).left.history in
+          rw some (subst (TellsOf self d left (message.Request r)) (sym (request_answered o r (begin d))) (refused d left (message.Request r) o (each_is (Tells self d (message.Request r)) (request_refusal self d r) o some (request_why d r))))
     ]
 
-    wish_told : (m : ReqViewChange) → Tells self d (message.ReqViewChange m) (give_wish self m (begin d)).outcome
+    wish_told : (m : ReqViewChange) → TellsOf self d (give_wish self m (begin d)).left.history (message.ReqViewChange m) (give_wish self m (begin d)).outcome
     unfolding give_wish
     wish_told m = elim (option_cases (wish_refusal self d m)) [
-      | inl none ↦ rw none tt
-      | inr (o, some) ↦ rw some (each_is (Tells self d (message.ReqViewChange m)) (wish_refusal self d m) o some (wish_why d m))
+      | inl none ↦ rw none (0, omega arith, refl)
+      | inr (o, some) ↦ rw some (refused d d (message.ReqViewChange m) o (each_is (Tells self d (message.ReqViewChange m)) (wish_refusal self d m) o some (wish_why d m)))
     ]
 
-    resend_told : (m : Resend) → Tells self d (message.Resend m) (give_resend self m (begin d)).outcome
+    resend_told : (m : Resend) → TellsOf self d (give_resend self m (begin d)).left.history (message.Resend m) (give_resend self m (begin d)).outcome
     unfolding give_resend
     resend_told m = elim (option_cases (resend_refusal self d m)) [
-      | inl none ↦ rw none tt
-      | inr (o, some) ↦ rw some (each_is (Tells self d (message.Resend m)) (resend_refusal self d m) o some (resend_why d m))
+      | inl none ↦ rw none (0, omega arith, refl)
+      | inr (o, some) ↦ rw some (refused d d (message.Resend m) o (each_is (Tells self d (message.Resend m)) (resend_refusal self d m) o some (resend_why d m)))
     ]
 
-    fetch_told : (m : Fetch) → Tells self d (message.Fetch m) (give_fetch self m (begin d)).outcome
+    fetch_told : (m : Fetch) → TellsOf self d (give_fetch self m (begin d)).left.history (message.Fetch m) (give_fetch self m (begin d)).outcome
     unfolding give_fetch
     fetch_told m = elim (option_cases (fetch_refusal self d m)) [
-      | inl none ↦ rw none tt
-      | inr (o, some) ↦ rw some (each_is (Tells self d (message.Fetch m)) (fetch_refusal self d m) o some (fetch_why d m))
+      | inl none ↦ rw none (0, omega arith, refl)
+      | inr (o, some) ↦ rw some (refused d d (message.Fetch m) o (each_is (Tells self d (message.Fetch m)) (fetch_refusal self d m) o some (fetch_why d m)))
+    ]
+
+    -- Behind it the state may be installed.
+    state_there : (m : StateMsg) → HasEntry self (Accepted (message.State m)) (install_where_all self (write (Accepted (message.State m)) (begin d)))
+    state_there m = elim (cases_Bool (is_none (missing self (Accepted (message.State m) ∷ d)))) [
+      | inl all ↦ rw all (1, omega arith, refl)
+      | inr some ↦ rw some (0, omega arith, refl)
     ]
 
     state_answered : (o : Outcome) (m : StateMsg) (x : Progress) → (answer_state self (Some o) m x).outcome ≡ o
     state_answered (outcome.BadState part at) m x = refl
     state_answered o m x = refl
 
-    state_told : (m : StateMsg) → Tells self d (message.State m) (give_state self m (begin d)).outcome
+    state_told : (m : StateMsg) → TellsOf self d (give_state self m (begin d)).left.history (message.State m) (give_state self m (begin d)).outcome
     unfolding give_state
     state_told m = elim (option_cases (state_refusal self d m)) [
-      | inl none ↦ rw none tt
-      | inr (o, some) ↦ rw some (subst (Tells self d (message.State m)) (sym (state_answered o m (begin d))) (each_is (Tells self d (message.State m)) (state_refusal self d m) o some (state_why d m)))
+      | inl none ↦ rw none (state_there m)
+      | inr (o, some) ↦
+          let left : History = (answer_state self (Some o) m (begin d)).left.history in
+          rw some (subst (TellsOf self d left (message.State m)) (sym (state_answered o m (begin d))) (refused d left (message.State m) o (each_is (Tells self d (message.State m)) (state_refusal self d m) o some (state_why d m))))
     ]
 
-    given_told : (m : Message) → IsNoLog self d m → Tells self d m (give self m (begin d)).outcome
+    given_told : (m : Message) → IsNoLog self d m → TellsOf self d (give self m (begin d)).left.history m (give self m (begin d)).outcome
     given_told (message.Request m) n = request_told m
     given_told (message.Prepare m) n = stamped_told (stamped.Prepare m) (begin d)
     given_told (message.Commit m) n = stamped_told (stamped.Commit m) (begin d)
@@ -408,7 +510,7 @@ module _ {S : Type 0} (self : Identity S) where
     given_told (message.Log m) n = absurd n
     given_told (message.Fetch m) n = fetch_told m
     given_told (message.State m) n = state_told m
-    given_told (message.Stop m) n = stop_why d m
+    given_told (message.Stop m) n = refused d d (message.Stop m) (stop_answer self m) (stop_why d m)
 
     -- ---- LOG: its own tests, then its entries
 
@@ -423,13 +525,13 @@ module _ {S : Type 0} (self : Identity S) where
     evidence_why m None is e = absurd cc
     evidence_why m (Some c) is e = (c, is, e)
 
-    log_why : (m : Log) → Each (TellsOfLog self d m) (log_refusal self m)
+    log_why : (left : History) (m : Log) → Each (TellsOfLog self left d m) (log_refusal self m)
     unfolding log_refusal
-    log_why m =
-        each_or (TellsOfLog self d m) _ _ (each_then (TellsOfLog self d m) _ (outcome.Unusable 0 1) (λ bad. let f = floor_why m m.floor refl (not_true _ bad) in inl (refl, inl (refl, f.0, f.1, f.2))))
-        (each_or (TellsOfLog self d m) _ _ (each_then (TellsOfLog self d m) _ (outcome.Unusable 0 2) (λ bad. inl (refl, inr (inl (refl, not_true _ bad)))))
-        (each_or (TellsOfLog self d m) _ _ (each_then (TellsOfLog self d m) _ (outcome.Unusable 0 12) (λ bad. let f = evidence_why m m.evidence refl (not_true _ bad) in inl (refl, inr (inr (refl, f.0, f.1, f.2)))))
-        (each_then (TellsOfLog self d m) _ outcome.Idle (λ own. tt))))
+    log_why left m =
+        each_or (TellsOfLog self left d m) _ _ (each_then (TellsOfLog self left d m) _ (outcome.Unusable 0 1) (λ bad. let f = floor_why m m.floor refl (not_true _ bad) in inl (refl, inl (refl, f.0, f.1, f.2))))
+        (each_or (TellsOfLog self left d m) _ _ (each_then (TellsOfLog self left d m) _ (outcome.Unusable 0 2) (λ bad. inl (refl, inr (inl (refl, not_true _ bad)))))
+        (each_or (TellsOfLog self left d m) _ _ (each_then (TellsOfLog self left d m) _ (outcome.Unusable 0 12) (λ bad. let f = evidence_why m m.evidence refl (not_true _ bad) in inl (refl, inr (inr (refl, f.0, f.1, f.2)))))
+        (each_then (TellsOfLog self left d m) _ outcome.Idle (λ own. eqb-true m.host self.host own))))
 
     -- what has come so far stands before the history
     abbrev IsLater : Progress → Type 0
@@ -453,32 +555,74 @@ module _ {S : Type 0} (self : Identity S) where
     entry_later x y l = subst IsLater (entry_left x y) (entries_keep self IsLater (each_entry self (λ (h : History). (added : History) × (h ≡ added ++ d)) later_more) (x ∷ []) y l)
 
     module _ (m : Log) where
-      abbrev IsEnd : Outcome → Type 0
-      IsEnd o = (o ≡ outcome.Took) ⊎ IsOfEntry self d m o
+      -- an outcome of an entry that ends the LOG
+      abbrev Ends : Outcome → Type 0
+      Ends outcome.Took = ⊥
+      Ends (outcome.Stale next) = ⊥
+      Ends outcome.Idle = ⊥
+      Ends o = Unit {0}
 
-      ends : (x : StampedMessage) (y : Progress) → Contains m.entries x → IsLater y → (o : Outcome) (left : Progress) (more : Progress → Answer) → Tells self y.history (as_message x) o → IsEnd (more left).outcome → IsEnd (go_on self o left more).outcome
-      ends x y there l outcome.Took left more t rest = rest
-      ends x y there l (outcome.Stale next) left more t rest = rest
-      ends x y there l outcome.Idle left more t rest = rest
-      ends x y there l o left more t rest = inr (record { added = l.0; entry = x; there = there; tells = subst (λ (h : History). Tells self h (as_message x) o) l.1 t })
+      -- These entries are all through, or one of them ended the LOG.
+      abbrev IsEnd : Answer → List StampedMessage → Type 0
+      IsEnd a l = ((a.outcome ≡ outcome.Took) × AllByRecursion (IsThrough self a.left.history d) l) ⊎ (Ends a.outcome × IsOfEntry self d m a.outcome)
 
-      entries_why : (l : List StampedMessage) (y : Progress) → ((x : StampedMessage) → Contains l x → Contains m.entries x) → IsLater y → IsEnd (give_entries self l y).outcome
+      one_more : (x : StampedMessage) (l : List StampedMessage) (a : Answer) → IsThrough self a.left.history d x → IsEnd a l → IsEnd a (x ∷ l)
+      one_more x l a here (inl (took, rest)) = inl (took, (here, rest))
+      one_more x l a here (inr end) = inr end
+
+      -- what an entry's outcome says of it, where this history is left
+      abbrev SaysOf : History → StampedMessage → Outcome → Type 0
+      SaysOf left x outcome.Took = IsThrough self left d x
+      SaysOf left x (outcome.Stale next) = IsThrough self left d x
+      SaysOf left x outcome.Idle = IsThrough self left d x
+      SaysOf left x o = IsOfEntry self d m o
+
+      ends : (x : StampedMessage) (l : List StampedMessage) (o : Outcome) (left : Progress) (more : Progress → Answer) → SaysOf (more left).left.history x o → IsEnd (more left) l → IsEnd (go_on self o left more) (x ∷ l)
+      ends x l outcome.Took left more says rest = one_more x l (more left) says rest
+      ends x l (outcome.Stale next) left more says rest = one_more x l (more left) says rest
+      ends x l outcome.Idle left more says rest = one_more x l (more left) says rest
+      ends x l o left more says rest = inr (tt, says)
+
+      module _ (x : StampedMessage) (y : Progress) (there : Contains m.entries x) (later : IsLater y) (left : History) where
+        stale_so : (z : StampedMessage) → as_stamped (as_message x) ≡ Some z → (ui_of z).counter ≤ (gate y.history (ui_of z).host).counter → IsThrough self left d x
+        stale_so z is low =
+            let same : x ≡ z = some_is x z (sym (stamped_again x) ∙ is) in
+            let now : (ui_of z).counter ≤ (gate (later.0 ++ d) (ui_of z).host).counter = subst (λ (h : History). (ui_of z).counter ≤ (gate h (ui_of z).host).counter) later.1 low in
+            inr (record { added = later.0; known = inr (subst (λ (w : StampedMessage). (ui_of w).counter ≤ (gate (later.0 ++ d) (ui_of w).host).counter) (sym same) now) })
+
+        says_of : (o : Outcome) → Tells self y.history (as_message x) o → SaysOf left x o
+        says_of outcome.Took t = absurd t
+        says_of (outcome.Stale next) t = stale_so t.0 t.1 t.2.1
+        says_of outcome.Idle t = inr (record { added = later.0; known = inl (idle_own y.history x t) })
+        says_of o t = record { added = later.0; entry = x; there = there; tells = subst (λ (h : History). Tells self h (as_message x) o) later.1 t }
+
+        entry_says : (Contains (give_stamped self x y).left.history (Accepted (as_message x)) → Contains left (Accepted (as_message x))) → SaysOf left x (give_stamped self x y).outcome
+        unfolding give_stamped
+        entry_says = elim (option_cases (stamped_refusal self y.history x)) [
+          | inl none ↦ rw none (λ keeps. inl (keeps (accepted_there x (note (compared_in self y.history x) y))))
+          | inr (o, some) ↦ rw some (λ keeps. says_of o (each_is (Tells self y.history (as_message x)) (stamped_refusal self y.history x) o some (stamped_why y.history x)))
+        ]
+
+      entries_why : (l : List StampedMessage) (y : Progress) → ((x : StampedMessage) → Contains l x → Contains m.entries x) → IsLater y → IsEnd (give_entries self l y) l
       unfolding give_entries
-      entries_why [] y within later = inl refl
+      entries_why [] y within later = inl (refl, tt)
       entries_why (x ∷ l) y within later =
+          let e : Entry = Accepted (as_message x) in
           let left : Progress = (give_stamped self x y).left in
-          let rest : IsEnd (give_entries self l left).outcome = entries_why l left (λ z c. within z (let lt = c.1 in (suc c.0, omega (arith, lt), c.2))) (entry_later x y later) in
-          ends x y (within x (0, omega arith, refl)) later (give_stamped self x y).outcome left (λ z. give_entries self l z) (stamped_told x y) rest
+          let rest : IsEnd (give_entries self l left) l = entries_why l left (λ z c. within z (let lt = c.1 in (suc c.0, omega (arith, lt), c.2))) (entry_later x y later) in
+          let says = entry_says x y (within x (0, omega arith, refl)) later (give_entries self l left).left.history (λ c. entries_keep self (HasEntry self e) (entry_walked self e) l left c) in
+          ends x l (give_stamped self x y).outcome left (λ z. give_entries self l z) says rest
 
-      of_entry : (o : Outcome) → IsOfEntry self d m o → TellsOfLog self d m o
-      of_entry outcome.Took e = tt
-      of_entry outcome.Idle e = tt
-      of_entry (outcome.Unusable index reason) e = inr e
-      of_entry o e = e
+      of_entry : (left : History) (o : Outcome) → Ends o → IsOfEntry self d m o → TellsOfLog self left d m o
+      of_entry left outcome.Took end e = absurd end
+      of_entry left (outcome.Stale next) end e = absurd end
+      of_entry left outcome.Idle end e = absurd end
+      of_entry left (outcome.Unusable index reason) end e = inr e
+      of_entry left o end e = e
 
-      ended : (o : Outcome) → IsEnd o → TellsOfLog self d m o
-      ended o (inl took) = subst (TellsOfLog self d m) (sym took) tt
-      ended o (inr e) = of_entry o e
+      ended : (a : Answer) → IsValidLog self m → IsEnd a m.entries → TellsOfLog self a.left.history d m a.outcome
+      ended a valid (inl (took, all)) = subst (TellsOfLog self a.left.history d m) (sym took) (valid, all)
+      ended a valid (inr (end, e)) = of_entry a.left.history a.outcome end e
 
       jumped : (h : ℕ) (f : Option Floor) → IsLater (jump self h f (begin d))
       jumped h None = ([], refl)
@@ -487,13 +631,15 @@ module _ {S : Type 0} (self : Identity S) where
         | inr stays ↦ rw stays ([], refl)
       ]
 
-      log_told : TellsOfLog self d m (give_log self m (begin d)).outcome
+      log_told : TellsOfLog self (give_log self m (begin d)).left.history d m (give_log self m (begin d)).outcome
       unfolding give_log
       log_told =
           let y : Progress = jump self m.host (floor_shown self m.host m.floor) (begin d) in
           elim (option_cases (log_refusal self m)) [
-            | inl none ↦ rw none (ended _ (entries_why m.entries (write (Accepted (message.Log m)) y) (λ x c. c) (later_more (Accepted (message.Log m)) y.history (jumped m.host (floor_shown self m.host m.floor)))))
-            | inr (o, some) ↦ rw some (each_is (TellsOfLog self d m) (log_refusal self m) o some (log_why m))
+            | inl none ↦
+                let x : Progress = write (Accepted (message.Log m)) y in
+                rw none (ended (give_entries self m.entries x) (log_so self m (passes_log self m none)) (entries_why m.entries x (λ x c. c) (later_more (Accepted (message.Log m)) y.history (jumped m.host (floor_shown self m.host m.floor)))))
+            | inr (o, some) ↦ rw some (each_is (TellsOfLog self d d m) (log_refusal self m) o some (log_why d m))
           ]
 
     -- ---- each event
@@ -502,10 +648,37 @@ module _ {S : Type 0} (self : Identity S) where
     outcome_stays true asks a = refl
     outcome_stays false asks a = refl
 
+    -- What stands in a history stands there behind the rules.
+    module _ (runs asks : Bool) (a : Answer) where
+      abbrev finish : Answer
+      finish = finished_where self runs asks d a
+
+      stays : (e : Entry) → Contains a.left.history e → Contains finish.left.history e
+      stays e c = finished_keeps self (HasEntry self e) (entry_walked self e) runs asks d a c
+
+      message_stays : (m : Message) (o : Outcome) → TellsOf self d a.left.history m o → TellsOf self d finish.left.history m o
+      message_stays m outcome.Took t = stays (Accepted m) t
+      message_stays m o t = t
+
+      through_stays : (l : List StampedMessage) → AllByRecursion (IsThrough self a.left.history d) l → AllByRecursion (IsThrough self finish.left.history d) l
+      through_stays [] all = tt
+      through_stays (x ∷ l) all = (elim (all.0) [ inl there ↦ inl (stays (Accepted (as_message x)) there) | inr over ↦ inr over ], through_stays l all.1)
+
+      log_stays : (m : Log) (o : Outcome) → TellsOfLog self a.left.history d m o → TellsOfLog self finish.left.history d m o
+      log_stays m outcome.Took t = (t.0, through_stays m.entries t.1)
+      log_stays m o t = t
+
+      message_ends : (m : Message) → TellsOf self d a.left.history m a.outcome → TellsOf self d finish.left.history m finish.outcome
+      message_ends m t = subst (TellsOf self d finish.left.history m) (sym (outcome_stays runs asks a)) (message_stays m a.outcome t)
+
+      log_ends : (m : Log) → TellsOfLog self a.left.history d m a.outcome → TellsOfLog self finish.left.history d m finish.outcome
+      log_ends m t = subst (TellsOfLog self finish.left.history d m) (sym (outcome_stays runs asks a)) (log_stays m a.outcome t)
+
     tells_messages : TellsOfMessages self d
     unfolding transition
-    tells_messages bytes m reads n = subst (λ (r : Result Message ℕ). Tells self d m (on_bytes self r d).outcome) (sym reads)
-        (subst (Tells self d m) (sym (outcome_stays (rules_follow self (give self m (begin d)).outcome m) (asks_on self m) (give self m (begin d)))) (given_told m n))
+    tells_messages bytes m reads n =
+        let a : Answer = give self m (begin d) in
+        subst (λ (r : Result Message ℕ). TellsOf self d (on_bytes self r d).left.history m (on_bytes self r d).outcome) (sym reads) (message_ends (rules_follow self a.outcome m) (asks_on self m) a m (given_told m n))
 
     tells_bytes : TellsOfBytes self d
     unfolding transition
@@ -513,8 +686,9 @@ module _ {S : Type 0} (self : Identity S) where
 
     tells_logs : TellsOfLogs self d
     unfolding transition
-    tells_logs bytes m reads = subst (λ (r : Result Message ℕ). TellsOfLog self d m (on_bytes self r d).outcome) (sym reads)
-        (subst (TellsOfLog self d m) (sym (outcome_stays (rules_follow self (give_log self m (begin d)).outcome (message.Log m)) (asks_on self (message.Log m)) (give_log self m (begin d)))) (log_told m))
+    tells_logs bytes m reads =
+        let a : Answer = give_log self m (begin d) in
+        subst (λ (r : Result Message ℕ). TellsOfLog self (on_bytes self r d).left.history d m (on_bytes self r d).outcome) (sym reads) (log_ends (rules_follow self a.outcome (message.Log m)) (asks_on self (message.Log m)) a m (log_told m))
 
 pub hosts_tell_why : (S : Type 0) → HostsTellWhy S
 hosts_tell_why S system k h =

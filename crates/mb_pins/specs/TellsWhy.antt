@@ -1,11 +1,14 @@
--- What the number of each outcome tells, and when it comes: of the message, and of what the host held as the message came.
-use Rattle.std.specs.Prelude.{◌≡◌, ℕ, ◌+◌, ◌-◌, ◌^◌, ◌≤◌, ◌<◌, ◌⊎◌, false, ◌∷◌, ◌++◌, length, min, slice_get, Some, None, Ok, Err, Contains}
+-- What the number of each outcome tells, and when it comes: of the message, and of what the host held as the message came. What was taken stands in the history
+-- from then on.
+use Rattle.std.specs.Prelude.{◌≡◌, ℕ, ◌+◌, ◌-◌, ◌^◌, ◌≤◌, ◌<◌, ◌⊎◌, true, false, ◌∷◌, ◌++◌, length, min, slice_get, is_some, Some, None, Ok, Err, Contains}
+use Rattle.std.specs.List.{AllByRecursion}
 use Rattle.sha2.specs.Sha256.{sha256}
 use Rattle.mb_base.specs.Shapes.{Bytes, span}
 use Rattle.mb_usig.specs.Tags.{wish_tag, stop_tag}
 use Rattle.mb_parts.specs.declared.certificates.FloorCert.{FloorCert}
 use Rattle.mb_parts.specs.declared.certificates.Evidence.{Evidence}
 use Rattle.mb_parts.specs.declared.batch.Batch.{Batch}
+use Rattle.mb_parts.specs.declared.request.Request.{Request}
 use Rattle.mb_parts.specs.Certificates.{certified_floor, inner_valid, is_stable, is_evidence}
 use Rattle.mb_parts.specs.Ordered.{permits}
 use Rattle.mb_msg.specs.declared.message.Body.{Body}
@@ -17,6 +20,7 @@ use Rattle.mb_msg.specs.declared.change.ViewChange.{ViewChange}
 use Rattle.mb_msg.specs.declared.change.NewViewBody.{NewViewBody}
 use Rattle.mb_msg.specs.declared.change.OpenBody.{OpenBody}
 use Rattle.mb_msg.specs.declared.transfer.Log.{Log}
+use Rattle.mb_msg.specs.declared.transfer.StateMsg.{StateMsg}
 use Rattle.mb_msg.specs.declared.stamped.Stamped.{Stamped as StampedMessage}
 use Rattle.mb_msg.specs.declared.stamped.Stamped.TheVariants as stamped
 use Rattle.mb_msg.specs.declared.event.Event.TheVariants as event
@@ -29,14 +33,16 @@ use Rattle.mb_model.specs.Service.{reply_of}
 use Rattle.mb_model.specs.States.{digest_string}
 use Rattle.mb_model.specs.Verified.{verifies}
 use Rattle.mb_model.specs.UsableLogs.{log_fault}
-use Rattle.mb_model.specs.Histories.{Accepted, History, Identity, gate, origin, taken_of, closed_at, view_of}
-use Rattle.mb_model.specs.Held.{plan_from}
+use Rattle.mb_model.specs.Histories.{Accepted, History, Identity, gate, origin, taken_of, closed_at, view_of, counter_of}
+use Rattle.mb_model.specs.Held.{wish_of, plan_from}
 use Rattle.mb_model.specs.Stable.{stable_of, low_of}
 use Rattle.mb_model.specs.Positions.{exec_of}
-use Rattle.mb_model.specs.Execution.{state_of, state_from, parts_held}
+use Rattle.mb_model.specs.Execution.{state_of, state_from, pending, part_held, parts_held}
+use Rattle.mb_model.specs.Making.{expected}
 use Rattle.mb_model.specs.HostStep.{transition}
 use Rattle.mb_theory.specs.NothingLeft.{IsNoLog}
-use Rattle.mb_theory.specs.TakesValid.{IsCertified, IsTagged, AreTagged, IsPlanOf}
+use Rattle.mb_theory.specs.TakesLogs.{IsValidLog}
+use Rattle.mb_theory.specs.TakesValid.{IsCertified, IsTagged, AreTagged, IsPlanOf, AsksForState}
 use Rattle.mb_theory.specs.World.{System, self_of}
 use Rattle.mb_theory.specs.WorldSteps.{world}
 
@@ -151,10 +157,37 @@ module _ {S : Type 0} (self : Identity S) where
     abbrev pub IsOfTurn : Message → Outcome → Type 0
     IsOfTurn m o = (x : StampedMessage) × (as_stamped m ≡ Some x) × IsOutOfTurn x o
 
-    -- Why a message that is no LOG has this outcome. Idle tells nothing.
+    -- ---- what a host passes over
+
+    -- It says that this host stamped it, at a counter that the host has not reached.
+    abbrev pub IsOwnAhead : StampedMessage → Type 0
+    IsOwnAhead x = ((ui_of x).host ≡ self.host) × (counter_of d < (ui_of x).counter)
+
+    -- A request of its client waits, and has no lower number.
+    abbrev pub WaitsAlready : Request → Type 0
+    WaitsAlready r = (q : Request) × (pending self d r.client ≡ Some q) × (r.seq ≤ q.seq)
+
+    -- It is not for the stable position, or that is executed; or each of its parts is held.
+    abbrev pub BringsNothing : StateMsg → Type 0
+    BringsNothing m = (m.pos ≡ low_of self d → exec_of d < low_of self d → ⊥) ⊎ ((i : ℕ) → i < length m.parts → is_some (part_held self d (m.first + i)) ≡ true)
+
+    -- what has no news for this host: a REPLY, which is for a client; a wish that is not above the one that is held; a RESEND of its own, or of a host to which
+    -- it has nothing to send; a FETCH that does not ask for its state
+    abbrev pub IsIdle : Message → Type 0
+    IsIdle (message.Request r) = WaitsAlready r
+    IsIdle (message.Reply m) = Unit {0}
+    IsIdle (message.ReqViewChange m) = m.view ≤ wish_of self d m.host
+    IsIdle (message.Resend m) = (m.host ≡ self.host) ⊎ ((counter_of d < expected self m) × (low_of self d ≤ m.low))
+    IsIdle (message.Log m) = m.host ≡ self.host
+    IsIdle (message.Fetch m) = AsksForState self d m → ⊥
+    IsIdle (message.State m) = BringsNothing m
+    IsIdle (message.Stop m) = ⊥
+    IsIdle m = (x : StampedMessage) × (as_stamped m ≡ Some x) × IsOwnAhead x
+
+    -- why a message that is no LOG is not taken
     abbrev pub Tells : Message → Outcome → Type 0
-    Tells m outcome.Took = Unit {0}
-    Tells m outcome.Idle = Unit {0}
+    Tells m outcome.Took = ⊥
+    Tells m outcome.Idle = IsIdle m
     Tells m outcome.BadTag = IsBadlyTagged m
     Tells m (outcome.LaterView view) = (view ≡ view_of self d) × (v : ℕ) × (pos : ℕ) × (body : Body Batch) × IsVoteOf m v pos body × (view < v)
     Tells m (outcome.BeyondWindow low) = (low ≡ low_of self d) × (pos : ℕ) × IsOfPosition m pos × (low + span self.shape < pos)
@@ -168,10 +201,16 @@ module _ {S : Type 0} (self : Identity S) where
     Tells m (outcome.Malformed at) = ⊥
     Tells m o = IsOfTurn m o
 
+    -- Why it has this outcome, where this history is left: what was taken stands there.
+    abbrev pub TellsOf : History → Message → Outcome → Type 0
+    TellsOf left m outcome.Took = Contains left (Accepted m)
+    TellsOf left m o = Tells m o
+
     -- ---- an event
 
     abbrev pub TellsOfMessages : Type 0
-    TellsOfMessages = (bytes : Bytes) (m : Message) → message_of self.shape bytes ≡ Ok m → IsNoLog self d m → Tells m (transition self d (event.Given bytes)).outcome
+    TellsOfMessages = (bytes : Bytes) (m : Message) → message_of self.shape bytes ≡ Ok m → IsNoLog self d m
+        → TellsOf (transition self d (event.Given bytes)).left.history m (transition self d (event.Given bytes)).outcome
 
     -- Bytes that are no message: where reading them failed.
     abbrev pub TellsOfBytes : Type 0
@@ -184,15 +223,27 @@ module _ {S : Type 0} (self : Identity S) where
     pub there : Contains m.entries entry
     pub tells : Tells (added ++ d) (as_message entry) o
 
-  -- why a LOG has this outcome: its own, or that of the entry at which it ended
-  abbrev pub TellsOfLog : History → Log → Outcome → Type 0
-  TellsOfLog d m outcome.Took = Unit {0}
-  TellsOfLog d m outcome.Idle = Unit {0}
-  TellsOfLog d m (outcome.Unusable index reason) = IsLogUnusable m index reason ⊎ IsOfEntry d m (outcome.Unusable index reason)
-  TellsOfLog d m o = IsOfEntry d m o
+  -- As an entry was looked at, its gate had passed it, or it was the host's own.
+  pub record IsPassedOver (d : History) (x : StampedMessage) : Type 0 where
+    pub added : History
+    pub known : ((ui_of x).host ≡ self.host) ⊎ ((ui_of x).counter ≤ (gate (added ++ d) (ui_of x).host).counter)
+
+  -- An entry stands in the history that is left, or was passed over.
+  abbrev pub IsThrough : History → History → StampedMessage → Type 0
+  IsThrough left d x = Contains left (Accepted (as_message x)) ⊎ IsPassedOver d x
+
+  -- Why a LOG has this outcome, where this history is left. It is taken where it is valid and each entry is through, and passed over where it is the host's own.
+  -- Else it ended before its entries, or at one of them, with the outcome of that; a stale one ends none.
+  abbrev pub TellsOfLog : History → History → Log → Outcome → Type 0
+  TellsOfLog left d m outcome.Took = IsValidLog self m × AllByRecursion (IsThrough left d) m.entries
+  TellsOfLog left d m outcome.Idle = m.host ≡ self.host
+  TellsOfLog left d m (outcome.Stale next) = ⊥
+  TellsOfLog left d m (outcome.Unusable index reason) = IsLogUnusable m index reason ⊎ IsOfEntry d m (outcome.Unusable index reason)
+  TellsOfLog left d m o = IsOfEntry d m o
 
   abbrev pub TellsOfLogs : History → Type 0
-  TellsOfLogs d = (bytes : Bytes) (m : Log) → message_of self.shape bytes ≡ Ok (message.Log m) → TellsOfLog d m (transition self d (event.Given bytes)).outcome
+  TellsOfLogs d = (bytes : Bytes) (m : Log) → message_of self.shape bytes ≡ Ok (message.Log m)
+      → TellsOfLog (transition self d (event.Given bytes)).left.history d m (transition self d (event.Given bytes)).outcome
 
   pub record TellsWhy (d : History) : Type 0 where
     pub messages : TellsOfMessages d

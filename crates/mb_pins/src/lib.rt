@@ -14,7 +14,8 @@ pub fn hosts_keep_logs_full<V>()
     ensures { HostsKeepLogs V }
 {}
 
-/// The numbers of each outcome are those of the message and of what the host held as it came: the counter at which a gate was closed, the next one that is
+/// What is taken stands in the history from then on, with each entry of a LOG that was not passed over; and what is passed over has no news for the host.
+/// The numbers of each other outcome are those of the message and of what the host held as it came: the counter at which a gate was closed, the next one that is
 /// expected, the kind, the view, the stable position, the fault, the last number, the part. So it is of each host after any events.
 pub fn outcomes_tell_why<V>()
     ensures { HostsTellWhy V }
