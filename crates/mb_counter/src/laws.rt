@@ -1,0 +1,15 @@
+//! What is true of counts: a theorem, the contract of a function that does nothing.
+
+ghost use Rattle.mb_service.specs.Replicable.{IsReplicable};
+ghost use Rattle.mb_counter.specs.Operations.{after, answer};
+ghost use Rattle.mb_counter.specs.Snapshots.{part_of, restored};
+
+use crate::counter::Counter;
+use mb_service::services_are_replicable;
+
+/// Counts from 0 on can be replicated: wherever operations lead, results fit into replies, and the parts of a count give that count back.
+pub fn counters_are_replicable()
+    ensures { IsReplicable after answer part_of restored 0 }
+{
+    services_are_replicable::<Counter>();
+}
