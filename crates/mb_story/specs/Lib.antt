@@ -1,0 +1,3 @@
+pub mod Arrivals
+pub mod Telling
+pub mod Stories
