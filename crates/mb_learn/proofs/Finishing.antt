@@ -37,6 +37,7 @@ use Rattle.mb_learn.specs.Followers.{IsFollowing}
 use Rattle.mb_learn.specs.Held.{known_plans}
 use Rattle.mb_learn.specs.Differences.{IsLowest, IsNowhere}
 use Rattle.mb_learn.specs.Executed.{Executes, ExecutesToo}
+use Rattle.mb_learn.specs.Halting.{Halts}
 use Rattle.mb_learn.specs.Hearing.{IsReady, FollowsAll, Counts, Shows, Says, Hears, HearsOf, NotesNews, AddsNews, KeepsTables, KeepsPlace}
 use Rattle.mb_learn.specs.Learners.{Agrees, Represents, LearnsMore, Differs, Answers, AreProved, Executed, ExecutedAll, Compares}
 use Rattle.mb_learn.specs.Next.{IsNext}
@@ -357,11 +358,7 @@ module _ {S : Type 0} (s : Shape) (secret : Bytes) (m : Machine S) (snapshots : 
   }
 
 -- It stops for another cause than an earlier stop.
-pub stops_otherwise : {S A : Type 0} (mid : Learner S) (r : Result A LearnStop) (e : LearnStop) → r ≡ Err e → Compares mid (Err e) → (r ≡ Err stop.Halted → ⊥)
-stops_otherwise mid r (stop.Differs position found certified) failed c is = let both : Err (stop.Differs position found certified) ≡ Err stop.Halted = sym failed ∙ is in absurd cc
-stops_otherwise mid r stop.Halted failed c is = c
-stops_otherwise mid r stop.NoMemory failed c is = c
-
--- Want of memory is another cause, too.
-pub out_of_memory : {A : Type 0} (r : Result A LearnStop) → r ≡ Err stop.NoMemory → (r ≡ Err stop.Halted → ⊥)
-out_of_memory r failed is = let both : Err stop.NoMemory ≡ Err stop.Halted = sym failed ∙ is in absurd cc
+pub stops_otherwise : {S : Type 0} (old mid new : Learner S) (e : LearnStop) → Compares mid (Err e) → old.halted ≡ false → new.halted ≡ true → Halts old (Err e) new
+stops_otherwise old mid new (stop.Differs position found certified) c went ends = (went, ends)
+stops_otherwise old mid new stop.Halted c went ends = absurd c
+stops_otherwise old mid new stop.NoMemory c went ends = (went, ends)

@@ -5,6 +5,7 @@ pub mod Lists
 pub mod Followers
 pub mod Proved
 pub mod Tables
+pub mod Halting
 pub mod Hearing
 pub mod Holding
 pub mod Next

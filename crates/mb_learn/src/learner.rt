@@ -49,7 +49,7 @@ pub struct Learner<V> {
 }
 
 impl<V: Service + Drop> Learner<V> {
-    ghost use Rattle.std.specs.Prelude.{◌≡◌, ◌+◌, ◌≤◌, ◌++◌, ◌∷◌, [], ℕ, List, ◌↔◌, true, OnOk, IfOk, IfSome, IfNone, IsErrOf, length};
+    ghost use Rattle.std.specs.Prelude.{◌≡◌, ◌+◌, ◌≤◌, ◌++◌, ◌∷◌, [], ℕ, List, true, OnOk, IfOk, IfSome, IfNone, length};
     ghost use Rattle.mb_base.specs.Shapes.{Bytes};
     ghost use Rattle.mb_base.specs.declared.shape.Shape.{Shape as TheShape};
     ghost use Rattle.mb_parts.specs.Bares.{Bare};
@@ -58,6 +58,7 @@ impl<V: Service + Drop> Learner<V> {
     ghost use Rattle.mb_parts.specs.declared.batch.Batch.{Batch as TheBatch};
     ghost use Rattle.mb_learn.specs.declared.difference.Difference.{Difference as TheDifference};
     ghost use Rattle.mb_learn.specs.Differences.{IsDifference, IsLowest, IsNowhere};
+    ghost use Rattle.mb_learn.specs.Halting.{Halts};
     ghost use Rattle.mb_learn.specs.Hearing.{AddsNews};
     ghost use Rattle.mb_learn.specs.Proved.{digest_behind, IsProved};
     ghost use Rattle.mb_learn.specs.Learners.{Represents, Answers, Executed, ExecutedAll, Compared};
@@ -85,7 +86,7 @@ impl<V: Service + Drop> Learner<V> {
         ensures answers { (s : TheShape) (secret : Bytes) (initial : V) (taken : List Bytes) (slots : List TheSlot)
             → Represents s secret (machine_of V.after V.answer) (snapshots_of V.part_of V.restored) initial taken slots self.old
             → Answers s secret (machine_of V.after V.answer) (snapshots_of V.part_of V.restored) initial (taken ++ bytes.now ∷ []) slots result self.new }
-        ensures halted { IsErrOf result LearnStop.Halted ↔ (self.old.halted ≡ true) }
+        ensures halts { Halts self.old result self.new }
     {
         if self.halted {
             return Err(LearnStop::Halted);

@@ -3,14 +3,14 @@ use Rattle.mb_cache.specs.Represents.{machine_of, snapshots_of}
 use Rattle.mb_learn.specs.declared.learner.LearnStop.TheVariants as stop
 use Rattle.mb_learn.specs.declared.line.Line.{Line}
 use Rattle.mb_learn.specs.Running.{IsRunning}
-use Rattle.mb_learn.proofs.Finishing.{running_taken, running_kept, call_stops, call_goes, out_of_memory, stops_otherwise}
+use Rattle.mb_learn.proofs.Finishing.{running_taken, running_kept, call_stops, call_goes, stops_otherwise}
 use Rattle.mb_learn.proofs.Tests.{true_false}
 use Rattle.mb_learn.proofs.learner.Learner.learn.Goals as goal
 
 pub returns-then-self : goal.returns-then-self
 returns-then-self g c = record {
   answers = λ s secret initial taken slots rep. true_false (sym c.if-self.true ∙ rep.runs);
-  halted = (λ is. c.if-self.true, λ was. refl);
+  halts = (c.if-self.true, refl);
 }
 
 pub returns-in_err-take : goal.returns-in_err-take
@@ -18,7 +18,7 @@ returns-in_err-take g c =
     let failed : c.from_residual.result ≡ Err stop.NoMemory = search rules in
     record {
       answers = λ s secret initial taken slots rep. rw failed refl;
-      halted = (λ is. absurd (out_of_memory _ failed is), λ was. true_false (sym was ∙ c.if-self.false));
+      halts = rw failed (c.if-self.false, refl);
     }
 
 pub execute_proved-requires : goal.execute_proved-requires
@@ -32,7 +32,7 @@ returns-in_err-execute_proved g c =
     let failed : c.from_residual-in_err-execute_proved.result ≡ Err stop.NoMemory = search rules in
     record {
       answers = λ s secret initial taken slots rep. rw failed c.execute_proved.ensures.halted;
-      halted = (λ is. absurd (out_of_memory _ failed is), λ was. true_false (sym was ∙ c.if-self.false));
+      halts = rw failed (c.if-self.false, c.execute_proved.ensures.halted);
     }
 
 pub returns-in_err-compare : goal.returns-in_err-compare
@@ -46,7 +46,7 @@ returns-in_err-compare g c =
           (call_stops s secret (machine_of g.V.Service.after g.V.Service.answer) (snapshots_of g.V.Service.part_of g.V.Service.restored) initial taken c.args.bytes.now slots c.args.self.now c.execute_proved.new.self rep c.take.new.self hears
           c.in_ok-take.ensures.keeps.news c.in_ok-execute_proved.ensures.news (λ lists e. c.in_ok-execute_proved.ensures.executed s secret initial (taken ++ c.args.bytes.now ∷ []) lists slots e)
           c.in_err-compare.field-0.0 c.compare.new.self done.compares (done.halted ∙ c.execute_proved.ensures.halted));
-      halted = (λ is. absurd (stops_otherwise c.execute_proved.new.self _ c.in_err-compare.field-0.0 failed done.compares is), λ was. true_false (sym was ∙ c.if-self.false));
+      halts = rw failed (stops_otherwise c.args.self.now c.execute_proved.new.self c.compare.new.self c.in_err-compare.field-0.0 done.compares c.if-self.false (done.halted ∙ c.execute_proved.ensures.halted));
     }
 
 pub overflow_sub-result : goal.overflow_sub-result
@@ -71,5 +71,5 @@ returns g c = record {
       call_goes s secret (machine_of g.V.Service.after g.V.Service.answer) (snapshots_of g.V.Service.part_of g.V.Service.restored) initial taken c.args.bytes.now slots c.args.self.now c.execute_proved.new.self rep c.take.new.self hears
       c.in_ok-take.ensures.keeps.news c.in_ok-execute_proved.ensures.news (λ lists e. c.in_ok-execute_proved.ensures.executed s secret initial (taken ++ c.args.bytes.now ∷ []) lists slots e)
       _ _ done.compares refl done.line done.heard done.news (omega (arith, same, c.executed.ensures, c.executed-before.ensures));
-  halted = (λ is. absurd cc, λ was. true_false (sym was ∙ c.if-self.false));
+  halts = (c.if-self.false, refl);
 }
