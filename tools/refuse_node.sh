@@ -11,6 +11,7 @@ for kind in allocation read write; do
 done
 for kind in allocation read write; do
   for number in 1 2 3 4 5 6 8 10 12 15 20 30 50 80; do
+    rm -f node-*.record
     LD_PRELOAD=$here/refuse.so REFUSE=$kind REFUSE_AT=$number REFUSE_WORD=cluster timeout -k 1 30 $program cluster 20 <"$config" >lines 2>errors; status=$?
     echo "cluster, $kind $number: status $status, $(wc -l <lines) result lines, $(wc -c <errors) bytes of errors"
   done

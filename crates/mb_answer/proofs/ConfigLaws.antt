@@ -1,33 +1,36 @@
 -- A text is that of one config, and each of the operations that it has is short.
-use Rattle.std.proofs.Common.{◌≡◌, ℕ, ◌*◌, ◌≤◌, ◌<◌, ◌&&◌, leb, cond, Bool, true, false, List, [], ◌∷◌, map, length, codes, Option, Some, None, Result, Ok, Err, refl, sym, ap, subst, ◌∙◌, arith, ◌⊎◌, inl, inr}
-use Rattle.std.specs.Prelude.{Contains, option_and_then, IsErrOf}
+use Rattle.std.proofs.Common.{◌≡◌, ℕ, ◌*◌, ◌≤◌, leb, cond, Bool, true, false, List, [], ◌∷◌, map, length, codes, Option, Some, None, Result, Ok, Err, refl, sym, ap, subst, ◌∙◌, arith, ◌⊎◌, inl, inr}
+use Rattle.std.specs.Prelude.{Contains, option_and_then, IfSome, IsErrOf}
+use Rattle.std.proofs.lemmas.Option.{IfSome_then}
 use Rattle.std.specs.Result.{result_ok}
 use Rattle.std.proofs.lemmas.Bool.{leb-true, and_parts}
 use Rattle.hex.specs.Hex.{decode_of}
 use Rattle.hex.specs.declared.error.FromHexError.{FromHexError}
 use Rattle.hex.proofs.HexLemmas.{decode_of-ok}
-use Rattle.mb_base.specs.Shapes.{Bytes, host_count}
+use Rattle.mb_base.specs.Shapes.{Bytes}
 use Rattle.mb_base.specs.declared.shape.Shape.{Shape}
 use Rattle.mb_parts.specs.Fits.{FitsText}
 use Rattle.mb_cluster.specs.Runs.{OpsFit, Asks, Opens, wire}
+use Rattle.mb_cluster.specs.Missing.{EndsByStops, AwaitsEach}
+use Rattle.mb_cluster.proofs.EndLemmas.{none_awaited}
 use Rattle.mb_sched.specs.declared.configs.Config.{Config}
 use Rattle.mb_sched.specs.Words.{is, is_hex, is_operation, bytes_of, operation_of}
-use Rattle.mb_sched.specs.Lines.{lines}
 use Rattle.mb_sched.specs.TextLines.{word_behind}
-use Rattle.mb_sched.specs.Configs.{ConfigContents, config_of, config_contents, op_line}
+use Rattle.mb_sched.specs.Configs.{ConfigContents, config_contents, op_line}
 use Rattle.mb_sched.proofs.ConfigSpellings.{config_spelled}
 use Rattle.mb_sched.proofs.ReadSteps.{ok_is, allowed}
 use Rattle.mb_sched.proofs.ReadWords.{some_is}
 use Rattle.mb_cluster.specs.declared.stop.ClusterStop.{ClusterStop}
 use Rattle.mb_cluster.specs.declared.stop.ClusterStop.TheVariants as end
 use Rattle.mb_edge.specs.Faults.{Rose}
+use Rattle.mb_edge.specs.declared.spawner.Start.{Start}
 use Rattle.mb_cluster.specs.Ends.{EndsWell}
-use Rattle.mb_cluster.specs.Nodes.{RunsNodes, EndsAs, spawned}
-use Rattle.mb_answer.specs.Clusters.{run_status, cluster_statuses, HasRisen, RunsCluster, Clusters, TellsBadEnds, IsUnbroken, IsRun}
+use Rattle.mb_cluster.specs.Nodes.{Spawned, RunsNodes, EndsAs, spawned}
+use Rattle.mb_answer.specs.Clusters.{run_status, cluster_statuses, HasRisen, RunsCluster, Clusters, TellsToStop, AwaitsStarted, TellsBadEnds, IsUnbroken, IsRun}
 use Rattle.mb_answer.proofs.Statuses.{low_no_end}
 use Rattle.mb_answer.proofs.Contained.{any_of}
-use Rattle.mb_answer.specs.Configs.{IsConfigText, RefusesConfig, too_long, bad_line, LacksConfig, lack_statuses, FindsConfig, Uses, used, unused}
-use Rattle.mb_answer.specs.Devices.{Device, LinkState, Devices, IsLow, answered, unread, starved}
+use Rattle.mb_answer.specs.Configs.{IsConfigText, too_long, bad_line, LacksConfig, lack_statuses, FindsConfig, used, unused}
+use Rattle.mb_answer.specs.Devices.{Device, Devices, IsLow, answered, unread, starved}
 use Rattle.mb_answer.proofs.SameShapes.{same_shape}
 
 -- ---- one config
@@ -189,6 +192,20 @@ runs_cluster c turns status ended old new sink same is asks opens nodes cause ba
   cause = cause;
   bad_ends = bad;
 }
+
+-- nothing was begun
+pub none_started : (text : Option Bytes) (f : ℕ) (s : Option (List (ℕ × Start))) (w : Option (List (ℕ × ℕ))) → AwaitsStarted text f f (spawned s w) (spawned s w)
+none_started None f s w = tt
+none_started (Some t) f s w = λ c is. none_awaited c f f s w (omega arith)
+
+-- by the config that was found
+pub told_by_text : (text : Option Bytes) (c : Config) (old new : Spawned) (f g : ℕ) (sent sent' : Option (List (ℕ × Bytes))) → IfSome text (λ t. IsConfigText t c) → (new.starts ≡ old.starts) ⊎ EndsByStops c f g sent sent'
+    → TellsToStop text old new f g sent sent'
+told_by_text text c old new f g sent sent' is (inl none) = inl none
+told_by_text text c old new f g sent sent' is (inr ends) = inr (IfSome_then text is (λ t found d reads. subst (λ (x : Config). EndsByStops x f g sent sent') (same_config t c d found reads) ends))
+
+pub awaited_by_text : (text : Option Bytes) (c : Config) (f g : ℕ) (old new : Spawned) → IfSome text (λ t. IsConfigText t c) → AwaitsEach c f g old new → AwaitsStarted text f g old new
+awaited_by_text text c f g old new is awaits = IfSome_then text is (λ t found d reads. subst (λ (x : Config). AwaitsEach x f g old new) (same_config t c d found reads) awaits)
 
 -- What was found in a text that the source told.
 pub found_there : (read text : Bytes) (found : Result Config ℕ) (source source' sink sink' : Device) → read ≡ text → ((s s' : Device) → FindsConfig read found s s' sink sink') → FindsConfig text found source source' sink sink'

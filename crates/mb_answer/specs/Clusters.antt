@@ -1,10 +1,11 @@
 -- What a cluster's client program does with a config: whom it starts, what it asks, hears and writes, and how it ends.
-use Rattle.std.specs.Prelude.{◌≡◌, ℕ, ◌≤◌, ◌⊎◌, List, [], ◌∷◌, Result, Ok, Err}
+use Rattle.std.specs.Prelude.{◌≡◌, ℕ, ◌≤◌, ◌⊎◌, List, [], ◌∷◌, Option, IfSome, Result, Ok, Err}
 use Rattle.mb_base.specs.Shapes.{Bytes}
 use Rattle.mb_cluster.specs.declared.stop.ClusterStop.{ClusterStop}
 use Rattle.mb_cluster.specs.declared.stop.ClusterStop.TheVariants as stop
-use Rattle.mb_cluster.specs.Nodes.{RunsNodes, EndsAs, spawned}
+use Rattle.mb_cluster.specs.Nodes.{Spawned, RunsNodes, EndsAs, spawned}
 use Rattle.mb_cluster.specs.Runs.{Asks, Opens, wire}
+use Rattle.mb_cluster.specs.Missing.{EndsByStops, AwaitsEach}
 use Rattle.mb_edge.specs.Faults.{Rose}
 use Rattle.mb_sched.specs.declared.configs.Config.{Config}
 use Rattle.mb_answer.specs.Configs.{IsConfigText, Uses}
@@ -52,6 +53,14 @@ pub record StayIdle (old new : Devices) : Type 0 where
 -- what a cluster's client program does with a text
 abbrev pub Clusters : Bytes → ℕ → ℕ → Devices → Devices → Type 0
 Clusters text turns status old new = Uses text (λ c. RunsCluster c turns status old new) (StayIdle old new) status old.source new.source old.sink new.sink
+
+-- No node was started, or by the config of the text STOP was sent to every host three times, behind all else, but for as many as the link failed.
+abbrev pub TellsToStop : Option Bytes → Spawned → Spawned → ℕ → ℕ → Option (List (ℕ × Bytes)) → Option (List (ℕ × Bytes)) → Type 0
+TellsToStop text old new faults faults' sent sent' = (new.starts ≡ old.starts) ⊎ IfSome text (λ t. (c : Config) → IsConfigText t c → EndsByStops c faults faults' sent sent')
+
+-- By the config of the text each node that was started was waited for, but for as many as the spawner failed.
+abbrev pub AwaitsStarted : Option Bytes → ℕ → ℕ → Spawned → Spawned → Type 0
+AwaitsStarted text faults faults' old new = IfSome text (λ t. (c : Config) → IsConfigText t c → AwaitsEach c faults faults' old new)
 
 -- A count of bad ends never falls, and rose where a bad end is told. None is told where all are known to end well.
 pub record TellsBadEnds (well : Type 0) (before now : ℕ) (told : Type 0) : Type 0 where

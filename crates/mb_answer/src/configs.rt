@@ -4,11 +4,12 @@ ghost use Rattle.std.specs.Prelude.{◌≡◌, ◌+◌, Contains, OnOk, IfOk, If
 ghost use Rattle.std.specs.Io.KnownBytes.{IsAtEnd};
 ghost use Rattle.mb_edge.specs.Faults.{TellsFaults};
 ghost use Rattle.mb_edge.specs.Pieces.{ConsumesBetween};
+ghost use Rattle.mb_cluster.specs.Nodes.{spawned};
 ghost use Rattle.mb_cluster.specs.Runs.{OpsFit};
 ghost use Rattle.mb_sched.specs.Configs.{max_config};
 ghost use Rattle.mb_answer.specs.Configs.{FindsConfig, IsLack, lack_statuses};
 ghost use Rattle.mb_answer.specs.Devices.{Device, device, link_state, spawner_state, devices};
-ghost use Rattle.mb_answer.specs.Clusters.{Clusters, TellsBadEnds, cluster_statuses};
+ghost use Rattle.mb_answer.specs.Clusters.{Clusters, TellsToStop, AwaitsStarted, TellsBadEnds, cluster_statuses};
 
 use crate::answer::refusal;
 use crate::ends::run_status;
@@ -75,6 +76,12 @@ pub fn cluster<S: Source, K: Sink, L: Link, P: Spawner>(
     ensures link { TellsFaults (L.never_fails link.old) (L.never_fails link.new) (L.faults link.old) (L.faults link.new) (result ≡ 7) }
     ensures spawner { TellsFaults (P.never_fails spawner.old) (P.never_fails spawner.new) (P.faults spawner.old) (P.faults spawner.new) (result ≡ 8) }
     ensures bad_ends { TellsBadEnds (P.all_end_well spawner.old) (P.bad_ends spawner.old) (P.bad_ends spawner.new) (result ≡ 18) }
+    // Whatever the status is: no more STOPs are missing than the link failed, and no more waits than the spawner failed, unless a send or a wait may be refused
+    // memory.
+    ensures stops { L.sends_without_memory
+        → TellsToStop (S.left source.old) (spawned (P.starts spawner.old) (P.waits spawner.old)) (spawned (P.starts spawner.new) (P.waits spawner.new)) (L.faults link.old) (L.faults link.new) (L.sent link.old) (L.sent link.new) }
+    ensures waits { P.waits_without_memory
+        → AwaitsStarted (S.left source.old) (P.faults spawner.old) (P.faults spawner.new) (spawned (P.starts spawner.old) (P.waits spawner.old)) (spawned (P.starts spawner.new) (P.waits spawner.new)) }
 {
     match config_from(alloc, source, sink) {
         Ok(config) => {

@@ -1,5 +1,6 @@
 -- How nodes end, one more at a time.
-use Rattle.std.proofs.Common.{◌≡◌, ◌≢◌, ℕ, suc, ◌+◌, ◌≤◌, List, [], ◌∷◌, ◌++◌, length, Option, Result, Ok, Err, inl, inr, ◌⊎◌, refl, sym, ap, ◌∙◌, arith, eqb, length-append}
+use Rattle.std.proofs.Common.{◌≡◌, ◌≢◌, ℕ, suc, ◌+◌, ◌≤◌, List, [], ◌∷◌, ◌++◌, length, map, Option, Result, Ok, Err, inl, inr, ◌⊎◌, refl, sym, ap, subst, ◌∙◌, arith, eqb, length-append}
+use Rattle.std.proofs.lemmas.List.{map-append}
 use Rattle.std.specs.List.{zip}
 use Rattle.std.proofs.lemmas.Bool.{cases_Bool, eqb-true, eqb-false}
 use Rattle.mb_edge.specs.declared.outside.Failed.{Failed}
@@ -16,8 +17,11 @@ use Rattle.std.proofs.lemmas.List.FromFn.{map-range_with_len_more, length-map-ra
 use Rattle.mb_edge.specs.declared.spawner.Start.{Start}
 use Rattle.mb_sched.specs.declared.configs.Config.{Config}
 use Rattle.mb_sched.specs.Configs.{config_text}
-use Rattle.mb_cluster.specs.Nodes.{first_bad, ended_as, AreAwaited, EndsAs, AreStarted, node_start, node_starts}
+use Rattle.mb_cluster.specs.Nodes.{first_bad, ended_as, AreAwaited, AwaitsSome, EndsAs, AreStarted, spawned, node_start, node_starts}
+use Rattle.mb_cluster.specs.Missing.{AwaitsEach}
 use Rattle.mb_cluster.specs.Ends.{after_failure, after_wait, AwaitsNodes, EndsWell}
+use Rattle.mb_cluster.proofs.SendLemmas.{all_are_some, some_both}
+use Rattle.mb_cluster.proofs.FewLemmas.{awaits_none}
 use Rattle.mb_cluster.proofs.WireLemmas.{more_both, more_none}
 
 pub zip_more : {A B : Type 0} (xs : List A) (ys : List B) (x : A) (y : B) → length ys ≡ length xs → zip (xs ++ x ∷ []) (ys ++ y ∷ []) ≡ zip xs ys ++ (x, y) ∷ []
@@ -61,16 +65,29 @@ are_awaited_more children child status before old mid new a told = record {
       sym (ended_more 0 a.statuses status ∙ ap (λ h. first_failure (ended_as (first_bad 0 a.statuses)) (ended_as (first_bad h (status ∷ [])))) len ∙ ap (λ r. first_failure r (ended_as (first_bad (length children) (status ∷ [])))) (sym a.ended));
 }
 
+-- each told wait is of one of them
+pub some_none : (old : Option (List (ℕ × ℕ))) → AwaitsSome [] old old
+some_none old = record { some = []; told = more_none old; among = tt }
+
+pub some_waited : (children : List ℕ) (child : ℕ) (waited : Result ℕ Failed) (old mid new : Option (List (ℕ × ℕ))) → AwaitsSome children old mid → new ≡ with_more mid (added_by waited (λ status. (child, status))) → AwaitsSome (children ++ child ∷ []) old new
+some_waited children child (Ok status) old mid new before told = record {
+  some = before.some ++ (child, status) ∷ [];
+  told = more_both old mid new before.some ((child, status) ∷ []) before.told told;
+  among = rw (map-append (λ (w : ℕ × ℕ). w.0) before.some ((child, status) ∷ [])) (some_both (map (λ (w : ℕ × ℕ). w.0) before.some) children (child ∷ []) (child ∷ []) before.among (all_are_some (child ∷ [])));
+}
+some_waited children child (Err cause) old mid new before told = record {
+  some = before.some ++ [];
+  told = more_both old mid new before.some [] before.told told;
+  among = rw (map-append (λ (w : ℕ × ℕ). w.0) before.some []) (some_both (map (λ (w : ℕ × ℕ). w.0) before.some) children [] (child ∷ []) before.among tt);
+}
+
 -- all that is known after the waits for some children
 pub record Waited (children : List ℕ) (ended : Result (Unit {0}) ClusterStop) (old new : Option (List (ℕ × ℕ))) (bad_before bad_now : ℕ) : Type 0 where
   pub awaits : AwaitsNodes children ended old new
   pub bad_ends : EndsAs ended bad_before bad_now
 
-rose_later : (a b c : ℕ) → Rose a b → b ≤ c → Rose a c
+pub rose_later : (a b c : ℕ) → Rose a b → b ≤ c → Rose a c
 rose_later a b c rose later = omega (arith, rose, later)
-
-later_rose : (a b c : ℕ) → a ≤ b → Rose b c → Rose a c
-later_rose a b c later rose = omega (arith, rose, later)
 
 -- the wait for the first of these gave a status
 pub waited_ok : (children : List ℕ) (child status : ℕ) (before : Result (Unit {0}) ClusterStop) (old mid new : Option (List (ℕ × ℕ))) (b0 b1 b2 : ℕ) → Waited children before old mid b0 b1
@@ -178,3 +195,15 @@ started_more c host children child old mid new a told =
       starts = rw (map-range_with_len_more (node_start (config_text c)) 0 host host (omega arith), zip_more children starts child (node_start (config_text c) host) len)
           (more_both old mid new (zip children starts) ((child, node_start (config_text c) host) ∷ []) a.starts told);
     }
+
+-- a start that failed behind them adds nothing
+pub started_kept : (c : Config) (host : ℕ) (children : List ℕ) (old mid new : Option (List (ℕ × Start))) → AreStarted c host children old mid → new ≡ with_more mid [] → AreStarted c (length children) children old new
+started_kept c host children old mid new a kept =
+    subst (λ (n : ℕ). AreStarted c n children old new) (sym a.each) (record { each = a.each; starts = kept ∙ sym (more_none mid) ∙ a.starts })
+
+pub started_as : (c : Config) (host : ℕ) (children : List ℕ) (old new : Option (List (ℕ × Start))) → AreStarted c host children old new → AreStarted c (length children) children old new
+started_as c host children old new a = subst (λ (n : ℕ). AreStarted c n children old new) (sym a.each) a
+
+-- none was started, so none is waited for
+pub none_awaited : (c : Config) (f g : ℕ) (s0 : Option (List (ℕ × Start))) (w0 : Option (List (ℕ × ℕ))) → f ≤ g → AwaitsEach c f g (spawned s0 w0) (spawned s0 w0)
+none_awaited c f g s0 w0 later = record { children = []; started = started_none c [] s0 refl; awaited = awaits_none f g w0 later }

@@ -1,9 +1,11 @@
 pub mod FaultLemmas
 pub mod WireLemmas
 pub mod SendLemmas
+pub mod FewLemmas
 pub mod HearingLemmas
 pub mod QuorumLemmas
 pub mod EndLemmas
 pub mod StepLemmas
 pub mod PlayLemmas
 pub mod SizeLemmas
+pub mod StopLemmas

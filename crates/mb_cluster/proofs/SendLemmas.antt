@@ -1,5 +1,5 @@
 -- Sends one after the other.
-use Rattle.std.proofs.Common.{◌≡◌, ℕ, zero, suc, ◌+◌, ◌≤◌, inl, inr, List, [], ◌∷◌, ◌++◌, length, take, drop, replicate, is_none, cond, Option, Some, Result, Ok, Err, refl, sym, ap, subst, ◌∙◌, append_assoc, append-nil, add-one, arith}
+use Rattle.std.proofs.Common.{◌≡◌, ℕ, zero, suc, ◌+◌, ◌-◌, ◌≤◌, inl, inr, List, [], ◌∷◌, ◌++◌, length, take, drop, replicate, is_none, cond, Option, Some, Result, Ok, Err, refl, sym, ap, subst, ◌∙◌, append_assoc, append-nil, add-one, arith}
 use Rattle.std.specs.Prelude.{slice_get, IsErrAnd}
 use Rattle.std.specs.List.{flat_map, range_with_len, AllByRecursion}
 use Rattle.std.proofs.lemmas.List.{map-append, take_more, take-append-drop, replicate-append-replicate}
@@ -7,11 +7,11 @@ use Rattle.std.proofs.lemmas.List.Sums.{sum_by-append}
 use Rattle.std.proofs.lemmas.Grind.{flat_map-append}
 use Rattle.std.proofs.lemmas.Option.{slice_get_within, get_or_from_slice_get}
 use Rattle.mb_base.specs.Shapes.{Bytes}
-use Rattle.mb_edge.specs.Told.{with_more}
+use Rattle.mb_edge.specs.Told.{with_more, added_by}
 use Rattle.mb_edge.proofs.ToldLemmas.{with_more-nil}
 use Rattle.mb_cluster.specs.Hearing.{Receive}
 use Rattle.mb_cluster.specs.Posts.{next_number, to_host, to_all, posts, number_after, request_bytes, quiets, request_each, requests, AreSome}
-use Rattle.mb_cluster.specs.Sends.{first_failure, SendsSome}
+use Rattle.mb_cluster.specs.Sends.{first_failure, SendsSome, SendsFront, SendsInTurn}
 use Rattle.mb_cluster.proofs.WireLemmas.{more_both, more_none}
 
 -- ---- some of them
@@ -42,10 +42,6 @@ not_ok Q (Err e) is ok = absurd cc
 pub sends_none : {E : Type 0} (old : Option (List (ℕ × Bytes))) → SendsSome {E = E} [] (Ok tt) old old
 sends_none old = record { some = []; told = more_none old; among = tt; all = λ _. refl }
 
--- none was made, since something failed before
-pub sends_nothing : {E : Type 0} (datagrams : List (ℕ × Bytes)) (q : Result (Unit {0}) E) (old : Option (List (ℕ × Bytes))) → (q ≡ Ok tt → ⊥) → SendsSome datagrams q old old
-sends_nothing datagrams q old failed = record { some = []; told = more_none old; among = tt; all = λ is. absurd (failed is) }
-
 both_ok : {E : Type 0} (r q : Result (Unit {0}) E) → first_failure r q ≡ Ok tt → (r ≡ Ok tt) × (q ≡ Ok tt)
 both_ok (Ok done) q is = (refl, is)
 both_ok (Err e) q is = absurd cc
@@ -59,18 +55,53 @@ sends_both xs ys r q old mid new first second = record {
   all = λ is. let ok = both_ok r q is in rw (first.all ok.0, second.all ok.1) refl;
 }
 
-pub sends_one : {E : Type 0} (x : ℕ × Bytes) (old new : Option (List (ℕ × Bytes))) → new ≡ with_more old (x ∷ []) → SendsSome {E = E} (x ∷ []) (Ok tt) old new
-sends_one x old new told = record { some = x ∷ []; told = told; among = all_are_some (x ∷ []); all = λ _. refl }
+-- one call
+pub sends_call : {E : Type 0} (x : ℕ × Bytes) (r : Result (Unit {0}) E) (old new : Option (List (ℕ × Bytes))) → new ≡ with_more old (added_by r (λ _. x)) → SendsSome (x ∷ []) r old new
+sends_call x (Ok done) old new told = record { some = x ∷ []; told = told; among = all_are_some (x ∷ []); all = λ _. refl }
+sends_call x (Err e) old new told = record { some = []; told = told; among = tt; all = λ is. absurd cc }
 
--- a call behind the first sends failed
-pub sends_stop : {E F : Type 0} (whole front rest : List (ℕ × Bytes)) (r : Result (Unit {0}) E) (q : Result (Unit {0}) F) (old mid new : Option (List (ℕ × Bytes)))
-    → front ++ rest ≡ whole → SendsSome front r old mid → new ≡ with_more mid [] → (q ≡ Ok tt → ⊥) → SendsSome whole q old new
-sends_stop whole front rest r q old mid new parts first kept failed = record {
-  some = first.some;
-  told = kept ∙ with_more-nil mid ∙ first.told;
-  among = rw (← parts, sym (append-nil first.some)) (some_both first.some front [] rest first.among tt);
+-- ---- sends up to the first that fails
+
+pub fronts_none : {E : Type 0} (old : Option (List (ℕ × Bytes))) → SendsFront {E = E} [] (Ok tt) old old
+fronts_none old = record { front = []; rest = []; parts = refl; told = more_none old; all = λ _. refl }
+
+-- none was made, since something failed before
+pub fronts_nothing : {E : Type 0} (datagrams : List (ℕ × Bytes)) (q : Result (Unit {0}) E) (old : Option (List (ℕ × Bytes))) → (q ≡ Ok tt → ⊥) → SendsFront datagrams q old old
+fronts_nothing datagrams q old failed = record { front = []; rest = datagrams; parts = refl; told = more_none old; all = λ is. absurd (failed is) }
+
+-- all of them
+pub fronts_all : {E : Type 0} (datagrams : List (ℕ × Bytes)) (old new : Option (List (ℕ × Bytes))) → SendsFront {E = E} datagrams (Ok tt) old new → new ≡ with_more old datagrams
+fronts_all datagrams old new sends =
+    let whole : sends.front ≡ datagrams = sym (append-nil sends.front) ∙ ap (λ rest. sends.front ++ rest) (sym (sends.all refl)) ∙ sends.parts in
+    sends.told ∙ ap (with_more old) whole
+
+-- more behind those that were all sent
+pub fronts_both : {E : Type 0} (xs ys : List (ℕ × Bytes)) (q : Result (Unit {0}) E) (old mid new : Option (List (ℕ × Bytes))) → SendsFront {E = E} xs (Ok tt) old mid → SendsFront ys q mid new → SendsFront (xs ++ ys) q old new
+fronts_both {E} xs ys q old mid new first second = record {
+  front = xs ++ second.front;
+  rest = second.rest;
+  parts = append_assoc xs second.front second.rest ∙ ap (λ zs. xs ++ zs) second.parts;
+  told = more_both old mid new xs second.front (fronts_all {E = E} xs old mid first) second.told;
+  all = second.all;
+}
+
+-- and still more that were not begun
+pub fronts_stop : {E : Type 0} (whole begun later : List (ℕ × Bytes)) (r q : Result (Unit {0}) E) (old new : Option (List (ℕ × Bytes)))
+    → begun ++ later ≡ whole → SendsFront begun r old new → (q ≡ Ok tt → ⊥) → SendsFront whole q old new
+fronts_stop whole begun later r q old new parts first failed = record {
+  front = first.front;
+  rest = first.rest ++ later;
+  parts = sym (append_assoc first.front first.rest later) ∙ ap (λ zs. zs ++ later) first.parts ∙ parts;
+  told = first.told;
   all = λ is. absurd (failed is);
 }
+
+-- a call that failed behind them adds nothing
+pub fronts_kept : {E : Type 0} (datagrams : List (ℕ × Bytes)) (old mid new : Option (List (ℕ × Bytes))) → SendsFront {E = E} datagrams (Ok tt) old mid → new ≡ with_more mid [] → SendsFront {E = E} datagrams (Ok tt) old new
+fronts_kept datagrams old mid new sends kept = record { front = sends.front; rest = sends.rest; parts = sends.parts; told = kept ∙ with_more-nil mid ∙ sends.told; all = sends.all }
+
+pub fronts_one : {E : Type 0} (x : ℕ × Bytes) (old new : Option (List (ℕ × Bytes))) → new ≡ with_more old (x ∷ []) → SendsFront {E = E} (x ∷ []) (Ok tt) old new
+fronts_one x old new told = record { front = x ∷ []; rest = []; parts = refl; told = told; all = λ _. refl }
 
 -- ---- the loops
 
@@ -82,7 +113,7 @@ to_host_more pieces host i piece is =
 pub to_host_parts : (pieces : List Bytes) (host i : ℕ) → to_host (take i pieces) host ++ to_host (drop i pieces) host ≡ to_host pieces host
 to_host_parts pieces host i = sym (map-append (λ (p : Bytes). (host, p)) (take i pieces) (drop i pieces)) ∙ ap (λ (ps : List Bytes). to_host ps host) (take-append-drop i pieces)
 
-range_more : (a n : ℕ) → range_with_len a (suc n) ≡ range_with_len a n ++ (a + n) ∷ []
+pub range_more : (a n : ℕ) → range_with_len a (suc n) ≡ range_with_len a n ++ (a + n) ∷ []
 range_more a zero = ap (λ m. m ∷ []) (omega arith)
 range_more a (suc n) =
     let last : a + 1 + n ≡ a + suc n = omega arith in
@@ -95,6 +126,28 @@ hosts_more pieces n =
     (ap (flat_map (to_host pieces)) (range_more 0 n ∙ ap (λ m. range_with_len 0 n ++ m ∷ []) last)
     ∙ flat_map-append (to_host pieces) (range_with_len 0 n) (n ∷ [])
     ∙ ap (λ xs. flat_map (to_host pieces) (range_with_len 0 n) ++ xs) (append-nil (to_host pieces n)))
+
+-- a host, those before it and those behind it
+range_parts : (a n m : ℕ) → range_with_len a n ++ (a + n) ∷ range_with_len (a + n + 1) m ≡ range_with_len a (n + 1 + m)
+range_parts a zero m =
+    let here : a + 0 ≡ a = omega arith in
+    let size : 0 + 1 + m ≡ suc m = omega arith in
+    rw (here, size) refl
+range_parts a (suc n) m =
+    let place : a + suc n ≡ a + 1 + n = omega arith in
+    let size : suc n + 1 + m ≡ suc (n + 1 + m) = omega arith in
+    rw (place, size) (ap (λ xs. a ∷ xs) (range_parts (a + 1) n m))
+
+pub hosts_parts : (pieces : List Bytes) (host hosts : ℕ) → host + 1 ≤ hosts
+    → (flat_map (to_host pieces) (range_with_len 0 host) ++ to_host pieces host) ++ flat_map (to_host pieces) (range_with_len (host + 1) (hosts - (host + 1))) ≡ flat_map (to_host pieces) (range_with_len 0 hosts)
+hosts_parts pieces host hosts lt =
+    let more = hosts - (host + 1) in
+    let size : host + 1 + more ≡ hosts = omega (arith, lt) in
+    let here : 0 + host ≡ host = omega arith in
+    let range = subst (λ k. range_with_len 0 host ++ k ∷ range_with_len (k + 1) more ≡ range_with_len 0 (host + 1 + more)) here (range_parts 0 host more) in
+    append_assoc (flat_map (to_host pieces) (range_with_len 0 host)) (to_host pieces host) (flat_map (to_host pieces) (range_with_len (host + 1) more))
+    ∙ sym (flat_map-append (to_host pieces) (range_with_len 0 host) (host ∷ range_with_len (host + 1) more))
+    ∙ ap (flat_map (to_host pieces)) (range ∙ ap (range_with_len 0) size)
 
 -- ---- messages in a row
 
@@ -109,6 +162,69 @@ number_after-append number (m ∷ ms) ns = number_after-append (next_number numb
 -- one more message
 pub posts_next : (hosts number : ℕ) (ms : List Bytes) (m : Bytes) → posts hosts number (ms ++ m ∷ []) ≡ posts hosts number ms ++ to_all hosts (number_after number ms) m
 posts_next hosts number ms m = posts-append hosts number ms (m ∷ []) ∙ ap (λ xs. posts hosts number ms ++ xs) (append-nil (to_all hosts (number_after number ms) m))
+
+-- ---- messages, each in turn
+
+-- none was begun
+pub turns_none : (messages : List Bytes) (hosts number : ℕ) (old new : Option (List (ℕ × Bytes))) → new ≡ old → SendsInTurn messages hosts number number old new
+turns_none messages hosts number old new kept = record { begun = []; later = messages; whole = refl; front = []; rest = []; parts = refl; told = kept ∙ more_none old; counted = refl }
+
+-- all were sent
+pub turns_all : (messages : List Bytes) (hosts number behind : ℕ) (old new : Option (List (ℕ × Bytes))) → new ≡ with_more old (posts hosts number messages) → behind ≡ number_after number messages → SendsInTurn messages hosts number behind old new
+turns_all messages hosts number behind old new sent counted = record {
+  begun = messages;
+  later = [];
+  whole = append-nil messages;
+  front = posts hosts number messages;
+  rest = [];
+  parts = append-nil (posts hosts number messages);
+  told = sent;
+  counted = counted;
+}
+
+-- one was begun
+pub turns_one : {E : Type 0} (message : Bytes) (hosts number behind : ℕ) (r : Result (Unit {0}) E) (old new : Option (List (ℕ × Bytes))) → SendsFront (to_all hosts number message) r old new → behind ≡ next_number number
+    → SendsInTurn (message ∷ []) hosts number behind old new
+turns_one message hosts number behind r old new sends counted = record {
+  begun = message ∷ [];
+  later = [];
+  whole = refl;
+  front = sends.front;
+  rest = sends.rest;
+  parts = sends.parts ∙ sym (append-nil (to_all hosts number message));
+  told = sends.told;
+  counted = counted;
+}
+
+-- behind messages that were all sent
+pub turns_behind : (ms ns : List Bytes) (hosts number between behind : ℕ) (old mid new : Option (List (ℕ × Bytes))) → mid ≡ with_more old (posts hosts number ms) → between ≡ number_after number ms
+    → SendsInTurn ns hosts between behind mid new → SendsInTurn (ms ++ ns) hosts number behind old new
+turns_behind ms ns hosts number between behind old mid new sent counted turns = record {
+  begun = ms ++ turns.begun;
+  later = turns.later;
+  whole = append_assoc ms turns.begun turns.later ∙ ap (λ l. ms ++ l) turns.whole;
+  front = posts hosts number ms ++ turns.front;
+  rest = turns.rest;
+  parts =
+      append_assoc (posts hosts number ms) turns.front turns.rest
+      ∙ ap (λ l. posts hosts number ms ++ l) (turns.parts ∙ ap (λ n. posts hosts n turns.begun) counted)
+      ∙ sym (posts-append hosts number ms turns.begun);
+  told = more_both old mid new (posts hosts number ms) turns.front sent turns.told;
+  counted = turns.counted ∙ ap (λ n. number_after n turns.begun) counted ∙ sym (number_after-append number ms turns.begun);
+}
+
+-- before others that were not begun
+pub turns_before : (ms ns all : List Bytes) (hosts number behind : ℕ) (old new : Option (List (ℕ × Bytes))) → ms ++ ns ≡ all → SendsInTurn ms hosts number behind old new → SendsInTurn all hosts number behind old new
+turns_before ms ns all hosts number behind old new parts turns = record {
+  begun = turns.begun;
+  later = turns.later ++ ns;
+  whole = sym (append_assoc turns.begun turns.later ns) ∙ ap (λ l. l ++ ns) turns.whole ∙ parts;
+  front = turns.front;
+  rest = turns.rest;
+  parts = turns.parts;
+  told = turns.told;
+  counted = turns.counted;
+}
 
 -- more operations
 pub requests-append : (secret : Bytes) (seq : ℕ) (ops more : List Bytes) (receives later : List (List Receive)) → length receives ≡ length ops
@@ -132,6 +248,22 @@ requests_front secret seq [] (m ∷ more) [] few = refl
 requests_front secret seq [] more (r ∷ rs) few = absurd (omega arith)
 requests_front secret seq (o ∷ ops) more [] few = refl
 requests_front secret seq (o ∷ ops) more (r ∷ rs) few = ap (λ ms. request_each (request_bytes secret seq o) r ++ ms) (requests_front secret (seq + 1) ops more rs (omega arith))
+
+-- those for more operations begin with them
+pub requests_more : (secret : Bytes) (seq : ℕ) (ops more : List Bytes) (receives : List (List Receive)) → (later : List Bytes) × (requests secret seq ops receives ++ later ≡ requests secret seq (ops ++ more) receives)
+requests_more secret seq [] more receives = (requests secret seq more receives, refl)
+requests_more secret seq (o ∷ ops) more [] = ([], refl)
+requests_more secret seq (o ∷ ops) more (r ∷ rs) =
+    let rest = requests_more secret (seq + 1) ops more rs in
+    let first = request_each (request_bytes secret seq o) r in
+    (rest.0, append_assoc first (requests secret (seq + 1) ops rs) rest.0 ∙ ap (λ ms. first ++ ms) rest.1)
+
+-- where all operations were asked, there are none for one more
+pub requests_asked : (secret : Bytes) (seq : ℕ) (ops : List Bytes) (receives : List (List Receive)) (got : List Receive) → length receives ≡ length ops → requests secret seq ops (receives ++ got ∷ []) ≡ requests secret seq ops receives
+requests_asked secret seq [] [] got len = refl
+requests_asked secret seq [] (r ∷ rs) got len = absurd cc
+requests_asked secret seq (o ∷ ops) [] got len = absurd cc
+requests_asked secret seq (o ∷ ops) (r ∷ rs) got len = ap (λ ms. request_each (request_bytes secret seq o) r ++ ms) (requests_asked secret (seq + 1) ops rs got (omega arith))
 
 -- a request again at each quiet
 pub quiets_more : (request : Bytes) (got more : List Receive) → replicate (quiets (got ++ more)) request ≡ replicate (quiets got) request ++ replicate (quiets more) request

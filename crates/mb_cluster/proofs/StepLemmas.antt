@@ -1,5 +1,5 @@
 -- Steps of the program, one after the other.
-use Rattle.std.proofs.Common.{◌≡◌, ℕ, ◌+◌, ◌≤◌, true, List, [], ◌∷◌, ◌++◌, length, map, take, replicate, Option, Some, None, Result, Ok, Err, refl, sym, ap, subst, ◌∙◌, append_assoc, append-nil, arith, length-append}
+use Rattle.std.proofs.Common.{◌≡◌, ℕ, ◌+◌, ◌≤◌, true, List, [], ◌∷◌, ◌++◌, length, map, take, Option, Some, None, Result, Ok, Err, refl, sym, ap, subst, ◌∙◌, append_assoc, append-nil, arith, length-append}
 use Rattle.std.specs.Io.KnownBytes.{Appends}
 use Rattle.std.proofs.lemmas.List.{map-append, length-map}
 use Rattle.std.proofs.lemmas.Grind.{flat_map-append}
@@ -15,17 +15,18 @@ use Rattle.mb_cluster.specs.declared.stop.ClusterStop.{ClusterStop}
 use Rattle.mb_cluster.specs.declared.stop.ClusterStop.TheVariants as stop
 use Rattle.mb_cluster.specs.declared.asking.Program.{Program}
 use Rattle.mb_cluster.specs.Hearing.{Receive, Hearing, asked, hears, hears_all}
-use Rattle.mb_cluster.specs.Posts.{to_all, next_number, posts, number_after, request_bytes, quiets, request_each, requests}
+use Rattle.mb_cluster.specs.Posts.{to_all, next_number, posts, number_after, request_bytes, repeats, request_each, requests}
+use Rattle.mb_cluster.specs.Sends.{SendsFront, SendsInTurn}
 use Rattle.mb_cluster.specs.Exchanges.{Exchange, result_line, result_text, AreAnswered, hearing_after}
 use Rattle.mb_cluster.specs.Runs.{Wire, AppendsFront, all_receives}
 use Rattle.mb_cluster.specs.Listens.{Listens, HeardAs}
-use Rattle.mb_cluster.specs.Steps.{Receives, Does, HearsOne, Completes, WaitsOn, Awaits, IsExchanged, IsSpent, Exchanges, AsksThese, SpendsOn, Breaks, CutsOff, AsksOps}
+use Rattle.mb_cluster.specs.Steps.{Receives, Does, HearsOne, Completes, WaitsOn, Awaits, IsExchanged, IsSpent, Exchanges, AsksThese, SpendsOn, messages_for, Breaks, CutsOff, AsksOps}
 use Rattle.mb_cluster.specs.Stops.{link_stop}
 use Rattle.mb_cluster.specs.Writes.{WritesLine}
 use Rattle.mb_edge.specs.declared.outside.Failed.{Failed}
 use Rattle.mb_edge.specs.declared.outside.Failed.TheVariants as failed
 use Rattle.mb_cluster.proofs.WireLemmas.{more_both, more_none}
-use Rattle.mb_cluster.proofs.SendLemmas.{posts-append, number_after-append, requests-append, requests_front, quiets_more}
+use Rattle.mb_cluster.proofs.SendLemmas.{posts-append, number_after-append, turns_none, turns_one, turns_all, turns_behind, turns_before, requests-append, requests_front, requests_more, quiets_more}
 use Rattle.mb_cluster.proofs.HearingLemmas.{hears_more, hears-append, after-append, answered-append, after_number, hears_number}
 use Rattle.mb_cluster.proofs.QuorumLemmas.{quorum_heard}
 
@@ -87,31 +88,72 @@ module _ (s : Shape) (secret : Bytes) where
     heard_as = (refl, refl);
   }
 
-  pub fails_now : (cause : Failed) (c : Hearing) (old new : Wire) → new.received ≡ old.received → Receives s secret 1 cause c old new
-  fails_now cause c old new received = record { got = []; received = received ∙ more_none old.received; few = omega arith; waits = λ is. refl }
+  -- nothing was received and nothing sent
+  pub fails_first : (limit : ℕ) (messages : List Receive → List Bytes) (cause : Failed) (c : Hearing) (before after : Program) (old new : Wire) → new.received ≡ old.received → new.sent ≡ old.sent → after.post.number ≡ before.post.number
+      → Receives s secret limit messages cause c before after old new
+  fails_first limit messages cause c before after old new received sent number = record {
+    got = [];
+    received = received ∙ more_none old.received;
+    sends = rw number (turns_none (messages []) before.post.hosts before.post.number old.sent new.sent sent);
+    few = omega arith;
+    waits = λ is. refl;
+  }
 
-  pub fails_quiet : (cause : Failed) (c : Hearing) (old new : Wire) → new.received ≡ with_more old.received (None ∷ []) → Receives s secret 1 cause c old new
-  fails_quiet cause c old new received = record { got = None ∷ []; received = received; few = omega arith; waits = λ is. refl }
+  pub fails_quiet : (request : Bytes) (cause : Failed) (c : Hearing) (before after : Program) (old new : Wire) → new.received ≡ with_more old.received (None ∷ [])
+      → SendsFront {E = Failed} (to_all before.post.hosts before.post.number request) (Err cause) old.sent new.sent → after.post.number ≡ next_number before.post.number → Receives s secret 1 (repeats request) cause c before after old new
+  fails_quiet request cause c before after old new received sent number = record {
+    got = None ∷ [];
+    received = received;
+    sends = turns_one {E = Failed} request before.post.hosts before.post.number after.post.number (Err cause) old.sent new.sent sent number;
+    few = omega arith;
+    waits = λ is. refl;
+  }
 
-  pub fails_datagram : (d : Bytes) (c : Hearing) (old new : Wire) → new.received ≡ with_more old.received (Some d ∷ []) → Receives s secret 1 failed.NoMemory c old new
-  fails_datagram d c old new received = record { got = Some d ∷ []; received = received; few = omega arith; waits = λ is. absurd cc }
+  pub fails_datagram : (request d : Bytes) (c : Hearing) (before after : Program) (old new : Wire) → new.received ≡ with_more old.received (Some d ∷ []) → new.sent ≡ old.sent → after.post.number ≡ before.post.number
+      → Receives s secret 1 (repeats request) failed.NoMemory c before after old new
+  fails_datagram request d c before after old new received sent number = record {
+    got = Some d ∷ [];
+    received = received;
+    sends = rw number (turns_none [] before.post.hosts before.post.number old.sent new.sent sent);
+    few = omega arith;
+    waits = λ is. absurd cc;
+  }
 
-  -- nothing was received yet
-  pub fails_first : (limit : ℕ) (cause : Failed) (c : Hearing) (old new : Wire) → new.received ≡ old.received → Receives s secret limit cause c old new
-  fails_first limit cause c old new received = record { got = []; received = received ∙ more_none old.received; few = omega arith; waits = λ is. refl }
+  -- the request was not sent whole
+  pub fails_asking : (limit : ℕ) (request : Bytes) (cause : Failed) (c : Hearing) (before after : Program) (old new : Wire) → new.received ≡ old.received → SendsFront {E = Failed} (to_all before.post.hosts before.post.number request) (Err cause) old.sent new.sent
+      → after.post.number ≡ next_number before.post.number → Receives s secret limit (request_each request) cause c before after old new
+  fails_asking limit request cause c before after old new received sent number = record {
+    got = [];
+    received = received ∙ more_none old.received;
+    sends = turns_one {E = Failed} request before.post.hosts before.post.number after.post.number (Err cause) old.sent new.sent sent number;
+    few = omega arith;
+    waits = λ is. refl;
+  }
 
-  -- the same over what was there before the request was sent
-  pub fails_behind : (limit : ℕ) (cause : Failed) (c : Hearing) (old middle new : Wire) → middle.received ≡ old.received → Receives s secret limit cause c middle new → Receives s secret limit cause c old new
-  fails_behind limit cause c old middle new kept got = record { got = got.got; received = rw kept at got.received; few = got.few; waits = got.waits }
+  -- it was, and a call failed behind that
+  pub fails_behind : (limit : ℕ) (request : Bytes) (cause : Failed) (c : Hearing) (before asking after : Program) (old middle new : Wire) → asking.post.hosts ≡ before.post.hosts → asking.post.number ≡ next_number before.post.number
+      → middle.received ≡ old.received → middle.sent ≡ with_more old.sent (to_all before.post.hosts before.post.number request) → Receives s secret limit (repeats request) cause c asking after middle new
+      → Receives s secret limit (request_each request) cause c before after old new
+  fails_behind limit request cause c before asking after old middle new hosts number kept told fails = record {
+    got = fails.got;
+    received = rw kept at fails.received;
+    sends =
+        let again = repeats request fails.got in
+        let first : middle.sent ≡ with_more old.sent (posts before.post.hosts before.post.number (request ∷ [])) = told ∙ ap (with_more old.sent) (sym (append-nil (to_all before.post.hosts before.post.number request))) in
+        turns_behind (request ∷ []) again before.post.hosts before.post.number asking.post.number after.post.number old.sent middle.sent new.sent first number
+        (subst (λ (h : ℕ). SendsInTurn again h asking.post.number after.post.number middle.sent new.sent) hosts fails.sends);
+    few = fails.few;
+    waits = fails.waits;
+  }
 
   -- ---- the receives for a request
 
   module _ (request : Bytes) (c : Hearing) (before mid after : Program) (old middle new : Wire) (hosts : mid.post.hosts ≡ before.post.hosts) where
     heard_too : (n : ℕ) (w : WaitsOn s secret n request c before mid old middle) (h : Option Reply) (one : HearsOne s secret request h (hears_all s secret c w.got) mid after middle new)
-        → Does s secret (w.got ++ one.got ∷ []) (replicate (quiets (w.got ++ one.got ∷ [])) request) (hears_all s secret c (w.got ++ one.got ∷ [])) before after old new
+        → Does s secret (w.got ++ one.got ∷ []) (repeats request (w.got ++ one.got ∷ [])) (hears_all s secret c (w.got ++ one.got ∷ [])) before after old new
     heard_too n w h one =
         rw (quiets_more request w.got (one.got ∷ []), hears_more s secret c w.got one.got)
-        (does_both w.got (one.got ∷ []) (replicate (quiets w.got) request) (replicate (quiets (one.got ∷ [])) request) (hears_all s secret c w.got) (hears s secret (hears_all s secret c w.got) one.got) before mid after old middle new w.does one.does hosts)
+        (does_both w.got (one.got ∷ []) (repeats request w.got) (repeats request (one.got ∷ [])) (hears_all s secret c w.got) (hears s secret (hears_all s secret c w.got) one.got) before mid after old middle new w.does one.does hosts)
 
     one_more : (xs : List Receive) (x : Receive) (n : ℕ) → length xs ≡ n → length (xs ++ x ∷ []) ≡ n + 1
     one_more xs x n len = omega (arith, length-append xs (x ∷ []))
@@ -147,11 +189,15 @@ module _ (s : Shape) (secret : Bytes) where
   }
 
   -- a call failed at the next receive
-  pub stops_more : (n limit : ℕ) (request : Bytes) (cause : Failed) (c : Hearing) (before mid : Program) (old middle new : Wire) → n + 1 ≤ limit → (w : WaitsOn s secret n request c before mid old middle) → c.asker.waits ≡ true
-      → Receives s secret 1 cause (hears_all s secret c w.got) middle new → Receives s secret limit cause c old new
-  stops_more n limit request cause c before mid old middle new few w waits one = record {
+  pub stops_more : (n limit : ℕ) (request : Bytes) (cause : Failed) (c : Hearing) (before mid after : Program) (old middle new : Wire) → mid.post.hosts ≡ before.post.hosts → n + 1 ≤ limit → (w : WaitsOn s secret n request c before mid old middle)
+      → c.asker.waits ≡ true → Receives s secret 1 (repeats request) cause (hears_all s secret c w.got) mid after middle new → Receives s secret limit (repeats request) cause c before after old new
+  stops_more n limit request cause c before mid after old middle new hosts few w waits one = record {
     got = w.got ++ one.got;
     received = more_both old.received middle.received new.received w.got one.got w.does.received one.received;
+    sends =
+        rw (quiets_more request w.got one.got)
+        (turns_behind (repeats request w.got) (repeats request one.got) before.post.hosts before.post.number mid.post.number after.post.number old.sent middle.sent new.sent w.does.sent w.does.number
+        (subst (λ (h : ℕ). SendsInTurn (repeats request one.got) h mid.post.number after.post.number middle.sent new.sent) hosts one.sends));
     few = omega (arith, length-append w.got one.got, w.made, one.few);
     waits = λ is. rw (hears-append s secret c w.got one.got) (one.waits is ∙ w.waits ∙ sym waits);
   }
@@ -162,15 +208,15 @@ module _ (s : Shape) (secret : Bytes) where
   module _ (op : Bytes) (c : Hearing) (before sent after : Program) (old middle new : Wire) (turns : sent.turns ≡ before.turns)
       (hosts : sent.post.hosts ≡ before.post.hosts) (number : sent.post.number ≡ next_number before.post.number) (received : middle.received ≡ old.received)
       (told : middle.sent ≡ with_more old.sent (to_all before.post.hosts before.post.number (request_bytes secret (c.asker.number + 1) op))) where
-    first_does : (got : List Receive) (side : Hearing) → Does s secret got (replicate (quiets got) (request_bytes secret (c.asker.number + 1) op)) side sent after middle new → Does s secret got (request_each (request_bytes secret (c.asker.number + 1) op) got) side before after old new
+    first_does : (got : List Receive) (side : Hearing) → Does s secret got (repeats (request_bytes secret (c.asker.number + 1) op) got) side sent after middle new → Does s secret got (request_each (request_bytes secret (c.asker.number + 1) op) got) side before after old new
     first_does got side does = record {
       received = subst (λ r. new.received ≡ with_more r got) received does.received;
       sent =
-          let again = replicate (quiets got) (request_bytes secret (c.asker.number + 1) op) in
+          let again = repeats (request_bytes secret (c.asker.number + 1) op) got in
           let next : new.sent ≡ with_more middle.sent (posts before.post.hosts (next_number before.post.number) again) =
           subst (λ n. new.sent ≡ with_more middle.sent (posts before.post.hosts n again)) number (subst (λ h. new.sent ≡ with_more middle.sent (posts h sent.post.number again)) hosts does.sent) in
           more_both old.sent middle.sent new.sent (to_all before.post.hosts before.post.number (request_bytes secret (c.asker.number + 1) op)) (posts before.post.hosts (next_number before.post.number) again) told next;
-      number = does.number ∙ ap (λ n. number_after n (replicate (quiets got) (request_bytes secret (c.asker.number + 1) op))) number;
+      number = does.number ∙ ap (λ n. number_after n (repeats (request_bytes secret (c.asker.number + 1) op) got)) number;
       listens = does.listens;
     }
 
@@ -203,7 +249,9 @@ module _ (s : Shape) (secret : Bytes) where
     pub op_awaited : (r : Result (Option Reply) Failed) → Awaits s secret (request_bytes secret (c.asker.number + 1) op) r (asked c) sent after middle new → Exchanges s secret op r c before after old new
     op_awaited (Ok (Some r)) a = op_answered r a
     op_awaited (Ok None) a = op_spent a
-    op_awaited (Err cause) a = fails_behind before.turns cause (asked c) old middle new received (rw turns at a)
+    op_awaited (Err cause) a =
+        let request = request_bytes secret (c.asker.number + 1) op in
+        fails_behind before.turns request cause (asked c) before sent after old middle new hosts number received told (subst (λ (n : ℕ). Receives s secret n (repeats request) cause (asked c) sent after middle new) turns a)
 
   -- ---- one operation
 
@@ -234,41 +282,46 @@ module _ (s : Shape) (secret : Bytes) where
 
   -- the line was not written whole
   pub cuts_line : (op : Bytes) (r : Reply) (c : Hearing) (before after : Program) (old new : Wire) (written written' : Option Bytes) → IsExchanged s secret op r c before after old new → AppendsFront (result_line r) written written'
-      → CutsOff s secret c before.turns old new written written'
+      → CutsOff s secret (op ∷ []) c before after old new written written'
   cuts_line op r c before after old new written written' done line = record {
     exchanges = done.x ∷ [];
     got = [];
     answered = (done.answered, (done.few, tt));
     few = omega arith;
     received = rw (append-nil (done.x.receives ++ []), append-nil done.x.receives) done.does.received;
+    sends =
+        let each = request_each (request_bytes secret (c.asker.number + 1) op) done.x.receives in
+        rw (append-nil each) (turns_all each before.post.hosts before.post.number after.post.number old.sent new.sent done.does.sent done.does.number);
     lines = rw (append-nil (result_line done.x.reply), done.reply) line;
   }
 
-  cuts_receives : (c : Hearing) (turns : ℕ) (cause : Failed) (old new : Wire) (written : Option Bytes) → Receives s secret turns cause (asked c) old new → CutsOff s secret c turns old new written written
-  cuts_receives c turns cause old new written got = record {
-    exchanges = [];
-    got = got.got;
-    answered = tt;
-    few = got.few;
-    received = got.received;
-    lines = front_none [] written;
-  }
+  -- what was sent for an operation of which the receives were broken off
+  sends_broken : (op : Bytes) (got : List Receive) (c : Hearing) (before after : Program) (old new : Wire) → SendsInTurn (request_each (request_bytes secret (c.asker.number + 1) op) got) before.post.hosts before.post.number after.post.number old.sent new.sent
+      → SendsInTurn (messages_for s secret (op ∷ []) c [] got) before.post.hosts before.post.number after.post.number old.sent new.sent
+  sends_broken op got c before after old new sends = rw (append-nil (request_each (request_bytes secret (c.asker.number + 1) op) got)) sends
 
-  breaks_receives : (c : Hearing) (turns : ℕ) (old new : Wire) (written : Option Bytes) → Receives s secret turns failed.Device (asked c) old new → Breaks s secret c turns old new written written
-  breaks_receives c turns old new written got = record {
+  -- a call of the link failed
+  pub link_stops : (op : Bytes) (cause : Failed) (c : Hearing) (before after : Program) (old new : Wire) (written : Option Bytes) → Receives s secret before.turns (request_each (request_bytes secret (c.asker.number + 1) op)) cause (asked c) before after old new
+      → AsksOps s secret (op ∷ []) (Err (link_stop cause)) c before after old new written written
+  link_stops op failed.Device c before after old new written got = record {
     exchanges = [];
     got = got.got;
     answered = tt;
     few = got.few;
     waits = got.waits refl;
     received = got.received;
+    sends = sends_broken op got.got c before after old new got.sends;
     lines = appends_none written;
   }
-
-  -- a call of the link failed
-  pub link_stops : (ops : List Bytes) (cause : Failed) (c : Hearing) (before after : Program) (old new : Wire) (written : Option Bytes) → Receives s secret before.turns cause (asked c) old new → AsksOps s secret ops (Err (link_stop cause)) c before after old new written written
-  link_stops ops failed.Device c before after old new written got = breaks_receives c before.turns old new written got
-  link_stops ops failed.NoMemory c before after old new written got = cuts_receives c before.turns failed.NoMemory old new written got
+  link_stops op failed.NoMemory c before after old new written got = record {
+    exchanges = [];
+    got = got.got;
+    answered = tt;
+    few = got.few;
+    received = got.received;
+    sends = sends_broken op got.got c before after old new got.sends;
+    lines = front_none [] written;
+  }
 
   -- what comes of writing the line
   pub line_written : (op : Bytes) (q : Result (Unit {0}) ClusterStop) (r : Reply) (c : Hearing) (before after : Program) (old new : Wire) (written written' : Option Bytes) → IsExchanged s secret op r c before after old new → WritesLine q (result_line r) written written'
@@ -350,8 +403,27 @@ module _ (s : Shape) (secret : Bytes) where
           lines = rw (flat_map-append (λ (x : Exchange). result_line x.reply) xs ys) (appended_both w0 w1 w2 (result_text xs) (result_text ys) first.lines second.lines);
         }
 
-    cuts_behind : CutsOff s secret (hearing_after s secret c first.exchanges) mid.turns middle new w1 w2 → CutsOff s secret c before.turns old new w0 w2
-    cuts_behind second =
+    -- what was sent for these operations and the next ones, which were broken off
+    sends_behind : (more rest : List Bytes) (ys : List Exchange) (got : List Receive)
+        → SendsInTurn (messages_for s secret more (hearing_after s secret c first.exchanges) ys got) mid.post.hosts mid.post.number after.post.number middle.sent new.sent
+        → SendsInTurn (messages_for s secret ((ops ++ more) ++ rest) c (first.exchanges ++ ys) got) before.post.hosts before.post.number after.post.number old.sent new.sent
+    sends_behind more rest ys got second =
+        let xs = first.exchanges in
+        let lists = map (λ (x : Exchange). x.receives) xs in
+        let later = map (λ (x : Exchange). x.receives) ys ++ got ∷ [] in
+        let earlier = requests secret (c.asker.number + 1) ops lists in
+        let next = messages_for s secret more (hearing_after s secret c xs) ys got in
+        let parts : map (λ (x : Exchange). x.receives) (xs ++ ys) ++ got ∷ [] ≡ lists ++ later =
+        ap (λ l. l ++ got ∷ []) (map-append (λ (x : Exchange). x.receives) xs ys) ∙ append_assoc lists (map (λ (x : Exchange). x.receives) ys) (got ∷ []) in
+        let begun = turns_behind earlier next before.post.hosts before.post.number mid.post.number after.post.number old.sent middle.sent new.sent first.does.sent first.does.number
+        (subst (λ (h : ℕ). SendsInTurn next h mid.post.number after.post.number middle.sent new.sent) hosts second) in
+        let all = requests_more secret (c.asker.number + 1) (ops ++ more) rest (lists ++ later) in
+        rw parts
+        (turns_before (earlier ++ next) all.0 (requests secret (c.asker.number + 1) ((ops ++ more) ++ rest) (lists ++ later)) before.post.hosts before.post.number after.post.number old.sent new.sent
+        (ap (λ ms. ms ++ all.0) (sym (behind more later)) ∙ all.1) begun)
+
+    cuts_behind : (more rest : List Bytes) → CutsOff s secret more (hearing_after s secret c first.exchanges) mid after middle new w1 w2 → CutsOff s secret ((ops ++ more) ++ rest) c before after old new w0 w2
+    cuts_behind more rest second =
         let xs = first.exchanges in
         let ys = second.exchanges in
         record {
@@ -361,11 +433,12 @@ module _ (s : Shape) (secret : Bytes) where
           few = rw turns at second.few;
           received = rw (flat_map-append (λ (x : Exchange). x.receives) xs ys, append_assoc (all_receives xs) (all_receives ys) second.got)
               (more_both old.received middle.received new.received (all_receives xs) (all_receives ys ++ second.got) first.does.received second.received);
+          sends = sends_behind more rest ys second.got second.sends;
           lines = rw (flat_map-append (λ (x : Exchange). result_line x.reply) xs ys) (front_more (result_text xs) (result_text ys) w0 w1 w2 first.lines second.lines);
         }
 
-    breaks_behind : Breaks s secret (hearing_after s secret c first.exchanges) mid.turns middle new w1 w2 → Breaks s secret c before.turns old new w0 w2
-    breaks_behind second =
+    breaks_behind : (more rest : List Bytes) → Breaks s secret more (hearing_after s secret c first.exchanges) mid after middle new w1 w2 → Breaks s secret ((ops ++ more) ++ rest) c before after old new w0 w2
+    breaks_behind more rest second =
         let xs = first.exchanges in
         let ys = second.exchanges in
         record {
@@ -376,14 +449,15 @@ module _ (s : Shape) (secret : Bytes) where
           waits = rw (after-append s secret c xs ys) second.waits;
           received = rw (flat_map-append (λ (x : Exchange). x.receives) xs ys, append_assoc (all_receives xs) (all_receives ys) second.got)
               (more_both old.received middle.received new.received (all_receives xs) (all_receives ys ++ second.got) first.does.received second.received);
+          sends = sends_behind more rest ys second.got second.sends;
           lines = rw (flat_map-append (λ (x : Exchange). result_line x.reply) xs ys) (appended_both w0 w1 w2 (result_text xs) (result_text ys) first.lines second.lines);
         }
 
     -- one operation behind the first ones stopped
     pub stops_behind : (more rest : List Bytes) (e : ClusterStop) → AsksOps s secret more (Err e) (hearing_after s secret c first.exchanges) mid after middle new w1 w2 → AsksOps s secret ((ops ++ more) ++ rest) (Err e) c before after old new w0 w2
-    stops_behind more rest stop.LinkFault second = breaks_behind second
-    stops_behind more rest stop.SinkFault second = cuts_behind second
-    stops_behind more rest stop.NoMemory second = cuts_behind second
+    stops_behind more rest stop.LinkFault second = breaks_behind more rest second
+    stops_behind more rest stop.SinkFault second = cuts_behind more rest second
+    stops_behind more rest stop.NoMemory second = cuts_behind more rest second
     stops_behind more rest stop.SpawnFault second = absurd second
     stops_behind more rest (stop.ChildEnded h st) second = absurd second
     stops_behind more rest (stop.Budget seq matching) second = spends_behind more rest seq matching second

@@ -3,9 +3,11 @@ pub mod Hearing
 pub mod Posts
 pub mod Exchanges
 pub mod Sends
+pub mod Stopping
 pub mod Nodes
 pub mod Ends
 pub mod Runs
+pub mod Missing
 pub mod Joins
 pub mod Listens
 pub mod Steps

@@ -9,6 +9,7 @@ use Rattle.mb_edge.specs.Faults.{Rose}
 use Rattle.mb_edge.specs.Told.{with_more}
 use Rattle.mb_sched.specs.declared.configs.Config.{Config}
 use Rattle.mb_sched.specs.Configs.{config_text}
+use Rattle.mb_cluster.specs.Posts.{AreSome}
 use Rattle.mb_cluster.specs.declared.stop.ClusterStop.{ClusterStop}
 use Rattle.mb_cluster.specs.declared.stop.ClusterStop.TheVariants.{ChildEnded, Budget, LinkFault, SpawnFault, SinkFault, NoMemory}
 
@@ -66,26 +67,41 @@ pub record RunNodes (c : Config) (result : Result (Unit {0}) ClusterStop) (old n
   pub started : AreStarted c (host_count c.shape) children old.starts new.starts
   pub awaited : AreAwaited children result old.waits new.waits
 
--- the nodes that were started where the budget was spent
-pub record StartNodes (c : Config) (old new : Option (List (ℕ × Start))) : Type 0 where
-  pub children : List ℕ
-  pub started : AreStarted c (host_count c.shape) children old new
+-- Each of these waits was for one of the children, in their order.
+pub record AwaitsSome (children : List ℕ) (old new : Option (List (ℕ × ℕ))) : Type 0 where
+  pub some : List (ℕ × ℕ)
+  pub told : new ≡ with_more old some
+  pub among : AreSome (map (λ wait. wait.0) some) children
 
--- the nodes that stand started where a run came to its end or its budget
+-- The nodes of the first hosts were started, in order, and those that were waited for are among them.
+pub record RunFirst (c : Config) (old new : Spawned) : Type 0 where
+  pub children : List ℕ
+  pub few : length children ≤ host_count c.shape
+  pub started : AreStarted c (length children) children old.starts new.starts
+  pub awaited : AwaitsSome children old.waits new.waits
+
+-- the nodes of all hosts were
+pub record RunEach (c : Config) (old new : Spawned) : Type 0 where
+  pub children : List ℕ
+  pub started : AreStarted c (host_count c.shape) children old.starts new.starts
+  pub awaited : AwaitsSome children old.waits new.waits
+
+-- the nodes that stand started where a run ends or stops: all where something was asked
 abbrev pub StartsNodes : Config → Result (Unit {0}) ClusterStop → List ℕ → Option (List (ℕ × Start)) → Option (List (ℕ × Start)) → Type 0
 StartsNodes c (Ok done) children old new = AreStarted c (host_count c.shape) children old new
 StartsNodes c (Err (Budget seq matching)) children old new = AreStarted c (host_count c.shape) children old new
-StartsNodes c (Err e) children old new = Unit {0}
+StartsNodes c (Err SinkFault) children old new = AreStarted c (host_count c.shape) children old new
+StartsNodes c (Err e) children old new = AreStarted c (length children) children old new
 
--- What is done to the nodes. Where a device failed or memory ran out nothing more is said.
+-- What is done to the nodes: the first ones are started, in order, and then each wait is for one of them, in order. At the end all were started and waited for.
 abbrev pub RunsNodes : Config → Result (Unit {0}) ClusterStop → Spawned → Spawned → Type 0
 RunsNodes c (Ok done) old new = RunNodes c (Ok done) old new
 RunsNodes c (Err (ChildEnded host status)) old new = RunNodes c (Err (ChildEnded host status)) old new
-RunsNodes c (Err (Budget seq matching)) old new = StartNodes c old.starts new.starts
-RunsNodes c (Err LinkFault) old new = Unit {0}
-RunsNodes c (Err SpawnFault) old new = Unit {0}
-RunsNodes c (Err SinkFault) old new = Unit {0}
-RunsNodes c (Err NoMemory) old new = Unit {0}
+RunsNodes c (Err (Budget seq matching)) old new = RunEach c old new
+RunsNodes c (Err SinkFault) old new = RunEach c old new
+RunsNodes c (Err LinkFault) old new = RunFirst c old new
+RunsNodes c (Err SpawnFault) old new = RunFirst c old new
+RunsNodes c (Err NoMemory) old new = RunFirst c old new
 
 -- A count of bad ends never falls. It stays where all is well, and rose where a bad end is told.
 abbrev pub EndsAs : Result (Unit {0}) ClusterStop → ℕ → ℕ → Type 0

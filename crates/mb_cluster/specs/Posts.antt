@@ -6,6 +6,7 @@ use Rattle.mb_usig.specs.Tags.{stop_tag}
 use Rattle.mb_msg.specs.declared.message.Message.TheVariants.{Request, Stop}
 use Rattle.mb_msg.specs.Spelling.{spelling}
 use Rattle.mb_frag.specs.Cutting.{pieces_of}
+use Rattle.mb_frag.specs.Pieces.{datagram_of}
 use Rattle.mb_client.specs.Represents.{request_of}
 use Rattle.mb_cluster.specs.Hearing.{Receive}
 
@@ -44,9 +45,13 @@ request_bytes secret seq op = spelling (Request (request_of secret 0 seq op))
 abbrev pub quiets : List Receive → ℕ
 quiets = count_by is_none
 
--- a request, and again at each quiet among the receives for it
+-- a request again at each quiet among the receives for it
+abbrev pub repeats : Bytes → List Receive → List Bytes
+repeats request got = replicate (quiets got) request
+
+-- and before them the first time
 abbrev pub request_each : Bytes → List Receive → List Bytes
-request_each request got = request ∷ replicate (quiets got) request
+request_each request got = request ∷ repeats request got
 
 -- the requests of operations in a row, of each of which the receives are given
 abbrev pub requests : Bytes → ℕ → List Bytes → List (List Receive) → List Bytes
@@ -56,6 +61,10 @@ requests secret seq (op ∷ ops) (got ∷ receives) = request_each (request_byte
 
 abbrev pub stop_bytes : Bytes → Bytes
 stop_bytes secret = spelling (Stop (record { tag = stop_tag secret }))
+
+-- its one datagram, under a number
+abbrev pub stop_datagram : Bytes → ℕ → Bytes
+stop_datagram secret number = datagram_of (record { sender = program; number = number; index = 0; count = 1 }) (stop_bytes secret)
 
 -- STOP, three times
 abbrev pub stops : Bytes → List Bytes

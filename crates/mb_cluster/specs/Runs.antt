@@ -1,5 +1,5 @@
 -- A run: what is asked, heard and sent, and what is written of it.
-use Rattle.std.specs.Prelude.{◌≡◌, ℕ, ◌+◌, ◌≤◌, true, List, [], ◌∷◌, ◌++◌, length, map, take, Option, Result, Ok, Err}
+use Rattle.std.specs.Prelude.{◌≡◌, ℕ, ◌+◌, ◌≤◌, ◌⊎◌, true, List, [], ◌∷◌, ◌++◌, length, map, take, Option, Result, Ok, Err}
 use Rattle.std.specs.List.{flat_map, AllByRecursion}
 use Rattle.std.specs.Io.KnownBytes.{Appends}
 use Rattle.mb_base.specs.Shapes.{Bytes, host_count}
@@ -11,6 +11,7 @@ use Rattle.mb_cluster.specs.declared.stop.ClusterStop.{ClusterStop}
 use Rattle.mb_cluster.specs.declared.stop.ClusterStop.TheVariants.{ChildEnded, Budget, LinkFault, SpawnFault, SinkFault, NoMemory}
 use Rattle.mb_cluster.specs.Hearing.{Receive, no_hearing, asked, hears_all}
 use Rattle.mb_cluster.specs.Posts.{program, posts, number_after, requests, stops, AreSome}
+use Rattle.mb_cluster.specs.Sends.{SendsInTurn}
 use Rattle.mb_cluster.specs.Exchanges.{Exchange, result_text, AreAnswered, hearing_after}
 
 -- each operation has at most 1,024 bytes
@@ -51,6 +52,15 @@ module _ (c : Config) (turns : ℕ) where
     pub sent : new.sent ≡ with_more old.sent (posts (host_count c.shape) 0 (requests_for (map (λ x. x.receives) exchanges) ++ stops c.secret))
     pub lines : Appends written written' (result_text exchanges)
 
+  -- A first part of these messages was sent, each in turn, and then the STOPs in their rounds, of which some may be missing.
+  pub record SendsThenStops (messages : List Bytes) (old new : Option (List (ℕ × Bytes))) : Type 0 where
+    pub stop_number : ℕ
+    pub unstopped : Option (List (ℕ × Bytes))
+    pub in_turn : SendsInTurn messages (host_count c.shape) 0 stop_number old unstopped
+    pub stopped : List (ℕ × Bytes)
+    pub some : AreSome stopped (posts (host_count c.shape) stop_number (stops c.secret))
+    pub sent : new ≡ with_more unstopped stopped
+
   -- Some operations were answered, and their results are written. The next one was not, in all its receives. So many of the counted replies to
   -- it agree. What is sent are the requests, and STOP three times, as far as the sends did not fail.
   pub record SpendsBudget (seq matching : ℕ) (old new : Wire) (written written' : Option Bytes) : Type 0 where
@@ -69,7 +79,8 @@ module _ (c : Config) (turns : ℕ) where
     pub sent : (let sent = requests_for (map (λ x. x.receives) exchanges ++ receives ∷ []) in new.sent ≡ with_more old.sent (posts (host_count c.shape) 0 sent ++ stopped))
     pub lines : Appends written written' (result_text exchanges)
 
-  -- Some operations were answered, and their results are written. The next one, if it was asked, was not answered yet.
+  -- Some operations were answered, and their results are written. The next one, if it was asked, was not answered yet. What is sent is a first part of
+  -- the requests, each in turn, and then STOPs.
   pub record IsBroken (old new : Wire) (written written' : Option Bytes) : Type 0 where
     pub exchanges : List Exchange
     pub receives : List Receive
@@ -77,33 +88,49 @@ module _ (c : Config) (turns : ℕ) where
     pub few : length receives ≤ turns
     pub waits : (hears_all c.shape c.secret (asked (hearing_after c.shape c.secret (no_hearing c.shape) exchanges)) receives).asker.waits ≡ true
     pub received : new.received ≡ with_more old.received (all_receives exchanges ++ receives)
+    pub sends : SendsThenStops (requests_for (map (λ x. x.receives) exchanges ++ receives ∷ [])) old.sent new.sent
     pub lines : Appends written written' (result_text exchanges)
 
-  -- Some operations were answered, and of their results a first part is written. There may be receives for one more.
+  -- Some operations were answered, and of their results a first part is written. There may be receives for one more. What is sent is a first part of the
+  -- requests, each in turn, and then STOPs.
   pub record IsCutOff (old new : Wire) (written written' : Option Bytes) : Type 0 where
     pub exchanges : List Exchange
     pub receives : List Receive
     pub answered : Answered exchanges
     pub few : length receives ≤ turns
     pub received : new.received ≡ with_more old.received (all_receives exchanges ++ receives)
+    pub sends : SendsThenStops (requests_for (map (λ x. x.receives) exchanges ++ receives ∷ [])) old.sent new.sent
     pub lines : AppendsFront (result_text exchanges) written written'
 
-  -- what comes of a run: `written` and `written'` are what the sink tells before and after it
+  -- Nothing was asked, and nothing is written. What is sent are STOPs.
+  pub record AsksNone (old new : Wire) (written written' : Option Bytes) : Type 0 where
+    pub received : new.received ≡ old.received
+    pub stopped : List (ℕ × Bytes)
+    pub some : AreSome stopped (posts (host_count c.shape) 0 (stops c.secret))
+    pub sent : new.sent ≡ with_more old.sent stopped
+    pub kept : written' ≡ written
+
+  -- What comes of a run: `written` and `written'` are what the sink tells before and after it. Where the spawner failed a start did, before anything was asked,
+  -- or a wait, behind all.
   abbrev pub Asks : Result (Unit {0}) ClusterStop → Wire → Wire → Option Bytes → Option Bytes → Type 0
   Asks (Ok done) old new written written' = AsksAll old new written written'
   Asks (Err (ChildEnded host status)) old new written written' = AsksAll old new written written'
   Asks (Err (Budget seq matching)) old new written written' = SpendsBudget seq matching old new written written'
   Asks (Err LinkFault) old new written written' = IsBroken old new written written'
-  Asks (Err SpawnFault) old new written written' = IsBroken old new written written'
+  Asks (Err SpawnFault) old new written written' = AsksNone old new written written' ⊎ AsksAll old new written written'
   Asks (Err SinkFault) old new written written' = IsCutOff old new written written'
   Asks (Err NoMemory) old new written written' = IsCutOff old new written written'
 
--- The link was opened once, at the config's port, as the client program. Where a device failed or memory ran out nothing more is said.
+-- the link was opened once, at the config's port, as the client program
+abbrev pub OpensOnce : Config → Option (List (ℕ × ℕ)) → Option (List (ℕ × ℕ)) → Type 0
+OpensOnce c old new = new ≡ with_more old ((c.port, program) ∷ [])
+
+-- It was, or not at all where it failed or memory ran out.
 abbrev pub Opens : Config → Result (Unit {0}) ClusterStop → Option (List (ℕ × ℕ)) → Option (List (ℕ × ℕ)) → Type 0
-Opens c (Ok done) old new = new ≡ with_more old ((c.port, program) ∷ [])
-Opens c (Err (ChildEnded host status)) old new = new ≡ with_more old ((c.port, program) ∷ [])
-Opens c (Err (Budget seq matching)) old new = new ≡ with_more old ((c.port, program) ∷ [])
-Opens c (Err LinkFault) old new = Unit {0}
-Opens c (Err SpawnFault) old new = Unit {0}
-Opens c (Err SinkFault) old new = Unit {0}
-Opens c (Err NoMemory) old new = Unit {0}
+Opens c (Ok done) old new = OpensOnce c old new
+Opens c (Err (ChildEnded host status)) old new = OpensOnce c old new
+Opens c (Err (Budget seq matching)) old new = OpensOnce c old new
+Opens c (Err SpawnFault) old new = OpensOnce c old new
+Opens c (Err SinkFault) old new = OpensOnce c old new
+Opens c (Err LinkFault) old new = (new ≡ old) ⊎ OpensOnce c old new
+Opens c (Err NoMemory) old new = (new ≡ old) ⊎ OpensOnce c old new

@@ -1,27 +1,21 @@
 //! Asking for operations, one after the other.
 
-ghost use Rattle.std.specs.Prelude.{◌≡◌, ◌≤◌, length, IfOk, IsErrOf};
-ghost use Rattle.mb_base.specs.declared.limits.TheConstants.{MESSAGE_LIMIT};
-ghost use Rattle.mb_cluster.specs.Posts.{stop_bytes};
+ghost use Rattle.std.specs.Prelude.{IsErrOf};
 ghost use Rattle.mb_cluster.specs.Exchanges.{result_line};
 ghost use Rattle.mb_edge.specs.Faults.{TellsFaults};
 ghost use Rattle.mb_cluster.specs.Writes.{WritesLine};
 
 use crate::lines::result_line;
 use crate::listener::Listener;
-use crate::posting::{Post, encode_own, first_failure};
+use crate::posting::Post;
 use crate::stop::{ClusterStop, link_stop};
 use mb_base::{Items, Key, NoMemory, Shape};
 use mb_edge::{Failed, Got, Link, Sink, write_all};
-use mb_msg::{Message, Reply, Stop};
-use mb_usig::Pen;
+use mb_msg::Reply;
 use std::alloc::Global;
 
 /// The most bytes of a datagram that are looked at: one more than the longest piece has, so that a longer datagram is none.
 pub(crate) const RECEIVE_LEN: usize = mb_frag::HEADER_LEN + mb_frag::PIECE + 1;
-
-/// How often STOP is sent.
-const STOP_ROUNDS: u8 = 3;
 
 /// The client program as it asks.
 #[derive(Drop)]
@@ -30,7 +24,7 @@ pub(crate) struct Program {
     /// The most receives for an operation.
     turns: u64,
     listener: Listener,
-    post: Post,
+    pub(crate) post: Post,
     /// What datagrams are received into.
     buffer: Vec<u8>,
 }
@@ -43,8 +37,6 @@ impl Program {
     ghost use Rattle.mb_parts.specs.Fits.{FitsText};
     ghost use Rattle.mb_edge.specs.Faults.{TellsFaults};
     ghost use Rattle.mb_cluster.specs.Hearing.{Hearing, no_hearing};
-    ghost use Rattle.mb_cluster.specs.Posts.{posts, stops};
-    ghost use Rattle.mb_cluster.specs.Sends.{SendsSome};
     ghost use Rattle.mb_cluster.specs.Runs.{OpsFit, wire};
     ghost use Rattle.mb_cluster.specs.Listens.{Listens};
     ghost use Rattle.mb_cluster.specs.Steps.{ReceivesOne, Awaits, Exchanges, AsksOps};
@@ -191,37 +183,6 @@ impl Program {
             Got::Failed(cause) => Err(cause),
         }
     }
-
-    /// Sends STOP to every host, three times. Where a send fails, the others are made all the same.
-    pub(crate) fn send_stops<L: Link>(
-        &mut self,
-        shape: &Shape,
-        secret: &Key,
-        link: &mut L,
-    ) -> Result<(), Failed>
-        ensures sent { SendsSome (posts self.old.post.hosts self.old.post.number (stops secret.now)) result (L.sent link.old) (L.sent link.new) }
-        ensures received { L.received link.new ≡ L.received link.old }
-        ensures opens { L.opens link.new ≡ L.opens link.old }
-        ensures faults { TellsFaults (L.never_fails link.old) (L.never_fails link.new) (L.faults link.old) (L.faults link.new) (IsErrOf result Failed.Device) }
-    {
-        let stop = stop_message(self.alloc, shape, secret)?;
-        let mut sent = Ok(());
-        for _ in 0..STOP_ROUNDS {
-            sent = first_failure(sent, self.post.send(self.alloc, &stop, link));
-        }
-        sent
-    }
-}
-
-/// The bytes of a STOP.
-fn stop_message(alloc: Global, shape: &Shape, secret: &Key) -> Result<Vec<u8>, NoMemory>
-    ensures bytes { IfOk result (λ v. v.items ≡ stop_bytes secret.now) }
-    ensures some { IfOk result (λ v. 1 ≤ length v.items) }
-    ensures short { IfOk result (λ v. length v.items ≤ MESSAGE_LIMIT) }
-{
-    let tag = Pen::new(secret, 0).tag_stop();
-    let bytes = encode_own(alloc, shape, Message::Stop(Stop { tag }))?;
-    Ok(bytes)
 }
 
 /// Writes the line of a result.

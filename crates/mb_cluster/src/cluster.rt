@@ -1,6 +1,6 @@
 //! A whole run.
 
-ghost use Rattle.std.specs.Prelude.{◌≡◌, ◌^◌, ◌<◌, [], length, OnOk, IsErrOf};
+ghost use Rattle.std.specs.Prelude.{◌≡◌, ◌≤◌, ◌⊎◌, [], length, vec_capacity, IsErrOf};
 ghost use Rattle.mb_base.specs.Shapes.{host_count};
 ghost use Rattle.mb_edge.specs.Faults.{TellsFaults};
 ghost use Rattle.mb_cluster.specs.Hearing.{no_hearing};
@@ -8,20 +8,22 @@ ghost use Rattle.mb_cluster.specs.Listens.{Listens};
 ghost use Rattle.mb_cluster.specs.Nodes.{AreStarted, StartsNodes, RunsNodes, EndsAs, spawned};
 ghost use Rattle.mb_cluster.specs.Ends.{EndsWell};
 ghost use Rattle.mb_cluster.specs.Runs.{OpsFit, Asks, Opens, wire};
+ghost use Rattle.mb_cluster.specs.Missing.{EndsByStops, AwaitsEach};
 ghost use Rattle.mb_cluster.specs.Plays.{Plays};
 
 use crate::asking::Program;
 use crate::nodes::{await_nodes, start_nodes};
 use crate::posting::PROGRAM;
 use crate::stop::{ClusterStop, link_stop};
+use crate::stopping::StopDatagram;
 use mb_edge::{Child, Link, Sink, Spawner};
 use mb_sched::Config;
 use std::alloc::Global;
 
 /// Runs a cluster. It opens the link at the config's port as peer 255, and starts the node of each host. Then it asks the config's operations as
 /// client 0, one after the other: the request goes to every host, and again at each quiet. A result that f+1 hosts agree on is written as a line
-/// `result SEQ POS HEX`. At the end, and where it stops, it sends STOP three times to every host, and waits for each node that it started. The
-/// answer is that of the first stop.
+/// `result SEQ POS HEX`. At the end, and where it stops, it sends STOP three times to every host, and waits for each node that it started, also behind a
+/// send or a wait that fails. What that takes of memory is taken before the link is opened. The answer is that of the first stop.
 ///
 /// `Budget` comes exactly where `turns` receives for an operation brought no result. `ChildEnded` comes exactly where nothing else stopped the
 /// run and a node ended with a status other than 0, and names the lowest host of such. The faults come only where the device failed, and
@@ -42,12 +44,18 @@ pub fn run_cluster<K: Sink, L: Link, P: Spawner>(
     ensures nodes { RunsNodes config.now result (spawned (P.starts spawner.old) (P.waits spawner.old)) (spawned (P.starts spawner.new) (P.waits spawner.new)) }
     ensures bad_ends { EndsAs result (P.bad_ends spawner.old) (P.bad_ends spawner.new) }
     ensures well { P.all_end_well spawner.old → EndsWell result }
+    // Whatever the answer is: where any node was started no more STOPs are missing than the link failed, and no more waits for the nodes that were started
+    // than the spawner failed, unless a send or a wait may be refused memory.
+    ensures stops { L.sends_without_memory → (P.starts spawner.new ≡ P.starts spawner.old) ⊎ EndsByStops config.now (L.faults link.old) (L.faults link.new) (L.sent link.old) (L.sent link.new) }
+    ensures waits { P.waits_without_memory
+        → AwaitsEach config.now (P.faults spawner.old) (P.faults spawner.new) (spawned (P.starts spawner.old) (P.waits spawner.old)) (spawned (P.starts spawner.new) (P.waits spawner.new)) }
     // Each device's faults.
     ensures link_faults { TellsFaults (L.never_fails link.old) (L.never_fails link.new) (L.faults link.old) (L.faults link.new) (IsErrOf result ClusterStop.LinkFault) }
     ensures spawner_faults { TellsFaults (P.never_fails spawner.old) (P.never_fails spawner.new) (P.faults spawner.old) (P.faults spawner.new) (IsErrOf result ClusterStop.SpawnFault) }
     ensures sink_faults { TellsFaults (K.never_fails sink.old) (K.never_fails sink.new) (K.faults sink.old) (K.faults sink.new) (IsErrOf result ClusterStop.SinkFault) }
 {
     let mut program = Program::make(alloc, config.shape, &config.secret, turns)?;
+    let mut stop = StopDatagram::make(alloc, &config.shape, &config.secret)?;
     let mut children = Vec::with_capacity(alloc, usize::from(config.shape.n()))?;
     let played = play(
         alloc,
@@ -58,7 +66,7 @@ pub fn run_cluster<K: Sink, L: Link, P: Spawner>(
         spawner,
         sink,
     );
-    let stopped = program.send_stops(&config.shape, &config.secret, link);
+    let stopped = stop.send(&mut program.post, link);
     let awaited = await_nodes(&children, spawner);
     played?;
     match stopped {
@@ -81,11 +89,13 @@ fn play<K: Sink, L: Link, P: Spawner>(
     requires listens { Listens config.now.shape config.now.secret program.old.listener (no_hearing config.now.shape) }
     requires none { program.old.listener.asker.number ≡ 0 }
     requires childless { children.old.items ≡ [] }
+    requires room { host_count config.now.shape ≤ vec_capacity children.old }
     ensures plays { Plays config.now result program.old program.new (wire (L.received link.old) (L.sent link.old)) (wire (L.received link.new) (L.sent link.new)) (K.written sink.old) (K.written sink.new) }
     ensures hosts { program.new.post.hosts ≡ program.old.post.hosts }
     ensures opens { Opens config.now result (L.opens link.old) (L.opens link.new) }
     ensures starts { StartsNodes config.now result children.new.items (P.starts spawner.old) (P.starts spawner.new) }
-    ensures few { length children.new.items < 2 ^ 8 }
+    ensures few { length children.new.items ≤ host_count config.now.shape }
+    ensures first { AreStarted config.now (length children.new.items) children.new.items (P.starts spawner.old) (P.starts spawner.new) }
     ensures waits { P.waits spawner.new ≡ P.waits spawner.old }
     ensures bad_ends { P.bad_ends spawner.new ≡ P.bad_ends spawner.old }
     ensures well { P.all_end_well spawner.old → P.all_end_well spawner.new }

@@ -4,6 +4,7 @@
 //! - `posting` sends a message to every host, each under a number of its own.
 //! - `listener` puts the hosts' pieces together, and counts the replies among their messages.
 //! - `asking` asks for operations, and writes their results.
+//! - `stopping` tells the hosts to stop.
 //! - `nodes` starts the nodes and waits for their ends.
 //! - `cluster` has all of a run.
 #![tactic(auto)]
@@ -15,6 +16,7 @@ mod listener;
 mod nodes;
 mod posting;
 mod stop;
+mod stopping;
 
 pub use cluster::run_cluster;
 pub use stop::ClusterStop;

@@ -1,10 +1,11 @@
 //! The nodes, each a child program.
 
-ghost use Rattle.std.specs.Prelude.{◌≡◌, ◌≤◌, ◌^◌, ◌<◌, [], length, map, string_bytes, IfOk, OnOk, IsErrOf};
+ghost use Rattle.std.specs.Prelude.{◌≡◌, ◌≤◌, ◌^◌, ◌<◌, [], length, map, string_bytes, vec_capacity, IfOk, OnOk, IsErrOf};
 ghost use Rattle.mb_base.specs.Shapes.{host_count};
 ghost use Rattle.mb_edge.specs.Told.{with_more, added_by};
 ghost use Rattle.mb_edge.specs.Faults.{TellsFaults};
-ghost use Rattle.mb_cluster.specs.Nodes.{node_words, node_start, AreStarted, EndsAs};
+ghost use Rattle.mb_cluster.specs.Nodes.{node_words, node_start, AreStarted, AwaitsSome, EndsAs};
+ghost use Rattle.mb_cluster.specs.Missing.{AwaitsBut};
 ghost use Rattle.mb_cluster.specs.Ends.{IsSpawnStop, AwaitsNodes, EndsWell, after_wait};
 
 use crate::stop::{ClusterStop, spawn_stop};
@@ -13,16 +14,19 @@ use mb_edge::{Child, Failed, Spawner};
 use mb_sched::{Config, print_config};
 use std::alloc::Global;
 
-/// Starts the node of each host, in order. The children come behind those that are there.
+/// Starts the node of each host, in order, up to the first start that fails. The children stand in a list that has room for all of them, so that each that
+/// was started stands there.
 pub(crate) fn start_nodes<P: Spawner>(
     alloc: Global,
     config: &Config,
     children: &mut Vec<Child>,
     spawner: &mut P,
 ) -> Result<(), ClusterStop>
-    requires { children.old.items ≡ [] }
-    ensures few { length children.new.items < 2 ^ 8 }
-    ensures started { OnOk result (AreStarted config.now (host_count config.now.shape) children.new.items (P.starts spawner.old) (P.starts spawner.new)) }
+    requires none { children.old.items ≡ [] }
+    requires room { host_count config.now.shape ≤ vec_capacity children.old }
+    ensures few { length children.new.items ≤ host_count config.now.shape }
+    ensures started { AreStarted config.now (length children.new.items) children.new.items (P.starts spawner.old) (P.starts spawner.new) }
+    ensures all { OnOk result (length children.new.items ≡ host_count config.now.shape) }
     ensures kind { IsSpawnStop result }
     ensures waits { P.waits spawner.new ≡ P.waits spawner.old }
     ensures bad_ends { P.bad_ends spawner.new ≡ P.bad_ends spawner.old }
@@ -31,7 +35,7 @@ pub(crate) fn start_nodes<P: Spawner>(
 {
     let text = print_config(alloc, config)?;
     for host in 0..config.shape.n() {
-        children.push(start_node(alloc, host, &text, spawner)?)?;
+        children.push_reserved(start_node(alloc, host, &text, spawner)?);
     }
     Ok(())
 }
@@ -69,14 +73,16 @@ fn node_words(alloc: Global, host: Host) -> Result<Vec<String>, NoMemory>
     Ok(words)
 }
 
-/// Waits for each child, in the order of their hosts. Where all waits succeed, the answer is the lowest host whose node ended with another
-/// status than 0.
+/// Waits for each child, in the order of their hosts, also behind a wait that fails. Where all waits succeed, the answer is the lowest host whose node ended
+/// with another status than 0.
 pub(crate) fn await_nodes<P: Spawner>(
     children: &[Child],
     spawner: &mut P,
 ) -> Result<(), ClusterStop>
     requires { length children.now < 2 ^ 8 }
     ensures awaited { AwaitsNodes children.now result (P.waits spawner.old) (P.waits spawner.new) }
+    ensures some { AwaitsSome children.now (P.waits spawner.old) (P.waits spawner.new) }
+    ensures few { P.waits_without_memory → AwaitsBut children.now (P.faults spawner.old) (P.faults spawner.new) (P.waits spawner.old) (P.waits spawner.new) }
     ensures starts { P.starts spawner.new ≡ P.starts spawner.old }
     ensures bad_ends { EndsAs result (P.bad_ends spawner.old) (P.bad_ends spawner.new) }
     ensures well { P.all_end_well spawner.old → EndsWell result }

@@ -6,8 +6,8 @@ ghost use Rattle.mb_msg.specs.Fits.{Fits};
 ghost use Rattle.mb_msg.specs.Spelling.{spelling};
 ghost use Rattle.mb_edge.specs.Told.{with_more};
 ghost use Rattle.mb_edge.specs.Faults.{TellsFaults};
-ghost use Rattle.mb_cluster.specs.Posts.{next_number, to_host, to_all, AreSome};
-ghost use Rattle.mb_cluster.specs.Sends.{SendsSome, first_failure};
+ghost use Rattle.mb_cluster.specs.Posts.{next_number, to_host, to_all};
+ghost use Rattle.mb_cluster.specs.Sends.{SendsFront, first_failure};
 
 use mb_base::{Host, Items, NoMemory, Shape};
 use mb_edge::{Failed, Link};
@@ -26,8 +26,7 @@ pub(crate) struct Post {
 }
 
 impl Post {
-    /// Sends a message to every host, each of its pieces, under the next number. Where a send fails, the rest of the message to that host is
-    /// left out, and the other hosts get theirs. The answer is that of the first send that failed.
+    /// Sends a message to every host, each of its pieces, under the next number, up to the first send that fails.
     pub(crate) fn send<L: Link>(
         &mut self,
         alloc: Global,
@@ -36,21 +35,30 @@ impl Post {
     ) -> Result<(), Failed>
         requires some { 1 ≤ length message.now }
         requires fits { length message.now ≤ MESSAGE_LIMIT }
-        ensures sent { SendsSome (to_all self.old.hosts self.old.number message.now) result (L.sent link.old) (L.sent link.new) }
+        ensures sent { SendsFront (to_all self.old.hosts self.old.number message.now) result (L.sent link.old) (L.sent link.new) }
         ensures number { self.new.number ≡ next_number self.old.number }
         ensures hosts { self.new.hosts ≡ self.old.hosts }
         ensures received { L.received link.new ≡ L.received link.old }
         ensures opens { L.opens link.new ≡ L.opens link.old }
         ensures faults { TellsFaults (L.never_fails link.old) (L.never_fails link.new) (L.faults link.old) (L.faults link.new) (IsErrOf result Failed.Device) }
     {
+        let number = self.take_number();
+        let pieces = cut(alloc, PROGRAM, number, message)?;
+        for host in 0..self.hosts {
+            send_to(host, &pieces, link)?;
+        }
+        Ok(())
+    }
+
+    /// The number of the next message, which is taken by it.
+    pub(crate) fn take_number(&mut self) -> u32
+        ensures number { result ≡ self.old.number }
+        ensures next { self.new.number ≡ next_number self.old.number }
+        ensures hosts { self.new.hosts ≡ self.old.hosts }
+    {
         let number = self.number;
         self.number = number.wrapping_add(1);
-        let pieces = cut(alloc, PROGRAM, number, message)?;
-        let mut sent = Ok(());
-        for host in 0..self.hosts {
-            sent = first_failure(sent, send_to(host, &pieces, link));
-        }
-        sent
+        number
     }
 }
 
@@ -84,7 +92,7 @@ pub(crate) fn first_failure(
 
 /// Sends datagrams to a host, up to the first that fails.
 fn send_to<L: Link>(host: Host, pieces: &[Items<u8>], link: &mut L) -> Result<(), Failed>
-    ensures sent { SendsSome (to_host pieces.now host) result (L.sent link.old) (L.sent link.new) }
+    ensures sent { SendsFront (to_host pieces.now host) result (L.sent link.old) (L.sent link.new) }
     ensures received { L.received link.new ≡ L.received link.old }
     ensures opens { L.opens link.new ≡ L.opens link.old }
     ensures faults { TellsFaults (L.never_fails link.old) (L.never_fails link.new) (L.faults link.old) (L.faults link.new) (IsErrOf result Failed.Device) }

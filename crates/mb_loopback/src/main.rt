@@ -1,21 +1,45 @@
-//! A cluster of real processes over sockets of this machine, as the gate runs it. This one program is the client program and each of its nodes.
+//! Runs of the whole program over what the system has, as the gate makes them: a cluster of real processes over sockets of this machine, and then the other
+//! words, each in a child program with its own standard input, standard output and exit status. This one program is the client program, each of its nodes
+//! and each child.
 //!
-//! Without words it reads a config from standard input, starts a node for each of three hosts, asks them the operations and writes the results, and then
-//! takes the steps of each node's record again. With words it does what they ask for, as `minbft` does: so its nodes are started.
+//! Without words it reads a config from standard input, starts a node for each of three hosts, asks them the operations and writes the results. Then children
+//! take the steps of each node's record again, run three schedules, one of them long, and a soak. At last a node is started that some other process is said
+//! to have started. Behind each run stands its status. With words it does what they ask for: so its nodes and children are started.
 #![tactic(auto)]
 
-use mb_edge::{ByteSink, Sink, Source};
-use mb_system::{ChildSpawner, StdSink, StdSource, UdpLink, own_path, words_of};
-use mb_top::minbft;
-use std::fs::File;
-use std::io;
-use std::process::ExitCode;
+use mb_edge::Spawner;
+use mb_program::{obey, run};
+use mb_system::{ChildSpawner, StdSink, StdSource, own_path, words_of};
+use std::fs::{File, Files, OpenOptions};
+use std::io::ErrorKind;
+use std::process::{Command, ExitCode};
+use std::{fs, io};
 
-/// The exit status where the system failed, or a record is not that of its host's own steps.
+/// The exit status where a run could not be made.
 const FAILED: u8 = 1;
 
 /// What three nodes record.
 const RECORDS: [&str; 3] = ["node-0.record", "node-1.record", "node-2.record"];
+
+/// A schedule whose events all happen, and one that names a message which was not made.
+const SCHEDULES: [&str; 2] = ["one-put.schedule", "not_made.schedule"];
+
+/// A schedule of which text and report are longer than what a pipe holds.
+const LONG: &str = "ordinary_use.schedule";
+
+/// A config at another port than that of the cluster.
+const CONFIG: &str = "node.config";
+
+/// Where a child's output goes.
+const ANSWER: &str = "answer";
+
+/// A number that no process has.
+const NO_PROCESS: u32 = u32::MAX;
+
+/// That a run could not be made.
+fn not_run() -> io::Error {
+    io::Error::from(ErrorKind::Other)
+}
 
 /// These words.
 fn words_from(rt: &HostRuntime, from: &[&str]) -> io::Result<Vec<String>> {
@@ -26,58 +50,98 @@ fn words_from(rt: &HostRuntime, from: &[&str]) -> io::Result<Vec<String>> {
     Ok(words)
 }
 
-/// Does what the words ask for, and answers the status.
-fn run<S: Source, K: Sink>(
-    rt: &HostRuntime,
-    words: &[String],
-    source: &mut S,
-    sink: &mut K,
-) -> io::Result<u8> {
-    let mut link = UdpLink::new(rt);
-    let mut spawner = ChildSpawner::new(rt, rt.alloc(), own_path(rt));
-    Ok(minbft(rt.alloc(), words, source, sink, &mut link, &mut spawner))
-}
-
-/// Whether each entry of a record is that of its host's own step.
-fn is_retraced(rt: &HostRuntime, record: &str) -> io::Result<bool> {
-    let words = words_from(rt, &["retrace"])?;
-    let mut source = StdSource::new(File::open(rt, record)?);
-    let mut sink = ByteSink::new(rt.alloc(), Vec::new(rt.alloc())).map_err(|_| io::Error::from(
-        io::ErrorKind::OutOfMemory,
-    ))?;
-    let status = run(rt, &words, &mut source, &mut sink)?;
-    Ok(status == 0 && sink.bytes().starts_with(b"same "))
-}
-
-/// Runs a cluster, and takes the steps of its nodes again.
-fn loopback(rt: &HostRuntime) -> io::Result<u8> {
+/// Runs a cluster at the system's streams.
+fn run_cluster(rt: &HostRuntime) -> io::Result<()> {
     let words = words_from(rt, &["cluster", "2000"])?;
     let mut source = StdSource::new(rt.stdin());
     let mut sink = StdSink::new(rt.stdout());
-    let mut status = run(rt, &words, &mut source, &mut sink)?;
-    for record in RECORDS {
-        if is_retraced(rt, record)? {
-            println!(rt; "{record} same")?;
-        } else {
-            println!(rt; "{record} differs")?;
-            status = FAILED;
-        }
-    }
-    Ok(status)
+    let status = obey(rt, &words, &mut source, &mut sink);
+    println!(rt; "cluster: {status}")
 }
 
-/// Does what the words ask for at the system's streams.
-fn obey(rt: &HostRuntime, words: &[String]) -> io::Result<u8> {
-    let mut source = StdSource::new(rt.stdin());
-    let mut sink = StdSink::new(rt.stdout());
-    run(rt, words, &mut source, &mut sink)
+/// Runs this program as a child, with these words, and a file for its input. Answers its exit status and what it wrote.
+fn answer(rt: &HostRuntime, words: &[&str], input: &str) -> io::Result<(i32, Vec<u8>)> {
+    let path = own_path(rt);
+    let mut command = Command::new(rt.alloc(), path.as_str())?;
+    for word in words {
+        command.arg(*word)?;
+    }
+    let input = File::open(rt, input)?;
+    let output = rt.open_file(
+        OpenOptions::new().write(true).create(true).truncate(true),
+        ANSWER,
+    )?;
+    let mut child = command.stdin(input).stdout(output).spawn(rt)?;
+    match child.wait()?.code() {
+        Some(status) => Ok((status, fs::read(rt, ANSWER)?)),
+        None => Err(not_run()),
+    }
+}
+
+/// Takes the steps of a record again. How many they are is another number each time.
+fn retrace(rt: &HostRuntime, record: &str) -> io::Result<()> {
+    let (status, text) = answer(rt, &["retrace"], record)?;
+    let said = if text.as_slice().starts_with(b"same ") {
+        "same"
+    } else {
+        "differs"
+    };
+    println!(rt; "{record}: {said} {status}")
+}
+
+/// Runs a schedule, and prints what is answered.
+fn replay(rt: &HostRuntime, schedule: &str) -> io::Result<()> {
+    let (status, text) = answer(rt, &["replay"], schedule)?;
+    let text = String::from_utf8_lossy(rt.alloc(), text.as_slice())?;
+    println!(rt; "{}{schedule}: {status}", text.as_str())
+}
+
+/// Runs a long schedule, and prints how many bytes are answered.
+fn replay_long(rt: &HostRuntime) -> io::Result<()> {
+    let (status, text) = answer(rt, &["replay"], LONG)?;
+    println!(rt; "{LONG}: {} bytes {status}", text.len())
+}
+
+/// Draws events and runs them, and prints the line. Its input is not read.
+fn soak(rt: &HostRuntime) -> io::Result<()> {
+    let (status, text) = answer(rt, &["soak", "7", "1"], CONFIG)?;
+    let text = String::from_utf8_lossy(rt.alloc(), text.as_slice())?;
+    println!(rt; "{}soak: {status}", text.as_str())
+}
+
+/// Runs a node that is told of another process as the one that started it: its link fails.
+fn lonely_node(rt: &HostRuntime) -> io::Result<()> {
+    let words = words_from(rt, &["node", "0", "40"])?;
+    let config = fs::read(rt, CONFIG)?;
+    let mut spawner = ChildSpawner::new(rt, rt.alloc(), own_path(rt), NO_PROCESS);
+    let Ok(child) = spawner.start(&words, &config, "lonely.record") else {
+        return Err(not_run());
+    };
+    match spawner.wait(child) {
+        Ok(status) => println!(rt; "lonely node: {status}"),
+        Err(_) => Err(not_run()),
+    }
+}
+
+fn run_all(rt: &HostRuntime) -> io::Result<()> {
+    run_cluster(rt)?;
+    for record in RECORDS {
+        retrace(rt, record)?;
+    }
+    for schedule in SCHEDULES {
+        replay(rt, schedule)?;
+    }
+    replay_long(rt)?;
+    soak(rt)?;
+    lonely_node(rt)
 }
 
 fn main(rt: HostRuntime) -> ExitCode {
-    let status = match words_of(&rt) {
-        Ok(words) if words.is_empty() => loopback(&rt),
-        Ok(words) => obey(&rt, &words),
-        Err(error) => Err(error),
-    };
-    ExitCode::from(status.unwrap_or(FAILED))
+    match words_of(&rt) {
+        Ok(words) if words.is_empty() => match run_all(&rt) {
+            Ok(()) => ExitCode::SUCCESS,
+            Err(_) => ExitCode::from(FAILED),
+        },
+        _ => run(&rt),
+    }
 }

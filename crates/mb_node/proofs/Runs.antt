@@ -109,7 +109,7 @@ module _ {V : Type 0} (me : Identity V) (start : History) where
   or_false_is true b is = refl
   or_false_is false b is = is
 
-  lines_more : (es : List Event) (e : Event) → has_stop me start es ≡ false → lines_of me start (e ∷ es) ≡ lines_of me start es ++ lines_at me (left_by me start es) e
+  pub lines_more : (es : List Event) (e : Event) → has_stop me start es ≡ false → lines_of me start (e ∷ es) ≡ lines_of me start es ++ lines_at me (left_by me start es) e
   unfolding lines_of entries_of has_stop
   lines_more es e unstopped =
       let x : Entry = entry_at me (left_by me start es) e in

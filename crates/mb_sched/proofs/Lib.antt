@@ -16,6 +16,7 @@ pub mod RecordParts
 pub mod PrintedLines
 pub mod PrintedConfigs
 pub mod PrintedRecords
+pub mod CutRecords
 pub mod ReadSteps
 pub mod ConfigSpellings
 pub mod RecordSpellings

@@ -25,32 +25,32 @@ use Rattle.mb_sched.proofs.RecordParts.{all_read}
 
 -- ---- an entry
 
-abbrev event_bytes : Event → Bytes
+abbrev pub event_bytes : Event → Bytes
 event_bytes e = join_with_byte 32 (event_words e)
 
-event_begins : (e : Event) (rest : Bytes) → EventFits e → Begins (event_bytes e) (line_text (event_words e) ++ rest) rest
+pub event_begins : (e : Event) (rest : Bytes) → EventFits e → Begins (event_bytes e) (line_text (event_words e) ++ rest) rest
 event_begins (Given bytes) rest fits = keyword_begins (codes "given") (hex_word bytes) rest refl (IsWord-hex_word bytes fits)
 event_begins Patience rest fits = line_begins (codes "patience") [] rest refl tt
 event_begins Nudge rest fits = line_begins (codes "nudge") [] rest refl tt
 
-event_again : (e : Event) → EventFits e → event_said (event_bytes e) ≡ Some e
+pub event_again : (e : Event) → EventFits e → event_said (event_bytes e) ≡ Some e
 event_again (Given bytes) fits =
     ap (λ (o : Option Bytes). option_map Given o) (keyword_again bytes_of (codes "given") (hex_word bytes) bytes refl refl (IsWord-hex_word bytes fits) (bytes_of-hex_word bytes fits))
 event_again Patience fits = refl
 event_again Nudge fits = refl
 
-no_end : (e : Event) → is "end" (event_bytes e) ≡ false
+pub no_end : (e : Event) → is "end" (event_bytes e) ≡ false
 no_end (Given bytes) = refl
 no_end Patience = refl
 no_end Nudge = refl
 
-abbrev sent_words : Entry → List Bytes
+abbrev pub sent_words : Entry → List Bytes
 sent_words e = codes "sent" ∷ decimal e.count ∷ encode_lower e.digest ∷ []
 
-abbrev sent_bytes : Entry → Bytes
+abbrev pub sent_bytes : Entry → Bytes
 sent_bytes e = join_with_byte 32 (sent_words e)
 
-sent_are : (e : Entry) → EntryFits e → AllByRecursion IsWord (decimal e.count ∷ encode_lower e.digest ∷ [])
+pub sent_are : (e : Entry) → EntryFits e → AllByRecursion IsWord (decimal e.count ∷ encode_lower e.digest ∷ [])
 sent_are e fits = let count = fits.count in (IsWord-decimal e.count (omega (arith, count)), (IsWord-encode_lower e.digest fits.digest_bytes, tt))
 
 sent_again : (e : Entry) → EntryFits e → entry_of e.event (words (sent_bytes e)) ≡ Some e
@@ -77,7 +77,7 @@ entry_lines e rest fits =
 -- ---- all entries
 
 module _ (tail : Bytes) (right : (n : ℕ) → entries_from (is_ended tail) n (lines tail) ≡ Ok []) where
-  entries_again : (n : ℕ) (es : List Entry) → AllByRecursion EntryFits es → entries_from (is_ended (flat_map entry_text es ++ tail)) n (lines (flat_map entry_text es ++ tail)) ≡ Ok es
+  pub entries_again : (n : ℕ) (es : List Entry) → AllByRecursion EntryFits es → entries_from (is_ended (flat_map entry_text es ++ tail)) n (lines (flat_map entry_text es ++ tail)) ≡ Ok es
   unfolding entries_from
   entries_again n [] fit = right n
   entries_again n (e ∷ es) fit =
@@ -89,7 +89,7 @@ module _ (tail : Bytes) (right : (n : ℕ) → entries_from (is_ended tail) n (l
       ∙ ap (λ (ls : List Bytes). entries_from (is_ended rest) n ls) two.0
       ∙ rw (no_end e.event, event_again e.event fit.0.event, sent_again e fit.0, entries_again (n + 2) es fit.1) refl
 
-abbrev tail_of : Bool → Bytes
+abbrev pub tail_of : Bool → Bytes
 tail_of true = codes "end\n"
 tail_of false = []
 
@@ -111,7 +111,7 @@ module _ (c : Config) (id : ℕ) (entries : List Entry) (fits : RecordFits c id 
   id_bytes = line_text (codes "id" ∷ decimal id ∷ [])
 
   -- all behind the head
-  head_lines : (rest : Bytes) → (lines (titled ++ (settings_text c.shape c.secret c.port ++ (id_bytes ++ rest))) ≡ settings_lines title c.shape c.secret c.port ++ (keyword_text (codes "id") (decimal id) ∷ lines rest))
+  pub head_lines : (rest : Bytes) → (lines (titled ++ (settings_text c.shape c.secret c.port ++ (id_bytes ++ rest))) ≡ settings_lines title c.shape c.secret c.port ++ (keyword_text (codes "id") (decimal id) ∷ lines rest))
       × (is_ended (titled ++ (settings_text c.shape c.secret c.port ++ (id_bytes ++ rest))) ≡ is_ended rest)
   head_lines rest =
       let port = fits.settings.port in
@@ -125,14 +125,14 @@ module _ (c : Config) (id : ℕ) (entries : List Entry) (fits : RecordFits c id 
       let host = fits.host in
       rw (keyword_again (number_in 0 (2 * max_faults c.shape)) (codes "id") (decimal id) id refl refl (IsWord-decimal id (omega (arith, host))) (number_in-decimal 0 (2 * max_faults c.shape) id (omega (arith, host)) (omega arith) (omega (arith, host)))) refl
 
-  by_parts : (text rest : Bytes) → lines text ≡ settings_lines title c.shape c.secret c.port ++ (keyword_text (codes "id") (decimal id) ∷ lines rest) → is_ended text ≡ is_ended rest
+  pub by_parts : (text rest : Bytes) → lines text ≡ settings_lines title c.shape c.secret c.port ++ (keyword_text (codes "id") (decimal id) ∷ lines rest) → is_ended text ≡ is_ended rest
       → entries_from (is_ended rest) 8 (lines rest) ≡ Ok entries → record_of text ≡ Ok (with_entries (config_settings c) id entries)
   by_parts text rest is ended tail =
       let port = fits.settings.port in
       let head = settings_again title titled (λ behind. refl) refl c.shape c.secret c.port fits.settings.secret_bytes port.0 port.1 fits.settings.secret_length (keyword_text (codes "id") (decimal id) ∷ lines rest) in
       all_read text (config_settings c) (rw is head) id (rw is id_again) entries (rw (is, ended) tail)
 
-head_is : (c : Config) (id : ℕ) (rest : Bytes) → record_head c id ++ rest ≡ codes "minbft record 2\n" ++ (settings_text c.shape c.secret c.port ++ (line_text (codes "id" ∷ decimal id ∷ []) ++ rest))
+pub head_is : (c : Config) (id : ℕ) (rest : Bytes) → record_head c id ++ rest ≡ codes "minbft record 2\n" ++ (settings_text c.shape c.secret c.port ++ (line_text (codes "id" ∷ decimal id ∷ []) ++ rest))
 unfolding record_head
 head_is c id rest =
     append_assoc (codes "minbft record 2\n") (settings_text c.shape c.secret c.port ++ line_text (codes "id" ∷ decimal id ∷ [])) rest

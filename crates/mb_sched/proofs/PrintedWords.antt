@@ -1,5 +1,5 @@
 -- Words that are printed into a line are the words of that line, and lines that are printed are the lines of the text.
-use Rattle.std.proofs.Common.{◌≡◌, ℕ, ◌<◌, leb, eqb, Bool, true, false, List, [], ◌∷◌, ◌++◌, refl, ap, ◌∙◌, append_assoc, lit<, arith}
+use Rattle.std.proofs.Common.{◌≡◌, ℕ, ◌<◌, leb, eqb, Bool, true, false, List, [], ◌∷◌, ◌++◌, refl, sym, ap, ◌∙◌, append_assoc, lit<, arith}
 use Rattle.std.specs.List.{list_all, join_with_byte, All, AllByRecursion}
 use Rattle.std.proofs.lemmas.Bool.{and_parts, and_from, leb-true, le-leb, ne_eqb}
 use Rattle.std.proofs.lemmas.List.Folds.{list_all-append}
@@ -45,6 +45,13 @@ no_end word [] is more_is = weaker (leb 33) (leb 32) (λ b e. le-leb _ _ (let le
 no_end word (next ∷ more) is more_is =
     let one = weaker (leb 33) (leb 32) (λ b e. le-leb _ _ (let le = leb-true _ _ e in omega arith)) word is in
     rw (list_all-append (leb 32) word (32 ∷ join_with_byte 32 (next ∷ more)), one) (no_end next more more_is.0 more_is.1)
+
+-- a first part of a line of words is one piece
+pub cut_line-piece : (word : Bytes) (more : List Bytes) (part rest : Bytes) → IsWord word → AllByRecursion IsWord more → part ++ rest ≡ join_with_byte 32 (word ∷ more) → pieces 10 part ≡ part ∷ []
+cut_line-piece word more part rest is more_is parts =
+    let whole : from_byte 32 (part ++ rest) ≡ true = ap (from_byte 32) parts ∙ no_end word more is more_is in
+    let both = and_parts (from_byte 32 part) (from_byte 32 rest) (sym (list_all-append (leb 32) part rest) ∙ whole) in
+    slice_split_none (λ b. eqb b 10) part (no_separator 32 10 part (lit< tt) both.0)
 
 -- the first line of a text that begins with a line of words
 pub line_text-piece : (word : Bytes) (more : List Bytes) (rest : Bytes) → IsWord word → AllByRecursion IsWord more

@@ -15,7 +15,7 @@ use Rattle.mb_sched.specs.Printing.{hex_word}
 use Rattle.mb_sched.specs.ScheduleText.{line_text}
 use Rattle.mb_sched.specs.TextLines.{keyword_line}
 use Rattle.mb_sched.specs.Settings.{SettingsContents, settings_of, settings_text}
-use Rattle.mb_sched.specs.Configs.{ConfigContents, with_ops, config_contents, SettingsFit}
+use Rattle.mb_sched.specs.Configs.{ConfigContents, with_ops, config_contents, config_settings, SettingsFit}
 
 -- the most bytes that the text of a record may have
 abbrev pub max_record : ℕ
@@ -122,10 +122,28 @@ entry_text e =
 unfoldable pub record_head : Config → ℕ → Bytes
 record_head c id = codes "minbft record 2\n" ++ (settings_text c.shape c.secret c.port ++ line_text (codes "id" ∷ decimal id ∷ []))
 
--- the text of a record, with the line `end` behind it once the host was stopped
+-- the lines of entries, with the line `end` behind them once the host was stopped
+abbrev pub entries_text : Bool → List Entry → Bytes
+entries_text stopped entries = flat_map entry_text entries ++ (if stopped then codes "end\n" else [])
+
+-- the text of a record
 abbrev pub record_text : Bool → Config → ℕ → List Entry → Bytes
-record_text stopped c id entries =
-    record_head c id ++ (flat_map entry_text entries ++ (if stopped then codes "end\n" else []))
+record_text stopped c id entries = record_head c id ++ entries_text stopped entries
+
+-- it is shorter than the lines of the next entry, if there is one
+abbrev pub IsShort : Bytes → List Entry → Type 0
+IsShort text [] = Unit {0}
+IsShort text (next ∷ more) = length text < length (entry_text next)
+
+-- What stands behind the head of a record are the lines of these entries and less than those of the next one. It is read as the entries that have whole pairs of lines.
+pub record ReadsWholePairs (c : Config) (id : ℕ) (entries : List Entry) (part : Bytes) : Type 0 where
+  pub whole : List Entry
+  pub later : List Entry
+  pub first : whole ++ later ≡ entries
+  pub cut : Bytes
+  pub parts : part ≡ flat_map entry_text whole ++ cut
+  pub short : IsShort cut later
+  pub read : record_of (record_head c id ++ part) ≡ Ok (with_entries (config_settings c) id whole)
 
 -- a host was given bytes
 abbrev pub EventFits : Event → Type 0

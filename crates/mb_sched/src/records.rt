@@ -12,7 +12,7 @@ ghost use Rattle.mb_sched.specs.TextLines.{ReadsText};
 ghost use Rattle.mb_sched.specs.declared.configs.Config.{Config};
 ghost use Rattle.mb_sched.specs.declared.records.Entry.{Entry};
 ghost use Rattle.mb_sched.specs.Configs.{config_settings};
-ghost use Rattle.mb_sched.specs.Records.{RecordContents, max_record, id_line, event_said, entry_of, end_by, entries_from, next_entry, record_of, record_contents, event_words, entry_text, record_head, with_entries, record_text, RecordFits};
+ghost use Rattle.mb_sched.specs.Records.{RecordContents, max_record, id_line, event_said, entry_of, end_by, entries_from, next_entry, record_of, record_contents, event_words, entry_text, record_head, with_entries, entries_text, record_text, RecordFits, ReadsWholePairs};
 
 use crate::bad_text::BadText;
 use crate::configs::Config;
@@ -267,6 +267,12 @@ fn print_given(alloc: Global, out: &mut String, bytes: &[u8]) -> Result<(), NoMe
 pub fn printed_records_are_read()
     ensures { (stopped : Bool) (c : Config) (id : ℕ) (entries : List Entry) → RecordFits c id entries
         → record_of (record_text stopped c id entries) ≡ Ok (with_entries (config_settings c) id entries) }
+{}
+
+/// A record that was cut off anywhere behind its head is read as far as it has whole pairs of lines.
+pub fn cut_records_are_read()
+    ensures { (stopped : Bool) (c : Config) (id : ℕ) (entries : List Entry) (part rest : Bytes) → RecordFits c id entries
+        → part ++ rest ≡ entries_text stopped entries → ReadsWholePairs c id entries part }
 {}
 
 /// A text is read as a record exactly where it spells it.

@@ -1,2 +1,4 @@
 pub mod RecordLaws
 pub mod NodeLaws
+pub mod ReadConfigs
+pub mod WrittenLaws

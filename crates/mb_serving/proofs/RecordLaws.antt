@@ -26,7 +26,7 @@ abbrev event_of : Entry → Event
 event_of e = e.event
 
 -- the events of entries in two parts
-events_parted : (before later : List Entry) (entry : Entry) → events_in (before ++ entry ∷ later) ≡ events_in later ++ entry.event ∷ events_in before
+pub events_parted : (before later : List Entry) (entry : Entry) → events_in (before ++ entry ∷ later) ≡ events_in later ++ entry.event ∷ events_in before
 events_parted before later entry =
     let a = map event_of before in
     let b = map event_of later in
@@ -43,7 +43,7 @@ module _ {S : Type 0} (me : Identity S) where
       let last = entry_at me (left_by me [] (later ++ before)) e ∷ [] in
       (b.0 ++ last, ap (λ (l : List Entry). l ++ last) b.1 ∙ append_assoc (entries_of me [] before) b.0 last)
 
-  none_differs : (entries : List Entry) (number : ℕ) (recorded found : Bytes) → AreOwn me entries → Differs me entries number recorded found → ⊥
+  pub none_differs : (entries : List Entry) (number : ℕ) (recorded found : Bytes) → AreOwn me entries → Differs me entries number recorded found → ⊥
   unfolding entries_of
   none_differs entries number recorded found own d =
       let mine = own_entry me d.before d.entry.event in

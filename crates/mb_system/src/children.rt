@@ -1,18 +1,20 @@
 //! Child programs of one path as a spawner.
 
-ghost use Rattle.std.specs.Prelude.{◌≡◌, ◌≤◌, None, Ok};
+ghost use Rattle.std.specs.Prelude.{◌≡◌, ◌≤◌, ◌++◌, ℕ, [], ◌∷◌, None, Some, Ok, pos, map, string_bytes, IfOk, OnOk};
+ghost use Rattle.std.specs.Process.{command_program, command_args, exit_code, SameProgramAndArgs};
 ghost use Rattle.mb_edge.specs.Faults.{Rose};
 ghost use Rattle.mb_edge.specs.Children.{CountsBadEnds};
 
+use crate::program::STARTED_BY;
 use mb_edge::{Child, Failed, Spawner};
-use std::alloc::Global;
+use std::alloc::{AllocError, Global};
 use std::fs::{File, Files, OpenOptions};
-use std::io::{ErrorKind, Write};
+use std::io::{Eprint, ErrorKind, Write};
 use std::process::{Command, ExitStatus, OpenProcess, Processes, Stdio};
 use std::time::{Clock, Duration};
 use std::{fs, io, process, thread};
 
-/// How often a start looks whether the child's output has begun.
+/// How often a start looks whether the child's output has begun, and how often all waits together look whether a child has ended.
 const LOOKS: u32 = 500;
 
 /// How long it waits between two looks, in milliseconds: five seconds in all.
@@ -22,19 +24,26 @@ const LOOK_WAIT: u64 = 10;
 const BY_SIGNAL: u8 = 255;
 
 /// One program, started again and again. It tells nothing of its content.
+///
+/// A start fails where the file for the output is there already, and where the child has ended before its output began or needs more than five seconds for
+/// that. A child that has not ended five seconds after the first wait began is ended by a signal.
 #[derive(Drop)]
 pub struct ChildSpawner<R: Processes> {
     rt: R,
     alloc: Global,
     path: String,
+    /// The number of this process, by which a child knows who started it.
+    own: u32,
     children: Vec<process::Child<R::Started>>,
+    /// How often waits still look whether a child has ended by itself.
+    looks: u32,
     faults: u64,
     bad_ends: u64,
 }
 
 impl<R: Processes> ChildSpawner<R> {
-    /// A spawner of the program at `path`, which has started nothing yet.
-    pub fn new(rt: R, alloc: Global, path: String) -> ChildSpawner<R>
+    /// A spawner of the program at `path`, which has started nothing yet. The process that starts has the number `own`.
+    pub fn new(rt: R, alloc: Global, path: String, own: u32) -> ChildSpawner<R>
         ensures faults { result.faults ≡ 0 }
         ensures bad_ends { result.bad_ends ≡ 0 }
     {
@@ -42,7 +51,9 @@ impl<R: Processes> ChildSpawner<R> {
             rt,
             alloc,
             path,
+            own,
             children: Vec::new(alloc),
+            looks: LOOKS,
             faults: 0,
             bad_ends: 0,
         }
@@ -58,6 +69,16 @@ impl<R: Processes> ChildSpawner<R> {
         if error.kind() == ErrorKind::OutOfMemory {
             return Failed::NoMemory;
         }
+        self.count_fault()
+    }
+
+    /// Counts a fault.
+    fn count_fault(&mut self) -> Failed
+        ensures device { result ≡ Failed.Device }
+        ensures rose { Rose self.old.faults self.new.faults }
+        ensures later { self.old.faults ≤ self.new.faults }
+        ensures bad_ends { self.new.bad_ends ≡ self.old.bad_ends }
+    {
         self.faults = self.faults.saturating_add(1);
         Failed::Device
     }
@@ -73,23 +94,37 @@ impl<R: Processes> ChildSpawner<R> {
     }
 }
 
-/// The child's command, with a pipe for its input and a file for its output.
-fn spawned<R: Files<File = File> + Processes>(
-    rt: &R,
-    alloc: Global,
-    path: &str,
-    words: &[String],
-    output: &str,
-) -> io::Result<process::Child<R::Started>> {
-    let file = rt.open_file(
-        OpenOptions::new().write(true).create(true).truncate(true),
-        output,
-    )?;
+/// Adds a word to a command.
+fn add_word(command: &mut Command, word: &str) -> Result<(), AllocError>
+    ensures program { OnOk result (command_program command.new ≡ command_program command.old) }
+    ensures words { OnOk result (command_args command.new ≡ command_args command.old ++ word.now ∷ []) }
+{
+    command.arg(word)?;
+    Ok(())
+}
+
+/// The command of a child with these words.
+fn command_of(alloc: Global, path: &str, words: &[String]) -> Result<Command, AllocError>
+    ensures program { IfOk result (λ c. command_program c ≡ path.now) }
+    ensures words { IfOk result (λ c. command_args c ≡ map string_bytes words.now) }
+{
     let mut command = Command::new(alloc, path)?;
     for word in words {
-        command.arg(word.as_str())?;
+        add_word(&mut command, word.as_str())?;
     }
-    command.stdin(Stdio::piped()).stdout(file).spawn(rt)
+    Ok(command)
+}
+
+/// The file for a child's output. One that is there already is never overwritten, and that is told on standard error.
+fn new_file<R: Files<File = File> + Eprint>(rt: &R, output: &str) -> io::Result<File> {
+    let opened = rt.open_file(OpenOptions::new().write(true).create_new(true), output);
+    match opened {
+        Err(e) if e.kind() == ErrorKind::AlreadyExists => {
+            eprintln!(rt; "{output} is there already and is not overwritten")?;
+            Err(e)
+        }
+        opened => opened,
+    }
 }
 
 /// Gives a child its input. One that has ended without taking it all tells so by its status.
@@ -103,39 +138,23 @@ fn feed<P: OpenProcess>(child: &mut process::Child<P>, input: &[u8]) -> io::Resu
     }
 }
 
-/// Waits until a child's output has begun or the child has ended, at most for five seconds.
+/// Waits until a child's output has begun. It is an error where the child has ended before that, or needs more than five seconds.
 fn await_output<R: Files + Clock, P: OpenProcess>(
     rt: &R,
     child: &mut process::Child<P>,
     output: &str,
 ) -> io::Result<()> {
     for _ in 0..LOOKS {
-        if child.try_wait()?.is_some() || fs::metadata(rt, output)?.len() > 0 {
+        let has_ended = child.try_wait()?.is_some();
+        if fs::metadata(rt, output)?.len() > 0 {
             return Ok(());
+        }
+        if has_ended {
+            return Err(io::Error::from(ErrorKind::UnexpectedEof));
         }
         thread::sleep(rt, Duration::from_millis(LOOK_WAIT));
     }
-    Ok(())
-}
-
-/// Starts a child, which is at work or has ended when this returns. Where that fails behind its start, it is ended again.
-fn started<R: Files<File = File> + Processes + Clock>(
-    rt: &R,
-    alloc: Global,
-    path: &str,
-    words: &[String],
-    input: &[u8],
-    output: &str,
-) -> io::Result<process::Child<R::Started>> {
-    let mut child = spawned(rt, alloc, path, words, output)?;
-    match set_to_work(rt, &mut child, input, output) {
-        Ok(()) => Ok(child),
-        Err(e) => {
-            child.kill()?;
-            child.wait()?;
-            Err(e)
-        }
-    }
+    Err(io::Error::from(ErrorKind::TimedOut))
 }
 
 fn set_to_work<R: Files + Clock, P: OpenProcess>(
@@ -148,15 +167,90 @@ fn set_to_work<R: Files + Clock, P: OpenProcess>(
     await_output(rt, child, output)
 }
 
-/// The status with which a child ended.
-fn status_of(status: ExitStatus) -> u8 {
+/// Starts a child with a pipe for its input and a file for its output. It is at work when this returns; where that fails behind its start, it is ended again.
+fn begun<R: Files + Processes + Clock>(
+    rt: &R,
+    mut command: Command,
+    input: &[u8],
+    output: &str,
+    file: File,
+) -> io::Result<process::Child<R::Started>> {
+    let mut child = command.stdin(Stdio::piped()).stdout(file).spawn(rt)?;
+    match set_to_work(rt, &mut child, input, output) {
+        Ok(()) => Ok(child),
+        Err(e) => {
+            child.kill()?;
+            child.wait()?;
+            Err(e)
+        }
+    }
+}
+
+/// Starts a child, whose output goes to a new file. Where it does not come to work no file is left.
+fn started<R: Files<File = File> + Processes + Clock + Eprint>(
+    rt: &R,
+    command: Command,
+    input: &[u8],
+    output: &str,
+) -> io::Result<process::Child<R::Started>> {
+    let file = new_file(rt, output)?;
+    match begun(rt, command, input, output, file) {
+        Ok(child) => Ok(child),
+        Err(e) => {
+            fs::remove_file(rt, output)?;
+            Err(e)
+        }
+    }
+}
+
+/// Tells a child who starts it.
+fn name_starter(alloc: Global, command: &mut Command, own: u32) -> Result<(), AllocError>
+    ensures { OnOk result (SameProgramAndArgs command.old command.new) }
+{
+    let starter = format!(in alloc; "{own}")?;
+    command.env(STARTED_BY, starter.as_str())?;
+    Ok(())
+}
+
+/// The command of a child that is told who starts it.
+fn command_by(alloc: Global, path: &str, words: &[String], own: u32) -> io::Result<Command>
+    ensures program { IfOk result (λ c. command_program c ≡ path.now) }
+    ensures words { IfOk result (λ c. command_args c ≡ map string_bytes words.now) }
+{
+    let mut command = command_of(alloc, path, words)?;
+    name_starter(alloc, &mut command, own)?;
+    Ok(command)
+}
+
+/// How a child ended. Once all looks are spent one that goes on is ended by a signal.
+fn ended<R: Clock, P: OpenProcess>(
+    rt: &R,
+    child: &mut process::Child<P>,
+    looks: &mut u32,
+) -> io::Result<ExitStatus> {
+    for _ in 0..*looks {
+        if let Some(status) = child.try_wait()? {
+            return Ok(status);
+        }
+        *looks = looks.saturating_sub(1);
+        thread::sleep(rt, Duration::from_millis(LOOK_WAIT));
+    }
+    child.kill()?;
+    child.wait()
+}
+
+/// The status with which a child ended: its code, or 255 where a signal ended it.
+fn status_of(status: ExitStatus) -> u8
+    ensures code { (n : ℕ) → exit_code status ≡ Some (pos n) → result ≡ n }
+    ensures signal { exit_code status ≡ None → result ≡ 255 }
+{
     match status.code() {
         Some(code) => u8::try_from(code).unwrap_or(BY_SIGNAL),
         None => BY_SIGNAL,
     }
 }
 
-impl<R: Files<File = File> + Processes + Clock> Spawner for ChildSpawner<R> {
+impl<R: Files<File = File> + Processes + Clock + Eprint> Spawner for ChildSpawner<R> {
     ghost starts = { λ _. None };
 
     ghost waits = { λ _. None };
@@ -165,17 +259,21 @@ impl<R: Files<File = File> + Processes + Clock> Spawner for ChildSpawner<R> {
 
     ghost bad_ends = { λ s. s.bad_ends };
 
+    ghost waits_without_memory = { Unit {0} };
+
     fn start(&mut self, words: &[String], input: &[u8], output: &str) -> Result<Child, Failed> {
-        if self.children.reserve(1).is_err() {
+        let Ok(()) = self.children.reserve(1) else {
             return Err(Failed::NoMemory);
-        }
-        match started(&self.rt, self.alloc, &self.path, words, input, output) {
+        };
+        let command = match command_by(self.alloc, &self.path, words, self.own) {
+            Ok(command) => command,
+            Err(error) => return Err(self.cause_of(&error)),
+        };
+        match started(&self.rt, command, input, output) {
             Ok(child) => {
                 let number = self.children.len() as u64;
-                match self.children.push(child) {
-                    Ok(()) => Ok(number),
-                    Err(_) => Err(Failed::NoMemory),
-                }
+                self.children.push_reserved(child);
+                Ok(number)
             }
             Err(error) => Err(self.cause_of(&error)),
         }
@@ -183,16 +281,19 @@ impl<R: Files<File = File> + Processes + Clock> Spawner for ChildSpawner<R> {
 
     fn wait(&mut self, child: Child) -> Result<u8, Failed> {
         if child >= self.children.len() as u64 {
-            self.faults = self.faults.saturating_add(1);
-            return Err(Failed::Device);
+            return Err(self.count_fault());
         }
-        match self.children[child as usize].wait() {
+        match ended(
+            &self.rt,
+            &mut self.children[child as usize],
+            &mut self.looks,
+        ) {
             Ok(status) => {
                 let status = status_of(status);
                 self.count_end(status);
                 Ok(status)
             }
-            Err(error) => Err(self.cause_of(&error)),
+            Err(_) => Err(self.count_fault()),
         }
     }
 }

@@ -1,6 +1,7 @@
 use mb_edge::{Failed, Got, Link, ReadStop, Sink, Source, Spawner, read_all};
 use mb_system::{ChildSpawner, StdSink, StdSource, UdpLink};
 use std::io::{ErrorKind, Read, Write};
+use std::os::unix::process::parent_id;
 use std::test::Fail;
 use std::{fs, io};
 
@@ -96,8 +97,8 @@ fn next_datagram<L: Link>(link: &mut L, into: &mut [u8]) -> Got {
 
 #[test]
 fn datagrams_come_whole_and_in_order(rt: HostRuntime) -> Result<(), Fail> {
-    let mut first = UdpLink::new(&rt);
-    let mut second = UdpLink::new(&rt);
+    let mut first = UdpLink::new(&rt, rt.process(), None);
+    let mut second = UdpLink::new(&rt, rt.process(), None);
     let mut into = [0u8; ROOM];
     assert_eq!(rt; first.recv(&mut into), Got::Failed(Failed::Device));
     assert_eq!(rt; first.open(40_000, 0), Ok(()));
@@ -116,12 +117,29 @@ fn datagrams_come_whole_and_in_order(rt: HostRuntime) -> Result<(), Fail> {
 
 #[test]
 fn a_port_that_is_taken_or_too_high_is_a_fault(rt: HostRuntime) -> Result<(), Fail> {
-    let mut first = UdpLink::new(&rt);
-    let mut second = UdpLink::new(&rt);
+    let mut first = UdpLink::new(&rt, rt.process(), None);
+    let mut second = UdpLink::new(&rt, rt.process(), None);
     assert_eq!(rt; first.open(40_010, 255), Ok(()));
     assert_eq!(rt; second.open(40_109, 1), Err(Failed::Device));
     assert_eq!(rt; second.open(65_500, 255), Err(Failed::Device));
     assert_eq!(rt; second.open(40_109, 2), Ok(()));
+    Ok(())
+}
+
+/// A number that no process has.
+const NO_PROCESS: u32 = u32::MAX;
+
+#[test]
+fn a_link_ends_with_who_started_it(rt: HostRuntime) -> Result<(), Fail> {
+    let mut kept = UdpLink::new(&rt, rt.process(), Some(parent_id(rt.process())));
+    let mut left = UdpLink::new(&rt, rt.process(), Some(NO_PROCESS));
+    let mut into = [0u8; ROOM];
+    assert_eq!(rt; kept.open(40_020, 0), Ok(()));
+    assert_eq!(rt; left.open(40_020, 1), Ok(()));
+    assert_eq!(rt; kept.send(1, b"abc"), Ok(()));
+    assert_eq!(rt; left.recv(&mut into), Got::Failed(Failed::Device));
+    assert_eq!(rt; left.send(0, b"abc"), Err(Failed::Device));
+    assert_eq!(rt; kept.recv(&mut into), Got::Quiet);
     Ok(())
 }
 
@@ -137,10 +155,11 @@ fn children_get_their_words_and_input_and_tell_their_ends(rt: HostRuntime) -> Re
     let rows = [
         ("cat", 0, "some bytes"),
         ("echo x; exit 3", 3, "x\n"),
-        ("kill -9 $$", 255, ""),
+        ("echo x; kill -9 $$", 255, "x\n"),
+        ("echo $MINBFT_STARTED_BY; exec sleep 60", 255, "12345\n"),
     ];
     let path = String::from_str(rt.alloc(), "/bin/sh")?;
-    let mut spawner = ChildSpawner::new(&rt, rt.alloc(), path);
+    let mut spawner = ChildSpawner::new(&rt, rt.alloc(), path, 12345);
     for (script, status, text) in rows {
         let words = shell(&rt, script)?;
         match spawner.start(&words, b"some bytes", "child.out") {
@@ -149,7 +168,30 @@ fn children_get_their_words_and_input_and_tell_their_ends(rt: HostRuntime) -> Re
         }
         let found = fs::read_to_string(&rt, "child.out")?;
         assert_eq!(rt; found.as_str(), text);
+        fs::remove_file(&rt, "child.out")?;
     }
-    assert_eq!(rt; spawner.wait(3), Err(Failed::Device));
+    assert_eq!(rt; spawner.wait(4), Err(Failed::Device));
+    Ok(())
+}
+
+#[test]
+fn a_child_that_does_not_come_to_work_is_a_fault(rt: HostRuntime) -> Result<(), Fail> {
+    let path = String::from_str(rt.alloc(), "/bin/sh")?;
+    let mut spawner = ChildSpawner::new(&rt, rt.alloc(), path, 12345);
+    let silent = shell(&rt, "exit 0")?;
+    assert_eq!(rt;
+        spawner.start(&silent, b"", "silent.out"),
+        Err(Failed::Device)
+    );
+    assert!(rt; !fs::exists(&rt, "silent.out")?);
+    fs::write(&rt, "taken.out", b"kept")?;
+    let right = shell(&rt, "echo x")?;
+    assert_eq!(rt;
+        spawner.start(&right, b"", "taken.out"),
+        Err(Failed::Device)
+    );
+    let found = fs::read_to_string(&rt, "taken.out")?;
+    assert_eq!(rt; found.as_str(), "kept");
+    assert_eq!(rt; spawner.wait(0), Err(Failed::Device));
     Ok(())
 }

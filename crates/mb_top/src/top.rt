@@ -18,12 +18,14 @@ ghost use Rattle.mb_top.specs.Runs.{AreUnstopped};
 ghost use Rattle.mb_top.specs.Answers.{IsFirstForged};
 ghost use Rattle.mb_answer.specs.Devices.{device, link_state, spawner_state, devices, Says};
 ghost use Rattle.mb_top.specs.Responses.{Replays, Soaks};
+ghost use Rattle.mb_serving.specs.Written.{RetracesLeft};
 ghost use Rattle.mb_serving.specs.Records.{Retraces, IsRetraced};
 ghost use Rattle.mb_top.specs.Soaks.{soak_of};
 ghost use Rattle.mb_serving.specs.Nodes.{Nodes, IsServed};
 ghost use Rattle.mb_reviewing.specs.Audits.{Audits, IsAudited, audit_findings};
 ghost use Rattle.mb_reviewing.specs.Learning.{LearnsFrom, IsLearntFrom, learn_findings};
-ghost use Rattle.mb_answer.specs.Clusters.{Clusters, TellsBadEnds, IsRun};
+ghost use Rattle.mb_cluster.specs.Nodes.{spawned};
+ghost use Rattle.mb_answer.specs.Clusters.{Clusters, TellsToStop, AwaitsStarted, TellsBadEnds, IsRun};
 ghost use Rattle.mb_top.specs.Outcomes.{ReportsOn, TellsForged, IsComplete};
 ghost use Rattle.mb_top.specs.Blames.{ConvictsRightly, TellsDisorder};
 ghost use Rattle.mb_top.specs.Histories.{LearnsTheLine};
@@ -60,6 +62,10 @@ fn run<S: Source, K: Sink, L: Link, P: Spawner>(
     ensures link { TellsFaults (L.never_fails link.old) (L.never_fails link.new) (L.faults link.old) (L.faults link.new) (result ≡ 7) }
     ensures spawner { TellsFaults (P.never_fails spawner.old) (P.never_fails spawner.new) (P.faults spawner.old) (P.faults spawner.new) (result ≡ 8) }
     ensures bad_ends { TellsBadEnds (P.all_end_well spawner.old) (P.bad_ends spawner.old) (P.bad_ends spawner.new) (result ≡ 18) }
+    ensures stops { L.sends_without_memory
+        → TellsToStop (S.left source.old) (spawned (P.starts spawner.old) (P.waits spawner.old)) (spawned (P.starts spawner.new) (P.waits spawner.new)) (L.faults link.old) (L.faults link.new) (L.sent link.old) (L.sent link.new) }
+    ensures waits { P.waits_without_memory
+        → AwaitsStarted (S.left source.old) (P.faults spawner.old) (P.faults spawner.new) (spawned (P.starts spawner.old) (P.waits spawner.old)) (spawned (P.starts spawner.new) (P.waits spawner.new)) }
 {
     match command {
         Some(Command::Replay) => replay(alloc, source, sink),
@@ -128,6 +134,11 @@ pub fn minbft<S: Source, K: Sink, L: Link, P: Spawner>(
         (device (K.written sink.old) (K.faults sink.old)) (device (K.written sink.new) (K.faults sink.new))) }
     ensures retrace_complete { command_of (map string_bytes words.now) ≡ Some Command.Retrace
         → IfSome (S.left source.old) (λ text. IsRetraced text result (Rose (S.faults source.old) (S.faults source.new) ⊎ Rose (K.faults sink.old) (K.faults sink.new))) }
+    // So it is with what a node left, however it ended: a record that was cut off anywhere behind its first lines is answered by `same` and how many of the
+    // node's events have whole pairs of lines in it, unless memory runs out or a device fails.
+    ensures retrace_left { command_of (map string_bytes words.now) ≡ Some Command.Retrace
+        → IfSome (S.left source.old) (λ text. RetracesLeft text result (Rose (S.faults source.old) (S.faults source.new) ⊎ Rose (K.faults sink.old) (K.faults sink.new))
+        (device (K.written sink.old) (K.faults sink.old)) (device (K.written sink.new) (K.faults sink.new))) }
     // The other words.
     ensures usage { command_of (map string_bytes words.now) ≡ None → Says 1 usage_text result (device (K.written sink.old) (K.faults sink.old)) (device (K.written sink.new) (K.faults sink.new)) }
     // With the word `node`, a host and a number: that host of the config's system serves, for at most so many receives. Its events are those of what
@@ -178,6 +189,12 @@ pub fn minbft<S: Source, K: Sink, L: Link, P: Spawner>(
     ensures learn_history { command_of (map string_bytes words.now) ≡ Some Command.Learn
         → (text : Bytes) (r : Record) → S.left source.old ≡ Some text → IsRecordText text r → LearnsTheLine result r (device (K.written sink.old) (K.faults sink.old)) (device (K.written sink.new) (K.faults sink.new)) }
     ensures learn_ended { command_of (map string_bytes words.now) ≡ Some Command.Learn → Contains learn_findings result → IsAtEnd (S.left source.new) }
+    // However a cluster ends: where a node was started no more STOPs are missing than the link failed, and no more waits for the nodes that were started than
+    // the spawner failed, unless a send or a wait may be refused memory.
+    ensures stops { L.sends_without_memory
+        → TellsToStop (S.left source.old) (spawned (P.starts spawner.old) (P.waits spawner.old)) (spawned (P.starts spawner.new) (P.waits spawner.new)) (L.faults link.old) (L.faults link.new) (L.sent link.old) (L.sent link.new) }
+    ensures waits { P.waits_without_memory
+        → AwaitsStarted (S.left source.old) (P.faults spawner.old) (P.faults spawner.new) (spawned (P.starts spawner.old) (P.waits spawner.old)) (spawned (P.starts spawner.new) (P.waits spawner.new)) }
     // Each command has its statuses, whatever the source tells.
     ensures statuses { Contains (statuses (command_of (map string_bytes words.now))) result }
     // At status 0 of a word that reads, the source was read to its end.

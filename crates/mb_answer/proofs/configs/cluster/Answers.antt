@@ -1,8 +1,9 @@
-use Rattle.std.proofs.Common.{refl, inr}
+use Rattle.std.proofs.Common.{refl, inl, inr}
 use Rattle.std.proofs.lemmas.Option.{IfSome_then}
 use Rattle.mb_edge.proofs.FaultLemmas.{tells_both, tells_none, tells_as}
+use Rattle.mb_cluster.specs.Nodes.{spawned}
 use Rattle.mb_answer.specs.Configs.{used, unused}
-use Rattle.mb_answer.proofs.ConfigLaws.{runs_cluster, cause_of, told_by, ends_told, no_ends, run_known, lack_known}
+use Rattle.mb_answer.proofs.ConfigLaws.{runs_cluster, cause_of, told_by, ends_told, no_ends, run_known, lack_known, told_by_text, awaited_by_text, none_started}
 use Rattle.mb_answer.proofs.Statuses.{low_no_link, low_no_spawner}
 use Rattle.mb_answer.proofs.configs.cluster.Goals as goal
 
@@ -45,6 +46,27 @@ returns-in-Err-clause-spawner g c = tells_none _ (low_no_spawner c.in-Err.status
 
 pub returns-in-Err-clause-bad_ends : goal.returns-in-Err-clause-bad_ends
 returns-in-Err-clause-bad_ends g c = no_ends c.in-Err.status _ _ c.in-Err.ensures.low.0
+
+pub returns-in-Ok-clause-stops : goal.returns-in-Ok-clause-stops
+returns-in-Ok-clause-stops g c = λ never.
+    let link = g.L.Link in
+    let spawner = g.P.Spawner in
+    told_by_text (g.S.Source.left c.args.source.now) c.in-Ok.config (spawned (spawner.starts c.args.spawner.now) (spawner.waits c.args.spawner.now))
+    (spawned (spawner.starts c.run_cluster-ended.new.spawner) (spawner.waits c.run_cluster-ended.new.spawner))
+    (link.faults c.args.link.now) (link.faults c.run_cluster-ended.new.link) (link.sent c.args.link.now) (link.sent c.run_cluster-ended.new.link)
+    (IfSome_then (g.S.Source.left c.args.source.now) c.in-Ok.ensures.told (λ text found. found.0)) (c.run_cluster-ended.ensures.stops never)
+
+pub returns-in-Ok-clause-waits : goal.returns-in-Ok-clause-waits
+returns-in-Ok-clause-waits g c = λ never.
+    let spawner = g.P.Spawner in
+    awaited_by_text (g.S.Source.left c.args.source.now) c.in-Ok.config (spawner.faults c.args.spawner.now) (spawner.faults c.run_cluster-ended.new.spawner) (spawned (spawner.starts c.args.spawner.now) (spawner.waits c.args.spawner.now))
+    (spawned (spawner.starts c.run_cluster-ended.new.spawner) (spawner.waits c.run_cluster-ended.new.spawner)) (IfSome_then (g.S.Source.left c.args.source.now) c.in-Ok.ensures.told (λ text found. found.0)) (c.run_cluster-ended.ensures.waits never)
+
+pub returns-in-Err-clause-stops : goal.returns-in-Err-clause-stops
+returns-in-Err-clause-stops g c = λ never. inl refl
+
+pub returns-in-Err-clause-waits : goal.returns-in-Err-clause-waits
+returns-in-Err-clause-waits g c = λ never. none_started (g.S.Source.left c.args.source.now) (g.P.Spawner.faults c.args.spawner.now) (g.P.Spawner.starts c.args.spawner.now) (g.P.Spawner.waits c.args.spawner.now)
 
 pub returns-in-Ok-clause-statuses : goal.returns-in-Ok-clause-statuses
 returns-in-Ok-clause-statuses g c = run_known c.run_cluster-ended.result _ c.run_status.ensures

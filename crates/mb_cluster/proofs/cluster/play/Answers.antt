@@ -13,8 +13,8 @@ returns-in-Err-clause-plays g c =
     let link = g.L.Link in
     let sink = g.K.Sink in
     rw c.link_stop.ensures
-    (plays_unopened c.args.config.now c.in-Err.cause c.args.program.now c.args.program.now (wire (link.received c.args.link.now) (link.sent c.args.link.now)) (wire (link.received c.open.new.self) (link.sent c.open.new.self))
-    (sink.written c.args.sink.now) c.open.ensures.received)
+    (plays_unopened c.args.config.now c.args.program.now (wire (link.received c.args.link.now) (link.sent c.args.link.now)) (wire (link.received c.open.new.self) (link.sent c.open.new.self))
+    (sink.written c.args.sink.now) c.open.ensures.received c.open.ensures.sent c.in-Err.cause)
 
 pub returns-in_err-start_nodes-clause-plays : goal.returns-in_err-start_nodes-clause-plays
 returns-in_err-start_nodes-clause-plays g c =
@@ -22,8 +22,8 @@ returns-in_err-start_nodes-clause-plays g c =
     let sink = g.K.Sink in
     let p = err_from_is_err_and c.from_residual.result c.from_residual.ensures.1 in
     rw (p.1, p.2)
-    (plays_unstarted c.args.config.now c.in_err-start_nodes.field-0.0 c.in_err-start_nodes.ensures.kind c.args.program.now c.args.program.now
-    (wire (link.received c.args.link.now) (link.sent c.args.link.now)) (wire (link.received c.open.new.self) (link.sent c.open.new.self)) (sink.written c.args.sink.now) c.open.ensures.received)
+    (plays_unstarted c.args.config.now c.args.program.now (wire (link.received c.args.link.now) (link.sent c.args.link.now)) (wire (link.received c.open.new.self) (link.sent c.open.new.self)) (sink.written c.args.sink.now)
+    c.open.ensures.received c.open.ensures.sent c.in_err-start_nodes.field-0.0 c.in_err-start_nodes.ensures.kind)
 
 pub returns-clause-plays : goal.returns-clause-plays
 returns-clause-plays g c =

@@ -1,22 +1,73 @@
-use Rattle.std.proofs.Common.{refl}
+use Rattle.std.proofs.Common.{refl, inl, inr, arith}
 use Rattle.std.proofs.lemmas.Result.{err_from_is_err_and}
 use Rattle.mb_cluster.specs.Runs.{wire}
-use Rattle.mb_cluster.proofs.PlayLemmas.{cut_at_once, asks_stopped, asks_ended, asks_unstopped}
+use Rattle.mb_cluster.proofs.EndLemmas.{none_awaited}
+use Rattle.mb_cluster.proofs.PlayLemmas.{cut_at_once, asks_stopped, asks_ended, asks_unstopped, ends_by_stops, nodes_at_once, nodes_ended, nodes_unstopped, nodes_stopped, waits_each}
 use Rattle.mb_cluster.proofs.cluster.run_cluster.Goals as goal
+
+-- ---- nothing was begun
 
 pub returns-in_err-program-clause-asks : goal.returns-in_err-program-clause-asks
 returns-in_err-program-clause-asks g c =
     let link = g.L.Link in
-    let at = wire (link.received c.args.link.now) (link.sent c.args.link.now) in
     let p = err_from_is_err_and c.from_residual.result c.from_residual.ensures.1 in
-    rw (p.1, p.2) (cut_at_once c.args.config.now c.args.turns at at (g.K.Sink.written c.args.sink.now) refl)
+    rw (p.1, p.2) (cut_at_once c.args.config.now c.args.turns (wire (link.received c.args.link.now) (link.sent c.args.link.now)) (g.K.Sink.written c.args.sink.now))
+
+pub returns-in_err-stop-clause-asks : goal.returns-in_err-stop-clause-asks
+returns-in_err-stop-clause-asks g c =
+    let link = g.L.Link in
+    let p = err_from_is_err_and c.from_residual-in_err-stop.result c.from_residual-in_err-stop.ensures.1 in
+    rw (p.1, p.2) (cut_at_once c.args.config.now c.args.turns (wire (link.received c.args.link.now) (link.sent c.args.link.now)) (g.K.Sink.written c.args.sink.now))
 
 pub returns-in_err-children-clause-asks : goal.returns-in_err-children-clause-asks
 returns-in_err-children-clause-asks g c =
     let link = g.L.Link in
-    let at = wire (link.received c.args.link.now) (link.sent c.args.link.now) in
     let p = err_from_is_err_and c.from_residual-in_err-children.result c.from_residual-in_err-children.ensures.1 in
-    rw (p.1, p.2) (cut_at_once c.args.config.now c.args.turns at at (g.K.Sink.written c.args.sink.now) refl)
+    rw (p.1, p.2) (cut_at_once c.args.config.now c.args.turns (wire (link.received c.args.link.now) (link.sent c.args.link.now)) (g.K.Sink.written c.args.sink.now))
+
+pub returns-in_err-program-clause-opens : goal.returns-in_err-program-clause-opens
+returns-in_err-program-clause-opens g c = let p = err_from_is_err_and c.from_residual.result c.from_residual.ensures.1 in rw (p.1, p.2) (inl refl)
+
+pub returns-in_err-stop-clause-opens : goal.returns-in_err-stop-clause-opens
+returns-in_err-stop-clause-opens g c = let p = err_from_is_err_and c.from_residual-in_err-stop.result c.from_residual-in_err-stop.ensures.1 in rw (p.1, p.2) (inl refl)
+
+pub returns-in_err-children-clause-opens : goal.returns-in_err-children-clause-opens
+returns-in_err-children-clause-opens g c = let p = err_from_is_err_and c.from_residual-in_err-children.result c.from_residual-in_err-children.ensures.1 in rw (p.1, p.2) (inl refl)
+
+pub returns-in_err-program-clause-nodes : goal.returns-in_err-program-clause-nodes
+returns-in_err-program-clause-nodes g c =
+    let p = err_from_is_err_and c.from_residual.result c.from_residual.ensures.1 in
+    rw (p.1, p.2) (nodes_at_once c.args.config.now (g.P.Spawner.starts c.args.spawner.now) (g.P.Spawner.waits c.args.spawner.now))
+
+pub returns-in_err-stop-clause-nodes : goal.returns-in_err-stop-clause-nodes
+returns-in_err-stop-clause-nodes g c =
+    let p = err_from_is_err_and c.from_residual-in_err-stop.result c.from_residual-in_err-stop.ensures.1 in
+    rw (p.1, p.2) (nodes_at_once c.args.config.now (g.P.Spawner.starts c.args.spawner.now) (g.P.Spawner.waits c.args.spawner.now))
+
+pub returns-in_err-children-clause-nodes : goal.returns-in_err-children-clause-nodes
+returns-in_err-children-clause-nodes g c =
+    let p = err_from_is_err_and c.from_residual-in_err-children.result c.from_residual-in_err-children.ensures.1 in
+    rw (p.1, p.2) (nodes_at_once c.args.config.now (g.P.Spawner.starts c.args.spawner.now) (g.P.Spawner.waits c.args.spawner.now))
+
+pub returns-in_err-program-clause-stops : goal.returns-in_err-program-clause-stops
+returns-in_err-program-clause-stops g c = λ never. inl refl
+
+pub returns-in_err-stop-clause-stops : goal.returns-in_err-stop-clause-stops
+returns-in_err-stop-clause-stops g c = λ never. inl refl
+
+pub returns-in_err-children-clause-stops : goal.returns-in_err-children-clause-stops
+returns-in_err-children-clause-stops g c = λ never. inl refl
+
+pub returns-in_err-program-clause-waits : goal.returns-in_err-program-clause-waits
+returns-in_err-program-clause-waits g c = λ never. none_awaited c.args.config.now (g.P.Spawner.faults c.args.spawner.now) (g.P.Spawner.faults c.args.spawner.now) (g.P.Spawner.starts c.args.spawner.now) (g.P.Spawner.waits c.args.spawner.now) (omega arith)
+
+pub returns-in_err-stop-clause-waits : goal.returns-in_err-stop-clause-waits
+returns-in_err-stop-clause-waits g c = λ never. none_awaited c.args.config.now (g.P.Spawner.faults c.args.spawner.now) (g.P.Spawner.faults c.args.spawner.now) (g.P.Spawner.starts c.args.spawner.now) (g.P.Spawner.waits c.args.spawner.now) (omega arith)
+
+pub returns-in_err-children-clause-waits : goal.returns-in_err-children-clause-waits
+returns-in_err-children-clause-waits g c = λ never. none_awaited c.args.config.now (g.P.Spawner.faults c.args.spawner.now) (g.P.Spawner.faults c.args.spawner.now) (g.P.Spawner.starts c.args.spawner.now) (g.P.Spawner.waits c.args.spawner.now) (omega arith)
+
+-- ---- the run stopped
 
 pub returns-in_err-played-clause-asks : goal.returns-in_err-played-clause-asks
 returns-in_err-played-clause-asks g c =
@@ -25,10 +76,25 @@ returns-in_err-played-clause-asks g c =
     let p = err_from_is_err_and c.from_residual-in_err-played.result c.from_residual-in_err-played.ensures.1 in
     rw (p.1, p.2)
     (asks_stopped c.args.config.now c.args.turns c.in_ok-program.program c.play-played.new.program
-    (wire (link.received c.args.link.now) (link.sent c.args.link.now)) (wire (link.received c.play-played.new.link) (link.sent c.play-played.new.link)) (wire (link.received c.send_stops-stopped.new.link) (link.sent c.send_stops-stopped.new.link))
+    (wire (link.received c.args.link.now) (link.sent c.args.link.now)) (wire (link.received c.play-played.new.link) (link.sent c.play-played.new.link)) (wire (link.received c.send-stopped.new.link) (link.sent c.send-stopped.new.link))
     (sink.written c.args.sink.now) (sink.written c.play-played.new.sink)
-    c.in_ok-program.ensures.turns c.in_ok-program.ensures.hosts c.play-played.ensures.hosts c.in_ok-program.ensures.first c.send_stops-stopped.ensures.received
-    c.in_err-played.field-0.0 c.send_stops-stopped.result c.in_err-played.ensures.plays c.send_stops-stopped.ensures.sent)
+    c.in_ok-program.ensures.turns c.in_ok-program.ensures.hosts c.play-played.ensures.hosts c.in_ok-program.ensures.first c.send-stopped.ensures.received
+    c.in_err-played.field-0.0 c.send-stopped.result c.in_err-played.ensures.plays (c.send-stopped.ensures.sent c.args.config.now.secret c.in_ok-stop.ensures.stop))
+
+pub returns-in_err-played-clause-nodes : goal.returns-in_err-played-clause-nodes
+returns-in_err-played-clause-nodes g c =
+    let link = g.L.Link in
+    let sink = g.K.Sink in
+    let spawner = g.P.Spawner in
+    let p = err_from_is_err_and c.from_residual-in_err-played.result c.from_residual-in_err-played.ensures.1 in
+    rw (p.1, p.2)
+    (nodes_stopped c.args.config.now c.play-played.new.children.items (spawner.starts c.args.spawner.now) (spawner.starts c.play-played.new.spawner) (spawner.starts c.await_nodes-awaited.new.spawner)
+    (spawner.waits c.args.spawner.now) (spawner.waits c.play-played.new.spawner) (spawner.waits c.await_nodes-awaited.new.spawner)
+    c.await_nodes-awaited.ensures.starts c.play-played.ensures.waits c.play-played.ensures.few (rw c.deref.ensures.value at c.await_nodes-awaited.ensures.some)
+    c.in_err-played.field-0.0 c.in_ok-program.program c.play-played.new.program (wire (link.received c.args.link.now) (link.sent c.args.link.now)) (wire (link.received c.play-played.new.link) (link.sent c.play-played.new.link))
+    (sink.written c.args.sink.now) (sink.written c.play-played.new.sink) c.in_err-played.ensures.plays c.in_err-played.ensures.starts)
+
+-- ---- it came to its end
 
 pub returns-in-Ok-clause-asks : goal.returns-in-Ok-clause-asks
 returns-in-Ok-clause-asks g c =
@@ -36,10 +102,19 @@ returns-in-Ok-clause-asks g c =
     let sink = g.K.Sink in
     let spawner = g.P.Spawner in
     asks_ended c.args.config.now c.args.turns c.in_ok-program.program c.play-played.new.program
-    (wire (link.received c.args.link.now) (link.sent c.args.link.now)) (wire (link.received c.play-played.new.link) (link.sent c.play-played.new.link)) (wire (link.received c.send_stops-stopped.new.link) (link.sent c.send_stops-stopped.new.link))
+    (wire (link.received c.args.link.now) (link.sent c.args.link.now)) (wire (link.received c.play-played.new.link) (link.sent c.play-played.new.link)) (wire (link.received c.send-stopped.new.link) (link.sent c.send-stopped.new.link))
     (sink.written c.args.sink.now) (sink.written c.play-played.new.sink)
-    c.in_ok-program.ensures.turns c.in_ok-program.ensures.hosts c.play-played.ensures.hosts c.in_ok-program.ensures.first c.send_stops-stopped.ensures.received
-    c.await_nodes-awaited.result c.deref.result.now (spawner.waits c.play-played.new.spawner) (spawner.waits c.await_nodes-awaited.new.spawner) c.in_ok-played.ensures.plays c.in-Ok.ensures.sent c.await_nodes-awaited.ensures.awaited
+    c.in_ok-program.ensures.turns c.in_ok-program.ensures.hosts c.play-played.ensures.hosts c.in_ok-program.ensures.first c.send-stopped.ensures.received
+    c.await_nodes-awaited.result c.deref.result.now (spawner.waits c.play-played.new.spawner) (spawner.waits c.await_nodes-awaited.new.spawner) c.in_ok-played.ensures.plays
+    (c.in-Ok.ensures.sent c.args.config.now.secret c.in_ok-stop.ensures.stop) c.await_nodes-awaited.ensures.awaited
+
+pub returns-in-Ok-clause-nodes : goal.returns-in-Ok-clause-nodes
+returns-in-Ok-clause-nodes g c =
+    let spawner = g.P.Spawner in
+    nodes_ended c.args.config.now c.play-played.new.children.items (spawner.starts c.args.spawner.now) (spawner.starts c.play-played.new.spawner) (spawner.starts c.await_nodes-awaited.new.spawner)
+    (spawner.waits c.args.spawner.now) (spawner.waits c.play-played.new.spawner) (spawner.waits c.await_nodes-awaited.new.spawner)
+    c.await_nodes-awaited.ensures.starts c.play-played.ensures.waits c.play-played.ensures.few (rw c.deref.ensures.value at c.await_nodes-awaited.ensures.some)
+    c.await_nodes-awaited.result c.in_ok-played.ensures.starts (rw c.deref.ensures.value at c.await_nodes-awaited.ensures.awaited)
 
 pub returns-clause-asks : goal.returns-clause-asks
 returns-clause-asks g c =
@@ -47,7 +122,81 @@ returns-clause-asks g c =
     let sink = g.K.Sink in
     rw c.link_stop.ensures
     (asks_unstopped c.args.config.now c.args.turns c.in_ok-program.program c.play-played.new.program
-    (wire (link.received c.args.link.now) (link.sent c.args.link.now)) (wire (link.received c.play-played.new.link) (link.sent c.play-played.new.link)) (wire (link.received c.send_stops-stopped.new.link) (link.sent c.send_stops-stopped.new.link))
+    (wire (link.received c.args.link.now) (link.sent c.args.link.now)) (wire (link.received c.play-played.new.link) (link.sent c.play-played.new.link)) (wire (link.received c.send-stopped.new.link) (link.sent c.send-stopped.new.link))
     (sink.written c.args.sink.now) (sink.written c.play-played.new.sink)
-    c.in_ok-program.ensures.turns c.in_ok-program.ensures.hosts c.play-played.ensures.hosts c.in_ok-program.ensures.first c.send_stops-stopped.ensures.received
-    c.in-Err.cause c.in_ok-played.ensures.plays)
+    c.in_ok-program.ensures.turns c.in_ok-program.ensures.hosts c.play-played.ensures.hosts c.in_ok-program.ensures.first c.send-stopped.ensures.received
+    c.in-Err.cause c.in_ok-played.ensures.plays (c.in-Err.ensures.sent c.args.config.now.secret c.in_ok-stop.ensures.stop))
+
+pub returns-clause-nodes : goal.returns-clause-nodes
+returns-clause-nodes g c =
+    let spawner = g.P.Spawner in
+    rw c.link_stop.ensures
+    (nodes_unstopped c.args.config.now c.play-played.new.children.items (spawner.starts c.args.spawner.now) (spawner.starts c.play-played.new.spawner) (spawner.starts c.await_nodes-awaited.new.spawner)
+    (spawner.waits c.args.spawner.now) (spawner.waits c.play-played.new.spawner) (spawner.waits c.await_nodes-awaited.new.spawner)
+    c.await_nodes-awaited.ensures.starts c.play-played.ensures.waits c.play-played.ensures.few (rw c.deref.ensures.value at c.await_nodes-awaited.ensures.some)
+    c.in-Err.cause c.play-played.ensures.first)
+
+-- ---- whatever was played
+
+pub returns-in_err-played-clause-stops : goal.returns-in_err-played-clause-stops
+returns-in_err-played-clause-stops g c = λ never.
+    let link = g.L.Link in
+    let sink = g.K.Sink in
+    inr
+    (ends_by_stops c.args.config.now c.args.turns c.in_ok-program.program c.play-played.new.program
+    (wire (link.received c.args.link.now) (link.sent c.args.link.now)) (wire (link.received c.play-played.new.link) (link.sent c.play-played.new.link)) (wire (link.received c.send-stopped.new.link) (link.sent c.send-stopped.new.link))
+    (sink.written c.args.sink.now) (sink.written c.play-played.new.sink)
+    c.in_ok-program.ensures.turns c.in_ok-program.ensures.hosts c.play-played.ensures.hosts c.in_ok-program.ensures.first c.send-stopped.ensures.received
+    c.play-played.result (link.faults c.args.link.now) (link.faults c.play-played.new.link) (link.faults c.send-stopped.new.link) c.play-played.ensures.link_faults.later c.play-played.ensures.plays
+    (c.send-stopped.ensures.few never c.args.config.now.secret c.in_ok-stop.ensures.stop))
+
+pub returns-in_err-played-clause-waits : goal.returns-in_err-played-clause-waits
+returns-in_err-played-clause-waits g c = λ never.
+    let spawner = g.P.Spawner in
+    waits_each c.args.config.now c.play-played.new.children.items (spawner.starts c.args.spawner.now) (spawner.starts c.play-played.new.spawner) (spawner.starts c.await_nodes-awaited.new.spawner)
+    (spawner.waits c.args.spawner.now) (spawner.waits c.play-played.new.spawner) (spawner.waits c.await_nodes-awaited.new.spawner)
+    c.await_nodes-awaited.ensures.starts c.play-played.ensures.waits c.play-played.ensures.few (rw c.deref.ensures.value at c.await_nodes-awaited.ensures.some)
+    (spawner.faults c.args.spawner.now) (spawner.faults c.play-played.new.spawner) (spawner.faults c.await_nodes-awaited.new.spawner) c.play-played.ensures.spawner_faults.later c.play-played.ensures.first
+    (rw c.deref.ensures.value at (c.await_nodes-awaited.ensures.few never))
+
+pub returns-in-Ok-clause-stops : goal.returns-in-Ok-clause-stops
+returns-in-Ok-clause-stops g c = λ never.
+    let link = g.L.Link in
+    let sink = g.K.Sink in
+    inr
+    (ends_by_stops c.args.config.now c.args.turns c.in_ok-program.program c.play-played.new.program
+    (wire (link.received c.args.link.now) (link.sent c.args.link.now)) (wire (link.received c.play-played.new.link) (link.sent c.play-played.new.link)) (wire (link.received c.send-stopped.new.link) (link.sent c.send-stopped.new.link))
+    (sink.written c.args.sink.now) (sink.written c.play-played.new.sink)
+    c.in_ok-program.ensures.turns c.in_ok-program.ensures.hosts c.play-played.ensures.hosts c.in_ok-program.ensures.first c.send-stopped.ensures.received
+    c.play-played.result (link.faults c.args.link.now) (link.faults c.play-played.new.link) (link.faults c.send-stopped.new.link) c.play-played.ensures.link_faults.later c.play-played.ensures.plays
+    (c.send-stopped.ensures.few never c.args.config.now.secret c.in_ok-stop.ensures.stop))
+
+pub returns-in-Ok-clause-waits : goal.returns-in-Ok-clause-waits
+returns-in-Ok-clause-waits g c = λ never.
+    let spawner = g.P.Spawner in
+    waits_each c.args.config.now c.play-played.new.children.items (spawner.starts c.args.spawner.now) (spawner.starts c.play-played.new.spawner) (spawner.starts c.await_nodes-awaited.new.spawner)
+    (spawner.waits c.args.spawner.now) (spawner.waits c.play-played.new.spawner) (spawner.waits c.await_nodes-awaited.new.spawner)
+    c.await_nodes-awaited.ensures.starts c.play-played.ensures.waits c.play-played.ensures.few (rw c.deref.ensures.value at c.await_nodes-awaited.ensures.some)
+    (spawner.faults c.args.spawner.now) (spawner.faults c.play-played.new.spawner) (spawner.faults c.await_nodes-awaited.new.spawner) c.play-played.ensures.spawner_faults.later c.play-played.ensures.first
+    (rw c.deref.ensures.value at (c.await_nodes-awaited.ensures.few never))
+
+pub returns-clause-stops : goal.returns-clause-stops
+returns-clause-stops g c = λ never.
+    let link = g.L.Link in
+    let sink = g.K.Sink in
+    inr
+    (ends_by_stops c.args.config.now c.args.turns c.in_ok-program.program c.play-played.new.program
+    (wire (link.received c.args.link.now) (link.sent c.args.link.now)) (wire (link.received c.play-played.new.link) (link.sent c.play-played.new.link)) (wire (link.received c.send-stopped.new.link) (link.sent c.send-stopped.new.link))
+    (sink.written c.args.sink.now) (sink.written c.play-played.new.sink)
+    c.in_ok-program.ensures.turns c.in_ok-program.ensures.hosts c.play-played.ensures.hosts c.in_ok-program.ensures.first c.send-stopped.ensures.received
+    c.play-played.result (link.faults c.args.link.now) (link.faults c.play-played.new.link) (link.faults c.send-stopped.new.link) c.play-played.ensures.link_faults.later c.play-played.ensures.plays
+    (c.send-stopped.ensures.few never c.args.config.now.secret c.in_ok-stop.ensures.stop))
+
+pub returns-clause-waits : goal.returns-clause-waits
+returns-clause-waits g c = λ never.
+    let spawner = g.P.Spawner in
+    waits_each c.args.config.now c.play-played.new.children.items (spawner.starts c.args.spawner.now) (spawner.starts c.play-played.new.spawner) (spawner.starts c.await_nodes-awaited.new.spawner)
+    (spawner.waits c.args.spawner.now) (spawner.waits c.play-played.new.spawner) (spawner.waits c.await_nodes-awaited.new.spawner)
+    c.await_nodes-awaited.ensures.starts c.play-played.ensures.waits c.play-played.ensures.few (rw c.deref.ensures.value at c.await_nodes-awaited.ensures.some)
+    (spawner.faults c.args.spawner.now) (spawner.faults c.play-played.new.spawner) (spawner.faults c.await_nodes-awaited.new.spawner) c.play-played.ensures.spawner_faults.later c.play-played.ensures.first
+    (rw c.deref.ensures.value at (c.await_nodes-awaited.ensures.few never))

@@ -1,9 +1,24 @@
-use Rattle.std.proofs.Common.{◌≡◌, ◌∷◌, ◌++◌, [], ◌<◌, length, take, get_or, sym, ◌∙◌, arith}
+use Rattle.std.proofs.Common.{◌≡◌, ◌∷◌, ◌++◌, [], ◌<◌, length, take, get_or, refl, sym, ◌∙◌, arith}
 use Rattle.std.proofs.lemmas.List.{take_more, length-take-le}
 use Rattle.mb_cluster.specs.Ends.{after_wait}
-use Rattle.mb_edge.proofs.FaultLemmas.{tells_both, tells_call}
-use Rattle.mb_cluster.proofs.EndLemmas.{Waited, waited_more, fault_of, well_more}
+use Rattle.mb_edge.proofs.FaultLemmas.{tells_both, tells_none, tells_call}
+use Rattle.mb_cluster.proofs.WireLemmas.{more_none}
+use Rattle.mb_cluster.proofs.FewLemmas.{awaits_none, awaits_more}
+use Rattle.mb_cluster.proofs.EndLemmas.{Waited, waited_more, some_none, some_waited, fault_of, well_more}
 use Rattle.mb_cluster.proofs.nodes.await_nodes.Goals as goal
+
+pub loop-child-init : goal.loop-child-init
+loop-child-init g c =
+    let spawner = g.P.Spawner in
+    record {
+      host = refl;
+      waited = record { awaits = record { statuses = []; each = refl; waits = more_none (spawner.waits c.args.spawner.now); ended = refl }; bad_ends = refl };
+      some = some_none (spawner.waits c.args.spawner.now);
+      few = λ never. awaits_none (spawner.faults c.args.spawner.now) (spawner.faults c.args.spawner.now) (spawner.waits c.args.spawner.now) (omega arith);
+      starts = refl;
+      well = λ well. (well, tt);
+      faults = tells_none (spawner.faults c.args.spawner.now) (λ is. absurd cc);
+    }
 
 pub loop-child-preserved : goal.loop-child-preserved
 loop-child-preserved g c =
@@ -19,6 +34,10 @@ loop-child-preserved g c =
     record {
       host = omega (arith, now.host);
       waited = rw (take_more children i 0, c.after_wait-ended.ensures) (rw len at more);
+      some = rw (take_more children i 0) (some_waited (take i children) (get_or children i 0) c.wait.result (spawner.waits c.args.spawner.now) (spawner.waits c.loop-child.spawner) (spawner.waits c.wait.new.self) now.some c.wait.ensures.waits);
+      few = λ never. rw (take_more children i 0)
+          (awaits_more (take i children) (get_or children i 0) c.wait.result (spawner.faults c.args.spawner.now) (spawner.faults c.loop-child.spawner) (spawner.faults c.wait.new.self) (spawner.waits c.args.spawner.now) (spawner.waits c.loop-child.spawner) (spawner.waits c.wait.new.self)
+          (now.few never) c.wait.ensures.waits c.wait.ensures.cause (c.wait.ensures.ample never));
       starts = c.wait.ensures.starts ∙ now.starts;
       well = λ well. (c.wait.ensures.well (now.well well).0, rw c.after_wait-ended.ensures (well_more c.loop-child.host c.wait.result c.loop-child.ended (now.well well).1 (c.wait.ensures.zero (now.well well).0)));
       faults = tells_both (spawner.faults c.args.spawner.now) (spawner.faults c.loop-child.spawner) (spawner.faults c.wait.new.self) now.faults

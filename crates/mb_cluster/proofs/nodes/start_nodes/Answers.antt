@@ -1,16 +1,17 @@
-use Rattle.std.proofs.Common.{◌≡◌, ◌∷◌, [], refl, ◌∙◌}
+use Rattle.std.proofs.Common.{◌≡◌, ◌∷◌, [], refl, ◌∙◌, arith}
 use Rattle.mb_edge.specs.Told.{with_more}
 use Rattle.mb_sched.specs.Configs.{config_text}
 use Rattle.mb_cluster.specs.Nodes.{node_start}
 use Rattle.mb_edge.proofs.FaultLemmas.{tells_both, tells_none}
-use Rattle.mb_cluster.proofs.EndLemmas.{started_none, started_more}
+use Rattle.mb_cluster.proofs.EndLemmas.{started_none, started_more, started_kept, started_as}
 use Rattle.mb_cluster.proofs.nodes.start_nodes.Goals as goal
 
 pub loop-host-init : goal.loop-host-init
 loop-host-init g c =
     let spawner = g.P.Spawner in
     record {
-      started = started_none c.args.config.now c.args.children.now.items (spawner.starts c.args.spawner.now) c.requires;
+      started = started_none c.args.config.now c.args.children.now.items (spawner.starts c.args.spawner.now) c.requires.none;
+      room = c.requires.room;
       waits = refl;
       bad_ends = refl;
       well = λ well. well;
@@ -27,9 +28,32 @@ loop-host-preserved g c =
     let told : spawner.starts c.start_node.new.spawner ≡ with_more (spawner.starts c.loop-host.spawner) ((child, node_start (config_text config) host) ∷ []) =
     rw (c.deref.ensures.value, c.in_ok-text.ensures) at c.in_ok-start_node.ensures.starts in
     record {
-      started = rw c.in_ok-push.ensures.items (started_more config host c.loop-host.children.items child (spawner.starts c.args.spawner.now) (spawner.starts c.loop-host.spawner) (spawner.starts c.start_node.new.spawner) now.started told);
+      started = rw c.push_reserved.ensures.items (started_more config host c.loop-host.children.items child (spawner.starts c.args.spawner.now) (spawner.starts c.loop-host.spawner) (spawner.starts c.start_node.new.spawner) now.started told);
+      room = rw c.push_reserved.ensures.capacity now.room;
       waits = c.start_node.ensures.waits ∙ now.waits;
       bad_ends = c.start_node.ensures.bad_ends ∙ now.bad_ends;
       well = λ well. c.start_node.ensures.well (now.well well);
       faults = tells_both (spawner.faults c.args.spawner.now) (spawner.faults c.loop-host.spawner) (spawner.faults c.start_node.new.spawner) now.faults c.in_ok-start_node.ensures.faults (λ no. absurd no);
     }
+
+-- nothing was started yet
+pub returns-in_err-text-clause-started : goal.returns-in_err-text-clause-started
+returns-in_err-text-clause-started g c =
+    let spawner = g.P.Spawner in
+    started_as c.args.config.now 0 c.args.children.now.items (spawner.starts c.args.spawner.now) (spawner.starts c.args.spawner.now)
+    (started_none c.args.config.now c.args.children.now.items (spawner.starts c.args.spawner.now) c.requires.none)
+
+-- the next start failed
+pub returns-in_err-start_node-clause-started : goal.returns-in_err-start_node-clause-started
+returns-in_err-start_node-clause-started g c =
+    let spawner = g.P.Spawner in
+    started_kept c.args.config.now c.loop-host.host c.loop-host.children.items (spawner.starts c.args.spawner.now) (spawner.starts c.loop-host.spawner) (spawner.starts c.start_node.new.spawner) c.loop-host.invariant.started c.in_err-start_node.ensures.starts
+
+pub returns-clause-started : goal.returns-clause-started
+returns-clause-started g c =
+    let spawner = g.P.Spawner in
+    started_as c.args.config.now c.loop-host.host c.loop-host.children.items (spawner.starts c.args.spawner.now) (spawner.starts c.loop-host.spawner) c.loop-host.invariant.started
+
+-- the list has room for each node
+pub push_reserved-requires : goal.push_reserved-requires
+push_reserved-requires g c = omega (arith, c.loop-host.invariant.room, c.loop-host.invariant.started.each, c.loop-host.children.ok.0)

@@ -4,7 +4,7 @@ use Rattle.std.proofs.lemmas.Option.{slice_get_read}
 use Rattle.mb_edge.specs.Told.{with_more}
 use Rattle.mb_cluster.specs.Posts.{to_host}
 use Rattle.mb_edge.proofs.FaultLemmas.{tells_both, tells_call}
-use Rattle.mb_cluster.proofs.SendLemmas.{sends_one, sends_both, sends_stop, to_host_more, to_host_parts, not_ok}
+use Rattle.mb_cluster.proofs.SendLemmas.{fronts_one, fronts_both, fronts_kept, fronts_stop, to_host_more, to_host_parts, not_ok}
 use Rattle.mb_cluster.proofs.posting.send_to.Goals as goal
 
 pub loop-piece-preserved : goal.loop-piece-preserved
@@ -19,8 +19,8 @@ loop-piece-preserved g c =
     let told : link.sent c.send.new.self ≡ with_more (link.sent c.loop-piece.link) ((host, piece) ∷ []) = rw c.as_slice.ensures at c.in_ok-send.ensures.sent in
     record {
       sent = rw (to_host_more pieces host i piece at)
-          (sends_both (to_host (take i pieces) host) ((host, piece) ∷ []) (Ok tt) (Ok tt) (link.sent c.args.link.now) (link.sent c.loop-piece.link) (link.sent c.send.new.self) now.sent
-          (sends_one (host, piece) (link.sent c.loop-piece.link) (link.sent c.send.new.self) told));
+          (fronts_both (to_host (take i pieces) host) ((host, piece) ∷ []) (Ok tt) (link.sent c.args.link.now) (link.sent c.loop-piece.link) (link.sent c.send.new.self) now.sent
+          (fronts_one (host, piece) (link.sent c.loop-piece.link) (link.sent c.send.new.self) told));
       received = c.in_ok-send.ensures.received ∙ now.received;
       opens = c.in_ok-send.ensures.opens ∙ now.opens;
       faults = tells_both (link.faults c.args.link.now) (link.faults c.loop-piece.link) (link.faults c.send.new.self) now.faults
@@ -33,5 +33,7 @@ returns-in_err-send-clause-sent g c =
     let i = c.loop-piece.piece-index in
     let host = c.args.host in
     let pieces = c.args.pieces.now in
-    sends_stop (to_host pieces host) (to_host (take i pieces) host) (to_host (drop i pieces) host) (Ok tt) c.from_residual.result (link.sent c.args.link.now) (link.sent c.loop-piece.link) (link.sent c.send.new.self)
-    (to_host_parts pieces host i) c.loop-piece.invariant.sent c.in_err-send.ensures.sent (not_ok _ c.from_residual.result c.from_residual.ensures.1)
+    fronts_stop (to_host pieces host) (to_host (take i pieces) host) (to_host (drop i pieces) host) (Ok tt) c.from_residual.result (link.sent c.args.link.now) (link.sent c.send.new.self)
+    (to_host_parts pieces host i)
+    (fronts_kept (to_host (take i pieces) host) (link.sent c.args.link.now) (link.sent c.loop-piece.link) (link.sent c.send.new.self) c.loop-piece.invariant.sent c.in_err-send.ensures.sent)
+    (not_ok _ c.from_residual.result c.from_residual.ensures.1)

@@ -2,14 +2,14 @@ use Rattle.std.proofs.Common.{◌≡◌, take, Ok}
 use Rattle.mb_edge.specs.declared.outside.Failed.{Failed}
 use Rattle.mb_edge.specs.Faults.{TellsFaults}
 use Rattle.mb_cluster.specs.Posts.{to_host}
-use Rattle.mb_cluster.specs.Sends.{SendsSome}
+use Rattle.mb_cluster.specs.Sends.{SendsFront}
 use Rattle.mb_cluster.proofs.posting.send_to.Given as goal
 
 abbrev pub invariant-loop-piece : goal.invariant-loop-piece
 invariant-loop-piece g l =
     let link = g.L.Link in
     record {
-      sent : SendsSome {E = Failed} (to_host (take l.piece-index l.pieces) l.host) (Ok tt) (link.sent l.fn.link) (link.sent l.link);
+      sent : SendsFront {E = Failed} (to_host (take l.piece-index l.pieces) l.host) (Ok tt) (link.sent l.fn.link) (link.sent l.link);
       received : link.received l.link ≡ link.received l.fn.link;
       opens : link.opens l.link ≡ link.opens l.fn.link;
       faults : TellsFaults (link.never_fails l.fn.link) (link.never_fails l.link) (link.faults l.fn.link) (link.faults l.link) ⊥;

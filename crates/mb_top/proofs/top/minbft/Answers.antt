@@ -5,6 +5,7 @@ use Rattle.mb_top.proofs.Answered.{reports, reported_is_unstopped, tells_forged,
 use Rattle.mb_top.proofs.Promised.{hold_at_each_event, hold_throughout, hold_before_forged}
 use Rattle.mb_top.proofs.SoakLaws.{all_hold}
 use Rattle.mb_serving.proofs.RecordLaws.{retrace_completes}
+use Rattle.mb_serving.proofs.WrittenLaws.{retraces_left}
 use Rattle.mb_answer.proofs.ConfigLaws.{cluster_completes}
 use Rattle.mb_serving.proofs.NodeLaws.{node_completes}
 use Rattle.mb_reviewing.proofs.AuditLaws.{audit_completes}
@@ -56,6 +57,10 @@ returns-clause-retrace g c = λ asked. retraces _ _ _ _ c.run.ensures.does (c.co
 pub returns-clause-retrace_complete : goal.returns-clause-retrace_complete
 returns-clause-retrace_complete g c = λ asked.
     IfSome_then (g.S.Source.left c.args.source.now) (retraces _ _ _ _ c.run.ensures.does (c.command_in.ensures.command ∙ asked)) (λ text r. retrace_completes text _ _ _ _ _ r)
+
+pub returns-clause-retrace_left : goal.returns-clause-retrace_left
+returns-clause-retrace_left g c = λ asked.
+    IfSome_then (g.S.Source.left c.args.source.now) (retraces _ _ _ _ c.run.ensures.does (c.command_in.ensures.command ∙ asked)) (λ text r. retraces_left text _ _ _ _ _ r)
 
 pub returns-clause-node : goal.returns-clause-node
 returns-clause-node g c = λ host n asked. nodes _ _ _ _ c.run.ensures.does host n (c.command_in.ensures.command ∙ asked)

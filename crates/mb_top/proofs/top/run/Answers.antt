@@ -1,6 +1,6 @@
-use Rattle.std.proofs.Common.{◌≡◌, Option, Some, IfSome, refl, ap, subst, ◌∙◌}
+use Rattle.std.proofs.Common.{◌≡◌, inl, Option, Some, IfSome, refl, ap, subst, ◌∙◌}
 use Rattle.mb_edge.proofs.FaultLemmas.{tells_none}
-use Rattle.mb_answer.proofs.ConfigLaws.{no_ends, ends_none}
+use Rattle.mb_answer.proofs.ConfigLaws.{no_ends, ends_none, none_started}
 use Rattle.mb_answer.proofs.Statuses.{low_no_link, low_no_spawner}
 use Rattle.mb_top.specs.Commands.{IsWithin}
 use Rattle.mb_top.specs.declared.command.Command.{Command}
@@ -171,3 +171,39 @@ returns-in-None-clause-spawner g c = tells_none _ (low_no_spawner _ c.say.ensure
 
 pub returns-in-None-clause-bad_ends : goal.returns-in-None-clause-bad_ends
 returns-in-None-clause-bad_ends g c = no_ends _ _ _ c.say.ensures.low
+
+pub returns-in-Some-Replay-clause-stops : goal.returns-in-Some-Replay-clause-stops
+returns-in-Some-Replay-clause-stops g c = λ never. inl refl
+
+pub returns-in-Some-Replay-clause-waits : goal.returns-in-Some-Replay-clause-waits
+returns-in-Some-Replay-clause-waits g c = λ never. none_started (g.S.Source.left c.args.source.now) (g.P.Spawner.faults c.args.spawner.now) (g.P.Spawner.starts c.args.spawner.now) (g.P.Spawner.waits c.args.spawner.now)
+
+pub returns-in-Some-Soak-clause-stops : goal.returns-in-Some-Soak-clause-stops
+returns-in-Some-Soak-clause-stops g c = λ never. inl refl
+
+pub returns-in-Some-Soak-clause-waits : goal.returns-in-Some-Soak-clause-waits
+returns-in-Some-Soak-clause-waits g c = λ never. none_started (g.S.Source.left c.args.source.now) (g.P.Spawner.faults c.args.spawner.now) (g.P.Spawner.starts c.args.spawner.now) (g.P.Spawner.waits c.args.spawner.now)
+
+pub returns-in-Some-Node-clause-stops : goal.returns-in-Some-Node-clause-stops
+returns-in-Some-Node-clause-stops g c = λ never. inl refl
+
+pub returns-in-Some-Node-clause-waits : goal.returns-in-Some-Node-clause-waits
+returns-in-Some-Node-clause-waits g c = λ never. none_started (g.S.Source.left c.args.source.now) (g.P.Spawner.faults c.args.spawner.now) (g.P.Spawner.starts c.args.spawner.now) (g.P.Spawner.waits c.args.spawner.now)
+
+pub returns-in-Some-Retrace-clause-stops : goal.returns-in-Some-Retrace-clause-stops
+returns-in-Some-Retrace-clause-stops g c = λ never. inl refl
+
+pub returns-in-Some-Retrace-clause-waits : goal.returns-in-Some-Retrace-clause-waits
+returns-in-Some-Retrace-clause-waits g c = λ never. none_started (g.S.Source.left c.args.source.now) (g.P.Spawner.faults c.args.spawner.now) (g.P.Spawner.starts c.args.spawner.now) (g.P.Spawner.waits c.args.spawner.now)
+
+pub returns-in-Some-Audit-clause-stops : goal.returns-in-Some-Audit-clause-stops
+returns-in-Some-Audit-clause-stops g c = λ never. inl refl
+
+pub returns-in-Some-Audit-clause-waits : goal.returns-in-Some-Audit-clause-waits
+returns-in-Some-Audit-clause-waits g c = λ never. none_started (g.S.Source.left c.args.source.now) (g.P.Spawner.faults c.args.spawner.now) (g.P.Spawner.starts c.args.spawner.now) (g.P.Spawner.waits c.args.spawner.now)
+
+pub returns-in-None-clause-stops : goal.returns-in-None-clause-stops
+returns-in-None-clause-stops g c = λ never. inl refl
+
+pub returns-in-None-clause-waits : goal.returns-in-None-clause-waits
+returns-in-None-clause-waits g c = λ never. none_started (g.S.Source.left c.args.source.now) (g.P.Spawner.faults c.args.spawner.now) (g.P.Spawner.starts c.args.spawner.now) (g.P.Spawner.waits c.args.spawner.now)

@@ -1,4 +1,4 @@
-use Rattle.std.proofs.Common.{◌≡◌, ◌+◌, ◌∷◌, [], refl, arith}
+use Rattle.std.proofs.Common.{◌≡◌, ◌+◌, refl, arith}
 use Rattle.mb_cluster.specs.Runs.{wire}
 use Rattle.mb_cluster.proofs.StepLemmas.{line_written, spends_one, link_stops}
 use Rattle.mb_cluster.proofs.asking.Program.ask_one.Goals as goal
@@ -25,6 +25,6 @@ returns-in-Err-clause-asks g c = λ s secret side listens.
     let link = g.L.Link in
     let sink = g.K.Sink in
     rw c.link_stop.ensures
-    (link_stops s secret (c.args.op.now ∷ []) c.in-Err.cause side c.args.self.now c.exchange.new.self
+    (link_stops s secret c.args.op.now c.in-Err.cause side c.args.self.now c.exchange.new.self
     (wire (link.received c.args.link.now) (link.sent c.args.link.now)) (wire (link.received c.exchange.new.link) (link.sent c.exchange.new.link)) (sink.written c.args.sink.now)
     (c.in-Err.ensures.exchanges s secret side listens))

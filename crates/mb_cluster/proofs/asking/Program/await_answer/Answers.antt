@@ -33,9 +33,9 @@ returns-in-Err-clause-awaits g c = λ s secret side listens waits.
     let now = c.loop.invariant in
     let w = now.waits s secret side listens waits in
     let few : c.loop.counter + 1 ≤ c.args.self.now.turns = omega arith in
-    stops_more s secret c.loop.counter c.args.self.now.turns c.args.request.now c.in-Err.cause side c.args.self.now c.loop.self
+    stops_more s secret c.loop.counter c.args.self.now.turns c.args.request.now c.in-Err.cause side c.args.self.now c.loop.self c.receive.new.self
     (wire (link.received c.args.link.now) (link.sent c.args.link.now)) (wire (link.received c.loop.link) (link.sent c.loop.link)) (wire (link.received c.receive.new.link) (link.sent c.receive.new.link))
-    few w waits (c.in-Err.ensures.receives s secret (hears_all s secret side w.got) w.does.listens)
+    now.hosts few w waits (c.in-Err.ensures.receives s secret (hears_all s secret side w.got) w.does.listens)
 
 pub loop-preserved : goal.loop-preserved
 loop-preserved g c =

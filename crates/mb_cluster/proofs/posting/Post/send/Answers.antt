@@ -1,21 +1,21 @@
-use Rattle.std.proofs.Common.{◌≡◌, refl, sym, subst, ◌∙◌, arith}
+use Rattle.std.proofs.Common.{◌≡◌, ℕ, List, ◌+◌, ◌-◌, ◌++◌, Ok, refl, ap, subst, ◌∙◌, arith}
 use Rattle.std.specs.List.{flat_map, range_with_len}
-use Rattle.mb_edge.specs.declared.outside.Failed.TheVariants.{Device}
-use Rattle.mb_cluster.specs.Posts.{to_host, to_all}
-use Rattle.mb_cluster.specs.Sends.{SendsSome}
+use Rattle.mb_base.specs.Shapes.{Bytes}
+use Rattle.mb_frag.specs.Cutting.{pieces_of}
+use Rattle.mb_cluster.specs.Posts.{program, to_host, to_all}
+use Rattle.mb_cluster.specs.Sends.{SendsFront}
 use Rattle.mb_edge.proofs.FaultLemmas.{tells_both, tells_none}
-use Rattle.mb_cluster.proofs.FaultLemmas.{either_failed}
-use Rattle.mb_cluster.proofs.SendLemmas.{sends_none, sends_both, sends_nothing, hosts_more, not_ok}
+use Rattle.mb_cluster.proofs.SendLemmas.{fronts_none, fronts_both, fronts_nothing, fronts_stop, hosts_more, hosts_parts, not_ok}
 use Rattle.mb_cluster.proofs.posting.Post.send.Goals as goal
 
 pub loop-host-init : goal.loop-host-init
 loop-host-init g c =
     let link = g.L.Link in
     record {
-      sent = sends_none (link.sent c.args.link.now);
+      sent = fronts_none (link.sent c.args.link.now);
       received = refl;
       opens = refl;
-      faults = tells_none (link.faults c.args.link.now) (λ is. absurd cc);
+      faults = tells_none (link.faults c.args.link.now) (λ no. no);
     }
 
 pub loop-host-preserved : goal.loop-host-preserved
@@ -25,22 +25,38 @@ loop-host-preserved g c =
     let host = c.loop-host.host in
     let pieces = c.in_ok-pieces.pieces.items in
     record {
-      sent = rw (hosts_more pieces host, c.first_failure-sent.ensures)
-          (sends_both (flat_map (to_host pieces) (range_with_len 0 host)) (to_host pieces host) c.loop-host.sent c.send_to.result (link.sent c.args.link.now) (link.sent c.loop-host.link) (link.sent c.send_to.new.link) now.sent
-          (rw c.deref.ensures.value at c.send_to.ensures.sent));
-      received = c.send_to.ensures.received ∙ now.received;
-      opens = c.send_to.ensures.opens ∙ now.opens;
-      faults = tells_both (link.faults c.args.link.now) (link.faults c.loop-host.link) (link.faults c.send_to.new.link) now.faults c.send_to.ensures.faults
-          (λ is. either_failed c.loop-host.sent c.send_to.result Device (sym c.first_failure-sent.ensures ∙ is));
+      sent = rw (hosts_more pieces host)
+          (fronts_both (flat_map (to_host pieces) (range_with_len 0 host)) (to_host pieces host) (Ok tt) (link.sent c.args.link.now) (link.sent c.loop-host.link) (link.sent c.send_to.new.link) now.sent
+          (rw c.deref.ensures.value at c.in_ok-send_to.ensures.sent));
+      received = c.in_ok-send_to.ensures.received ∙ now.received;
+      opens = c.in_ok-send_to.ensures.opens ∙ now.opens;
+      faults = tells_both (link.faults c.args.link.now) (link.faults c.loop-host.link) (link.faults c.send_to.new.link) now.faults c.in_ok-send_to.ensures.faults (λ no. absurd no);
     }
+
+pub returns-in_err-send_to-clause-sent : goal.returns-in_err-send_to-clause-sent
+returns-in_err-send_to-clause-sent g c =
+    let link = g.L.Link in
+    let host = c.loop-host.host in
+    let hosts = c.args.self.now.hosts in
+    let pieces = c.in_ok-pieces.pieces.items in
+    let earlier = flat_map (to_host pieces) (range_with_len 0 host) in
+    let later = flat_map (to_host pieces) (range_with_len (host + 1) (hosts - (host + 1))) in
+    let begun = fronts_both earlier (to_host pieces host) c.send_to.result (link.sent c.args.link.now) (link.sent c.loop-host.link) (link.sent c.send_to.new.link) c.loop-host.invariant.sent
+    (rw c.deref.ensures.value at c.send_to.ensures.sent) in
+    let pieces_are : pieces ≡ pieces_of program c.args.self.now.number c.args.message.now = c.in_ok-pieces.ensures.pieces ∙ ap (λ (n : ℕ). pieces_of program n c.args.message.now) c.take_number-number.ensures.number in
+    subst (λ (ps : List Bytes). SendsFront (flat_map (to_host ps) (range_with_len 0 hosts)) c.from_residual-in_err-send_to.result (link.sent c.args.link.now) (link.sent c.send_to.new.link)) pieces_are
+    (fronts_stop (flat_map (to_host pieces) (range_with_len 0 hosts)) (earlier ++ to_host pieces host) later c.send_to.result c.from_residual-in_err-send_to.result (link.sent c.args.link.now) (link.sent c.send_to.new.link)
+    (hosts_parts pieces host hosts (omega arith)) begun (not_ok _ c.from_residual-in_err-send_to.result c.from_residual-in_err-send_to.ensures.1))
 
 pub returns-clause-sent : goal.returns-clause-sent
 returns-clause-sent g c =
     let link = g.L.Link in
     let now = c.loop-host.invariant in
     let end : c.loop-host.host ≡ c.args.self.now.hosts = omega arith in
-    let at_end = subst (λ n. SendsSome (flat_map (to_host c.in_ok-pieces.pieces.items) (range_with_len 0 n)) c.loop-host.sent (link.sent c.args.link.now) (link.sent c.loop-host.link)) end now.sent in
-    subst (λ ps. SendsSome (flat_map (to_host ps) (range_with_len 0 c.args.self.now.hosts)) c.loop-host.sent (link.sent c.args.link.now) (link.sent c.loop-host.link)) c.in_ok-pieces.ensures.pieces at_end
+    let pieces = c.in_ok-pieces.pieces.items in
+    let pieces_are : pieces ≡ pieces_of program c.args.self.now.number c.args.message.now = c.in_ok-pieces.ensures.pieces ∙ ap (λ (n : ℕ). pieces_of program n c.args.message.now) c.take_number-number.ensures.number in
+    let at_end = subst (λ n. SendsFront (flat_map (to_host pieces) (range_with_len 0 n)) (Ok tt) (link.sent c.args.link.now) (link.sent c.loop-host.link)) end now.sent in
+    subst (λ ps. SendsFront (flat_map (to_host ps) (range_with_len 0 c.args.self.now.hosts)) (Ok tt) (link.sent c.args.link.now) (link.sent c.loop-host.link)) pieces_are at_end
 
 pub returns-in_err-pieces-clause-sent : goal.returns-in_err-pieces-clause-sent
-returns-in_err-pieces-clause-sent g c = sends_nothing (to_all c.args.self.now.hosts c.args.self.now.number c.args.message.now) c.from_residual.result (g.L.Link.sent c.args.link.now) (not_ok _ c.from_residual.result c.from_residual.ensures.1)
+returns-in_err-pieces-clause-sent g c = fronts_nothing (to_all c.args.self.now.hosts c.args.self.now.number c.args.message.now) c.from_residual.result (g.L.Link.sent c.args.link.now) (not_ok _ c.from_residual.result c.from_residual.ensures.1)

@@ -1,18 +1,17 @@
-use Rattle.std.proofs.Common.{◌≡◌}
+use Rattle.std.proofs.Common.{◌≡◌, Ok}
 use Rattle.std.specs.List.{flat_map, range_with_len}
-use Rattle.std.specs.Result.{IsErrOf}
-use Rattle.mb_edge.specs.declared.outside.Failed.TheVariants.{Device}
+use Rattle.mb_edge.specs.declared.outside.Failed.{Failed}
 use Rattle.mb_edge.specs.Faults.{TellsFaults}
 use Rattle.mb_cluster.specs.Posts.{to_host}
-use Rattle.mb_cluster.specs.Sends.{SendsSome}
+use Rattle.mb_cluster.specs.Sends.{SendsFront}
 use Rattle.mb_cluster.proofs.posting.Post.send.Given as goal
 
 abbrev pub invariant-loop-host : goal.invariant-loop-host
 invariant-loop-host g l =
     let link = g.L.Link in
     record {
-      sent : SendsSome (flat_map (to_host l.pieces.items) (range_with_len 0 l.host)) l.sent (link.sent l.fn.link) (link.sent l.link);
+      sent : SendsFront {E = Failed} (flat_map (to_host l.pieces.items) (range_with_len 0 l.host)) (Ok tt) (link.sent l.fn.link) (link.sent l.link);
       received : link.received l.link ≡ link.received l.fn.link;
       opens : link.opens l.link ≡ link.opens l.fn.link;
-      faults : TellsFaults (link.never_fails l.fn.link) (link.never_fails l.link) (link.faults l.fn.link) (link.faults l.link) (IsErrOf l.sent Device);
+      faults : TellsFaults (link.never_fails l.fn.link) (link.never_fails l.link) (link.faults l.fn.link) (link.faults l.link) ⊥;
     }

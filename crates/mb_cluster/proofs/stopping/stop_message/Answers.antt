@@ -3,7 +3,7 @@ use Rattle.mb_base.specs.Shapes.{Bytes}
 use Rattle.mb_msg.specs.declared.message.Message.TheVariants.{Stop}
 use Rattle.mb_msg.specs.Spelling.{spelling}
 use Rattle.mb_cluster.proofs.SizeLemmas.{spelled_some, small_stop, stop_tag_length}
-use Rattle.mb_cluster.proofs.asking.stop_message.Goals as goal
+use Rattle.mb_cluster.proofs.stopping.stop_message.Goals as goal
 
 pub encode_own-requires : goal.encode_own-requires
 encode_own-requires c = small_stop c.args.shape.now (record { tag = c.tag_stop-tag.result }) (rw (c.tag_stop-tag.ensures, c.new.ensures) (stop_tag_length c.args.secret.now))

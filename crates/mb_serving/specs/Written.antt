@@ -1,0 +1,52 @@
+-- What a node writes, also where it was cut off: a record of its host's own steps, as far as it has whole pairs of lines.
+use Rattle.std.specs.Prelude.{◌≡◌, ℕ, ◌≤◌, ◌<◌, ◌⊎◌, ◌++◌, List, [], length, Option}
+use Rattle.std.specs.List.{flat_map, AllByRecursion}
+use Rattle.std.specs.Io.KnownBytes.{Appends}
+use Rattle.mb_base.specs.Shapes.{Bytes, host_count}
+use Rattle.mb_msg.specs.declared.event.Event.{Event}
+use Rattle.mb_node.specs.Recording.{entries_of, lines_of}
+use Rattle.mb_sched.specs.declared.configs.Config.{Config}
+use Rattle.mb_sched.specs.declared.records.Entry.{Entry}
+use Rattle.mb_sched.specs.declared.records.Record.{Record}
+use Rattle.mb_sched.specs.Configs.{SettingsFit}
+use Rattle.mb_sched.specs.Records.{max_record, record_head, entry_text, EventFits, IsShort}
+use Rattle.mb_answer.specs.Devices.{Device}
+use Rattle.mb_answer.specs.Records.{IsRecordText}
+use Rattle.mb_serving.specs.Records.{host_of, IsOwnRecord, same_text}
+
+-- a host of a config
+module _ (c : Config) (host : ℕ) where
+  -- A first part of what the host writes of these events behind the record's first lines: with those it is the text of a record of the host's own entries. They
+  -- are those of the first events, as many as have whole pairs of lines.
+  pub record IsOwnSoFar (es : List Event) (part : Bytes) : Type 0 where
+    pub read : Record
+    pub is : IsRecordText (record_head c host ++ part) read
+    pub own : IsOwnRecord read
+    pub later : List Entry
+    pub first : read.entries ++ later ≡ entries_of (host_of c host) [] es
+    pub cut : Bytes
+    pub parts : part ≡ flat_map entry_text read.entries ++ cut
+    pub short : IsShort cut later
+
+  -- A first part was written of the record's first lines and the lines of these events.
+  pub record WritesFront (es : List Event) (old new : Option Bytes) : Type 0 where
+    pub part : Bytes
+    pub rest : Bytes
+    pub whole : part ++ rest ≡ record_head c host ++ lines_of (host_of c host) [] es
+    pub written : Appends old new part
+
+  -- The text is what the host left of these events: the record's first lines, and a first part of what stands behind them.
+  pub record IsLeft (es : List Event) (text : Bytes) : Type 0 where
+    pub settings : SettingsFit c
+    pub there : host < host_count c.shape
+    pub of_bytes : AllByRecursion EventFits es
+    pub part : Bytes
+    pub rest : Bytes
+    pub whole : part ++ rest ≡ lines_of (host_of c host) [] es
+    pub text_is : text ≡ record_head c host ++ part
+    pub within : length text ≤ max_record
+
+-- What a node left is answered by how many of its events have whole pairs of lines, unless memory runs out or a device fails.
+abbrev pub RetracesLeft : Bytes → ℕ → Type 0 → Device → Device → Type 0
+RetracesLeft text status fault old new = (c : Config) (host : ℕ) (es : List Event) (left : IsLeft c host es text) → ¬ fault
+    → (status ≡ 4) ⊎ ((status ≡ 0) × ((own : IsOwnSoFar c host es left.part) × Appends old.bytes new.bytes (same_text (length own.read.entries))))
