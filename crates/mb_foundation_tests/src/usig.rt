@@ -116,6 +116,23 @@ fn tags_of_clients(rt: HostRuntime) {
     assert!(rt; !pen.verify_reply(REPLY, REPLY_TAG));
 }
 
+// What is right is remembered as it is asked first, and compared as it is asked again.
+#[test]
+fn what_is_remembered_is_answered_alike(rt: HostRuntime) {
+    let shape = Shape::new(1, 4, 4).expect(&rt, "1, 4 and 4 are a shape");
+    let mut usig = Usig::new(shape, 2, &SECRET).remembering(rt.alloc());
+    let first = usig
+        .create_ui(b"first message")
+        .expect(&rt, "counters are left");
+    assert_eq!(rt; first.cert, *FIRST_CERT);
+    for _ in 0..2 {
+        assert!(rt; usig.verify_ui(b"first message", &first));
+        assert!(rt; !usig.verify_ui(b"other message", &first));
+        assert!(rt; usig.verify_request(3, REQUEST, REQUEST_TAG));
+        assert!(rt; !usig.verify_request(2, REQUEST, REQUEST_TAG));
+    }
+}
+
 #[test]
 fn tags_of_wishes_and_stops(rt: HostRuntime) {
     let usig = Usig::new(shape(&rt), 2, &SECRET);

@@ -29,7 +29,7 @@ impl Agreement {
         Ok(Agreement {
             shape,
             host,
-            usig: Usig::new(shape, host, secret),
+            usig: Usig::new(shape, host, secret).remembering(alloc),
             gates: gates(alloc, shape)?,
             log: OwnLog::make(alloc, shape, host)?,
             stable: no_base(alloc),

@@ -3,7 +3,11 @@
 
 mod keyed_hash;
 mod keys;
+mod origin;
 mod pen;
+mod remembered;
+mod tag_ring;
+mod tagged;
 mod usig;
 
 pub use keyed_hash::hmac;

@@ -1,16 +1,20 @@
 //! The trusted part of a host: its counter, and the keys that it shares with the other hosts' parts and with the clients.
 
-ghost use Rattle.std.specs.Prelude.{◌≡◌, ◌<◌, ◌++◌, ◌∷◌};
+ghost use Rattle.std.specs.Prelude.{◌≡◌, ◌<◌, ◌++◌, ◌∷◌, IsTrue};
 ghost use Rattle.std.specs.Int.{w8, w64};
 ghost use Rattle.mb_base.specs.Shapes.{host_count, client_count};
 ghost use Rattle.mb_base.specs.Spelling.{number};
 ghost use Rattle.mb_usig.specs.Hmac.{hmac_of};
+ghost use Rattle.mb_usig.specs.Remembered.{tag_by};
 ghost use Rattle.mb_usig.specs.Tags.{client_key, certificate, is_certified, same_bytes, signed_request, signed_reply, wish_tag, stop_tag};
 
 use crate::keyed_hash::HmacKey;
 use crate::keys::{ClientKeys, client_keys_of, usig_key_of};
+use crate::origin::Origin;
+use crate::remembered::Remembered;
 use mb_base::{Client, Counter, Digest, Host, Key, Shape, Ui, View};
 use sha2::{Digest as _, Sha256};
+use std::alloc::Global;
 use std::marker::Model;
 
 /// The counter stands at 2^64 - 1, so there is no identifier for a further message.
@@ -27,6 +31,8 @@ pub struct Usig {
     counter: Counter,
     key: HmacKey,
     client_keys: ClientKeys,
+    // What was made or found right before, where there is memory for it. It is no part of the value, since it changes no answer.
+    remembered: Option<Remembered>,
 }
 
 impl Model for Usig {
@@ -68,7 +74,17 @@ impl Usig {
             counter: 0,
             key: HmacKey::new(usig_key.as_slice()),
             client_keys: client_keys_of(secret),
+            remembered: None,
         }
+    }
+
+    /// This part, which remembers tags that it makes or finds right from here on, so that equal ones are compared and not hashed. All memory for it
+    /// is taken here; where there is too little, it remembers nothing.
+    pub fn remembering(self, alloc: Global) -> Usig
+        ensures { result ≡ self }
+    {
+        let remembered = Remembered::make(alloc, &self.shape, &self.secret).ok();
+        Usig { remembered, ..self }
     }
 
     /// The part of a host that bound its last message to this counter.
@@ -113,10 +129,12 @@ impl Usig {
         let Some(counter) = self.counter.checked_add(1) else {
             return Err(Spent);
         };
-        let cert = self.certificate(self.host, counter, bare);
+        let host = self.host;
+        let cert = self.certificate(host, counter, bare);
+        self.remember(Origin::Host { host, counter }, bare, &cert);
         self.counter = counter;
         Ok(Ui {
-            host: self.host,
+            host,
             counter,
             cert,
         })
@@ -126,7 +144,37 @@ impl Usig {
     pub fn verify_ui(&self, bare: &[u8], ui: &Ui) -> bool
         ensures { result ≡ is_certified self.now.secret ui.now.host ui.now.counter bare.now ui.now.cert }
     {
-        ui.cert == self.certificate(ui.host, ui.counter, bare)
+        let origin = Origin::Host {
+            host: ui.host,
+            counter: ui.counter,
+        };
+        if self.remembers(origin, bare, &ui.cert) {
+            return true;
+        }
+        let right = ui.cert == self.certificate(ui.host, ui.counter, bare);
+        if right {
+            self.remember(origin, bare, &ui.cert);
+        }
+        right
+    }
+
+    // Whether this tag of a text was made or found right before.
+    fn remembers(&self, origin: Origin, text: &[u8], tag: &Digest) -> bool
+        ensures { IsTrue result → tag.now ≡ tag_by self.now.secret origin text.now }
+    {
+        match &self.remembered {
+            Some(remembered) => remembered.has(&self.secret, origin, text, tag),
+            None => false,
+        }
+    }
+
+    // Remembers a right tag, where there is memory for it.
+    fn remember(&self, origin: Origin, text: &[u8], tag: &Digest)
+        requires { tag.now ≡ tag_by self.now.secret origin text.now }
+    {
+        if let Some(remembered) = &self.remembered {
+            remembered.keep(&self.secret, origin, text, tag);
+        }
     }
 
     // The tag, under a client's key, of a text that comes in two pieces.
@@ -143,7 +191,15 @@ impl Usig {
         requires { client < client_count self.now.shape }
         ensures { result ≡ same_bytes tag.now (signed_request self.now.secret client signed.now) }
     {
-        *tag == self.client_tag(client, b"Q", signed)
+        let origin = Origin::Client { client };
+        if self.remembers(origin, signed, tag) {
+            return true;
+        }
+        let right = *tag == self.client_tag(client, b"Q", signed);
+        if right {
+            self.remember(origin, signed, tag);
+        }
+        right
     }
 
     /// This host's tag of a reply for a client, of which the text behind the letter and the host is given.
