@@ -15,10 +15,10 @@ use std::time::{Clock, Duration};
 use std::{fs, io, process, thread};
 
 /// How often a start looks whether the child's output has begun, and how often all waits together look whether a child has ended.
-const LOOKS: u32 = 500;
+const LOOKS: u32 = 5_000;
 
 /// How long it waits between two looks, in milliseconds: five seconds in all.
-const LOOK_WAIT: u64 = 10;
+const LOOK_WAIT: u64 = 1;
 
 /// The status of a child that a signal ended.
 const BY_SIGNAL: u8 = 255;
