@@ -38,7 +38,8 @@ pub(crate) fn prepare<V: Service + Drop>(
         ui: NO_UI,
     };
     let signed = sign(replica, alloc, Stamped::Prepare(prepare))?;
-    replica.put_slot(pos, &signed.ui, signed.body, Some(kept));
+    let ordered = kept.with_digest(signed.body);
+    replica.put_slot(pos, &signed.ui, signed.body, Some(ordered));
     replica.count_vote(pos, replica.agreement.host, signed.ui.counter, signed.body);
     publish(replica, alloc, signed.message, signed.body, done)
 }

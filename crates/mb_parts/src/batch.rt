@@ -1,6 +1,6 @@
 //! The requests that stand together at one position.
 
-ghost use Rattle.std.specs.Prelude.{◌≡◌, ◌↔◌, IsTrue, ◌+◌, ◌≤◌, ◌++◌, ℕ, List, length, IfOk};
+ghost use Rattle.std.specs.Prelude.{◌≡◌, ◌↔◌, IsTrue, ◌+◌, ◌≤◌, ◌++◌, ℕ, List, length, IfOk, IfSome};
 ghost use Rattle.std.specs.List.{flat_map, AllByRecursion};
 ghost use Rattle.mb_base.specs.Reading.{bounded_one, bounded_at};
 ghost use Rattle.mb_base.specs.Fields.{place_of};
@@ -164,6 +164,25 @@ impl Batch {
         hasher.update(byte(requests.len() as u8));
         feed(&mut hasher, requests);
         hasher.finalize()
+    }
+
+    /// The digest, where it is kept.
+    #[tactic(auto, unfolding(crate::specs::Spelling::batch_bytes))]
+    pub fn kept_digest(&self) -> Option<Digest>
+        ensures { IfSome result (λ digest. digest ≡ batch_digest self.now) }
+    {
+        self.requests.kept()
+    }
+
+    /// This batch, which keeps its digest, where that is known already.
+    #[tactic(auto, unfolding(crate::specs::Spelling::batch_bytes))]
+    pub fn with_digest(self, digest: Digest) -> Batch
+        requires { digest ≡ batch_digest self }
+        ensures { result ≡ self }
+    {
+        let Batch { mut requests } = self;
+        requests.keep(digest);
+        Batch { requests }
     }
 
     /// Keeps its digest, so that it need not be hashed again. Its requests are as `digest` asks for.

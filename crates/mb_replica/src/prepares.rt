@@ -25,7 +25,7 @@ impl<V: Service + Drop> ReplicaState<V> {
     {
         if self.counts_at(m.view, m.pos) {
             self.count_vote(m.pos, m.ui.host, m.ui.counter, digest);
-            let batch = whole_batch(m.body);
+            let batch = whole_batch(m.body, digest);
             self.put_slot(m.pos, &m.ui, digest, batch);
         }
     }

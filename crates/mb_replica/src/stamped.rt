@@ -3,7 +3,7 @@
 use crate::arrival::{Arrival, Checked};
 use crate::state::ReplicaState;
 use mb_base::{Counter, Digest, Host, NoMemory, Ui};
-use mb_msg::{Mark, Outcome, Stamped};
+use mb_msg::{Body, Commit, Mark, Outcome, Stamped};
 use mb_service::Service;
 use std::alloc::Global;
 
@@ -15,6 +15,7 @@ impl<V: Service + Drop> ReplicaState<V> {
     ghost use Rattle.mb_replica.specs.Represents.{StandsAt, Represents, HasHistory};
     ghost use Rattle.mb_replica.specs.declared.sending.Done.{Done};
     ghost use Rattle.mb_msg.specs.declared.stamped.Stamped.{Stamped as StampedMessage};
+    ghost use Rattle.mb_msg.specs.declared.stamped.Stamped.TheVariants as stamped;
     ghost use Rattle.mb_msg.specs.Stamps.{ui_of};
     ghost use Rattle.mb_msg.specs.Fits.{FitsStamped};
     ghost use Rattle.mb_model.specs.Histories.{Identity, History};
@@ -37,7 +38,8 @@ impl<V: Service + Drop> ReplicaState<V> {
         requires known { KnowsBody known.now message }
         ensures { (me : Identity V) (x : Progress) → (done : Done) → StandsAt me self.old done x → IfOk result (λ o. (o ≡ (give_stamped me message x).outcome) × StandsAt me self.new done (give_stamped me message x).left) }
     {
-        let arrival = Arrival::of(alloc, &self.agreement.shape, message, known)?;
+        let known = self.known_body(&message, known);
+        let arrival = Arrival::of(alloc, &self.agreement.shape, message, &known)?;
         let checked = self.checked(alloc, arrival)?;
         match checked.refusal {
             None => {
@@ -49,6 +51,32 @@ impl<V: Service + Drop> ReplicaState<V> {
                 drop(checked);
                 Ok(outcome)
             }
+        }
+    }
+
+    /// The digest of a message's body, where it is known: that of a COMMIT may be kept in the slot of its position.
+    fn known_body(&self, message: &Stamped, known: &Option<Digest>) -> Option<Digest>
+        requires { KnowsBody known.now message.now }
+        ensures { KnowsBody result message.now }
+    {
+        match message {
+            Stamped::Commit(m) if known.is_none() => self.digest_in_slot(m),
+            _ => *known,
+        }
+    }
+
+    /// The digest of a COMMIT's batch, where the slot of its position has the same batch and keeps its digest.
+    fn digest_in_slot(&self, m: &Commit) -> Option<Digest>
+        ensures { KnowsBody result (stamped.Commit m.now) }
+    {
+        let Body::Whole(batch) = &m.body else {
+            return None;
+        };
+        let ordered = self.agreement.normal.batch_at(m.pos)?;
+        if ordered == batch {
+            ordered.kept_digest()
+        } else {
+            None
         }
     }
 

@@ -1,7 +1,8 @@
 //! PREPARE and COMMIT: why a vote is refused, and how slots and votes are counted.
 
 ghost use Rattle.std.specs.Prelude.{◌≡◌};
-ghost use Rattle.mb_msg.specs.Bodies.{whole_body};
+ghost use Rattle.mb_parts.specs.Spelling.{batch_bytes};
+ghost use Rattle.mb_msg.specs.Bodies.{whole_body, body_digest};
 
 use crate::state::ReplicaState;
 use mb_base::{Digest, Host, NoMemory, Pos, Ui, View};
@@ -118,12 +119,13 @@ impl<V: Service + Drop> ReplicaState<V> {
     }
 }
 
-/// The batch of a body, where it came whole.
-pub(crate) fn whole_batch(body: Body<Batch>) -> Option<Batch>
+/// The batch of a body, where it came whole. It keeps its digest, which is that of the body.
+pub(crate) fn whole_batch(body: Body<Batch>, digest: Digest) -> Option<Batch>
+    requires { digest ≡ body_digest batch_bytes body }
     ensures { result ≡ whole_body body }
 {
     match body {
-        Body::Whole(batch) => Some(batch),
+        Body::Whole(batch) => Some(batch.with_digest(digest)),
         Body::Bare(_) => None,
     }
 }

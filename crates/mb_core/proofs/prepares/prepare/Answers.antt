@@ -2,6 +2,7 @@ use Rattle.std.proofs.Common.{◌∙◌, refl, sym, ap, Some}
 use Rattle.mb_msg.specs.AsStamped.{stamped_digest}
 use Rattle.mb_model.specs.CarriedOut.{carry_out}
 use Rattle.mb_parts.specs.declared.batch.Batch.{Batch}
+use Rattle.mb_parts.specs.Bares.{batch_digest}
 use Rattle.mb_msg.specs.Stamps.{ui_of}
 use Rattle.mb_model.specs.EnabledRules.{Prepare}
 use Rattle.mb_model.specs.Making.{prepare}
@@ -27,6 +28,13 @@ sign-requires-clause-unspent g c =
     let r = c.args.replica.now in
     let q = prepare_due _ _ _ _ _ r c.args.done.now c.requires in
     is_left q.me r q.history q.next.represents (signed q.me q.history (prepare q.me q.history q.pos q.batch)) (prepare_may q.me r r q.history q.pos q.batch q.next)
+
+pub with_digest-ordered-requires : goal.with_digest-ordered-requires
+with_digest-ordered-requires g c =
+    let r = c.args.replica.now in
+    let q = prepare_due _ _ _ _ _ r c.args.done.now c.requires in
+    let s = c.in_ok-signed.ensures.signed q.me q.history q.next.represents.who q.next.represents.tables.counter in
+    s.body ∙ ap batch_digest (sym c.in_ok-kept.ensures)
 
 pub publish-requires-clause-room : goal.publish-requires-clause-room
 publish-requires-clause-room g c =
@@ -60,6 +68,6 @@ returns g c = λ me x pos b st next.
     rule_ends me c.publish.result r c.count_vote.new.self c.publish.new.replica c.args.done.now c.publish.new.done x (Prepare pos b) c.in_ok-signed.signed.message (signed me x.history (prepare me x.history pos b))
     st next refl (s.message ∙ made)
     (prepare_waits me r c.sign.new.replica x.history pos b n c.in_ok-signed.ensures.writes c.put_slot.new.self c.count_vote.new.self c.put_slot.ensures.writes c.count_vote.ensures.writes c.next_position-pos.result
-    c.in_ok-signed.signed.ui c.in_ok-signed.signed.body c.in_ok-kept.kept (c.next_position-pos.ensures me x.history st.represents) (s.ui ∙ ap ui_of made) (s.body ∙ ap stamped_digest made) (ap (λ (y : Batch). Some y) c.in_ok-kept.ensures ∙ first)
+    c.in_ok-signed.signed.ui c.in_ok-signed.signed.body c.with_digest-ordered.result (c.next_position-pos.ensures me x.history st.represents) (s.ui ∙ ap ui_of made) (s.body ∙ ap stamped_digest made) (ap (λ (y : Batch). Some y) (c.with_digest-ordered.ensures ∙ c.in_ok-kept.ensures) ∙ first)
     c.put_slot.ensures.puts c.count_vote.ensures.counts)
     c.publish.ensures.sent c.publish.ensures.kept c.publish.ensures.log c.publish.ensures.gates c.publish.ensures.writes
