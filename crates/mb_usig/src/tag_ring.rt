@@ -44,12 +44,13 @@ impl TagRing {
     pub(crate) fn has(&self, secret: &Key, origin: Origin, text: &[u8], tag: &Digest) -> bool
         ensures { IsTrue result → tag.now ≡ tag_by secret.now origin text.now }
     {
-        if self.secret != *secret {
+        let place = self.place_of(origin, text);
+        if self.secret != *secret || place >= self.places.len() {
             return false;
         }
-        match self.places.get(self.place_of(origin, text)) {
-            Some(Some(kept)) => kept.says(origin, text, tag),
-            Some(None) | None => false,
+        match &self.places[place] {
+            Some(kept) => kept.says(origin, text, tag),
+            None => false,
         }
     }
 
