@@ -130,8 +130,8 @@ fn received(socket: &UdpSocket, into: &mut [u8]) -> io::Result<Option<usize>>
     ensures { IfOk result (λ count. IfSome count (λ n. n ≤ length into.new)) }
 {
     for _ in 0..u64::MAX {
-        match socket.recv_from(into) {
-            Ok((count, _)) => return Ok(Some(count)),
+        match socket.recv(into) {
+            Ok(count) => return Ok(Some(count)),
             Err(e) => match e.kind() {
                 ErrorKind::Interrupted => {}
                 ErrorKind::WouldBlock | ErrorKind::TimedOut => return Ok(None),
