@@ -78,10 +78,9 @@ fn drop_if_unused(held: &mut Slab<Shelved>, snapshots: &[Keyed], key: usize)
     ensures here { part_under held.new key ≡ (if has_key key (all_keys snapshots.now) then part_under held.old key else None) }
     ensures others { (other : ℕ) → other ≢ key → part_under held.new other ≡ part_under held.old other }
 {
-    if is_used(snapshots, key) {
-        return;
+    if held.get(key).is_some() && !is_used(snapshots, key) {
+        let _unused = held.try_remove(key);
     }
-    let _unused = held.try_remove(key);
 }
 
 /// Whether some of these snapshots has a key.
