@@ -80,11 +80,11 @@ impl Usig {
 
     /// This part, which remembers tags that it makes or finds right from here on, so that equal ones are compared and not hashed. All memory for it
     /// is taken here; where there is too little, it remembers nothing.
-    pub fn remembering(self, alloc: Global) -> Usig
+    pub fn remembering(mut self, alloc: Global) -> Usig
         ensures { result ≡ self }
     {
-        let remembered = Remembered::make(alloc, &self.shape, &self.secret).ok();
-        Usig { remembered, ..self }
+        self.remembered = Remembered::make(alloc, &self.shape, &self.secret).ok();
+        self
     }
 
     /// The part of a host that bound its last message to this counter.

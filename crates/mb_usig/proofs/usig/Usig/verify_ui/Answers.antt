@@ -6,4 +6,4 @@ pub returns-then-remembers : goal.returns-then-remembers
 returns-then-remembers c = sym (true-same_bytes _ _ (c.remembers.ensures c.if-remembers.true))
 
 pub remember-requires : goal.remember-requires
-remember-requires c = same_bytes-true _ _ (sym c.eq-right.ensures ∙ c.if-right.true)
+remember-requires c = same_bytes-true _ _ (sym c.eq-right.ensures ∙ c.if-right.true) ∙ c.certificate.ensures
