@@ -2,9 +2,11 @@
 use Rattle.std.specs.Prelude.{◌≡◌, ◌≤◌, [], ◌∷◌, length, Option, Result, Ok, Err}
 use Rattle.mb_base.specs.Shapes.{Bytes}
 use Rattle.mb_base.specs.declared.shape.Shape.{Shape}
+use Rattle.mb_frag.specs.Stages.{IsSized}
 use Rattle.mb_edge.specs.declared.outside.Failed.{Failed}
 use Rattle.mb_edge.specs.Told.{with_more}
 use Rattle.mb_node.specs.declared.receiving.Arrival.{Arrival}
+use Rattle.mb_node.specs.declared.receiving.Arrival.TheVariants as arrival
 use Rattle.mb_node.specs.declared.receiving.Receiver.{Receiver}
 use Rattle.mb_node.specs.Receives.{Receives}
 use Rattle.mb_node.specs.Inboxes.{HasReceived, arrival_at}
@@ -25,3 +27,8 @@ pub record LosesOne (told_before told_now : Option Receives) : Type 0 where
 abbrev pub Gives : Receiver → Receiver → Result Arrival Failed → Option Receives → Option Receives → Type 0
 Gives old now (Ok arrival) told_before told_now = GivesOne old now arrival told_before told_now
 Gives old now (Err e) told_before told_now = LosesOne told_before told_now
+
+-- a whole message has 1 to 4,194,304 bytes
+abbrev pub ArrivalFits : Arrival → Type 0
+ArrivalFits (arrival.Message message) = IsSized message
+ArrivalFits a = Unit {0}

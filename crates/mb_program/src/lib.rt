@@ -1,8 +1,10 @@
-//! The whole program over what the system has: standard input and standard output, sockets of this machine, and programs that it starts.
+//! The whole program over what the system has: standard input and standard output, sockets of this machine, programs that it starts, and a file.
 #![tactic(auto)]
 
 use mb_edge::{Sink, Source};
-use mb_system::{ChildSpawner, StdSink, StdSource, UdpLink, own_path, starter_of, words_of};
+use mb_system::{
+    ChildSpawner, FileDisk, StdSink, StdSource, UdpLink, own_path, starter_of, words_of,
+};
 use mb_top::minbft;
 use std::io::ErrorKind;
 use std::process;
@@ -22,7 +24,16 @@ pub fn obey<S: Source, K: Sink>(
     let mut link = UdpLink::new(rt, rt.process(), starter_of(rt));
     let own = process::id(rt.process());
     let mut spawner = ChildSpawner::new(rt, rt.alloc(), own_path(rt), own);
-    minbft(rt.alloc(), words, source, sink, &mut link, &mut spawner)
+    let mut disk = FileDisk::new(rt);
+    minbft(
+        rt.alloc(),
+        words,
+        source,
+        sink,
+        &mut link,
+        &mut spawner,
+        &mut disk,
+    )
 }
 
 /// Does what the program's own words ask for, and ends with the status that is answered.
