@@ -108,7 +108,11 @@ fn overwritten(alloc: Global, old: &[u8], at: usize, from: &[u8]) -> Result<Vec<
 }
 
 impl Disk for MemoryDisk {
-    ghost use Rattle.std.specs.Prelude.{◌≡◌, [], Some};
+    ghost use Rattle.std.specs.Prelude.{◌≡◌, ◌↔◌, [], length, Some, IfOk, IsTrue, IsErrOf};
+    ghost use Rattle.std.specs.Io.{ReadsAtMost};
+    ghost use Rattle.mb_edge.specs.Faults.{HasCause, HasNoFault};
+    ghost use Rattle.mb_edge.specs.Calls.{after_call, fails_next};
+    ghost use Rattle.mb_edge.specs.Disks.{WhereTold, Writes, Syncs, ReadsAt};
     ghost use Rattle.mb_edge.specs.MemoryDisks.{moments_of};
     ghost use Rattle.mb_edge.specs.DiskLaws.{image_told};
 
@@ -121,7 +125,16 @@ impl Disk for MemoryDisk {
     ghost reads_back = { λ d m is. image_told d.first d.done m is };
 
     #[tactic(auto, using(crate::proofs::CallLemmas::fault_told))]
-    fn open(&mut self, _path: &str) -> Result<(), Failed> {
+    fn open(&mut self, _path: &str) -> Result<(), Failed>
+        ensures same { Some (moments_of self.new) ≡ Some (moments_of self.old) }
+        ensures cause { HasCause self.old.calls.faults self.new.calls.faults result }
+        ensures sound { self.old.calls.failing ≡ [] → self.new.calls.failing ≡ [] }
+        ensures quiet { self.old.calls.failing ≡ [] → HasNoFault self.old.calls.faults self.new.calls.faults (IsErrOf result Failed.Device) }
+
+        // Which calls fail.
+        ensures call { self.new.calls ≡ after_call self.old.calls }
+        ensures fails { IsErrOf result Failed.Device ↔ IsTrue (fails_next self.old.calls) }
+    {
         if self.calls.next_fails() {
             return Err(Failed::Device);
         }
@@ -129,7 +142,17 @@ impl Disk for MemoryDisk {
     }
 
     #[tactic(auto, using(crate::proofs::CallLemmas::fault_told))]
-    fn len(&mut self) -> Result<u64, Failed> {
+    fn len(&mut self) -> Result<u64, Failed>
+        ensures len { IfOk result (λ len. WhereTold (Some (moments_of self.old)) (λ m. len ≡ length m.now.reads)) }
+        ensures same { Some (moments_of self.new) ≡ Some (moments_of self.old) }
+        ensures cause { HasCause self.old.calls.faults self.new.calls.faults result }
+        ensures sound { self.old.calls.failing ≡ [] → self.new.calls.failing ≡ [] }
+        ensures quiet { self.old.calls.failing ≡ [] → HasNoFault self.old.calls.faults self.new.calls.faults (IsErrOf result Failed.Device) }
+
+        // Which calls fail.
+        ensures call { self.new.calls ≡ after_call self.old.calls }
+        ensures fails { IsErrOf result Failed.Device ↔ IsTrue (fails_next self.old.calls) }
+    {
         if self.calls.next_fails() {
             return Err(Failed::Device);
         }
@@ -137,7 +160,18 @@ impl Disk for MemoryDisk {
     }
 
     #[tactic(auto, using(crate::proofs::CallLemmas::fault_told))]
-    fn read_at(&mut self, at: u64, into: &mut [u8]) -> Result<usize, Failed> {
+    fn read_at(&mut self, at: u64, into: &mut [u8]) -> Result<usize, Failed>
+        ensures bound { ReadsAtMost result into.new }
+        ensures bytes { IfOk result (λ count. WhereTold (Some (moments_of self.old)) (λ m. ReadsAt m.now.reads at (length into.old) count into.new)) }
+        ensures same { Some (moments_of self.new) ≡ Some (moments_of self.old) }
+        ensures cause { HasCause self.old.calls.faults self.new.calls.faults result }
+        ensures sound { self.old.calls.failing ≡ [] → self.new.calls.failing ≡ [] }
+        ensures quiet { self.old.calls.failing ≡ [] → HasNoFault self.old.calls.faults self.new.calls.faults (IsErrOf result Failed.Device) }
+
+        // Which calls fail.
+        ensures call { self.new.calls ≡ after_call self.old.calls }
+        ensures fails { IsErrOf result Failed.Device ↔ IsTrue (fails_next self.old.calls) }
+    {
         if self.calls.next_fails() {
             return Err(Failed::Device);
         }
@@ -146,7 +180,16 @@ impl Disk for MemoryDisk {
     }
 
     #[tactic(auto, using(crate::proofs::CallLemmas::fault_told))]
-    fn write_at(&mut self, at: u64, from: &[u8]) -> Result<(), Failed> {
+    fn write_at(&mut self, at: u64, from: &[u8]) -> Result<(), Failed>
+        ensures written { WhereTold (Some (moments_of self.old)) (λ m. Writes at from.now result m (Some (moments_of self.new))) }
+        ensures cause { HasCause self.old.calls.faults self.new.calls.faults result }
+        ensures sound { self.old.calls.failing ≡ [] → self.new.calls.failing ≡ [] }
+        ensures quiet { self.old.calls.failing ≡ [] → HasNoFault self.old.calls.faults self.new.calls.faults (IsErrOf result Failed.Device) }
+
+        // Which calls fail.
+        ensures call { self.new.calls ≡ after_call self.old.calls }
+        ensures fails { IsErrOf result Failed.Device ↔ IsTrue (fails_next self.old.calls) }
+    {
         if self.calls.next_fails() {
             let _ = self.tear(at, from);
             return Err(Failed::Device);
@@ -156,7 +199,16 @@ impl Disk for MemoryDisk {
     }
 
     #[tactic(auto, using(crate::proofs::CallLemmas::fault_told))]
-    fn sync(&mut self) -> Result<(), Failed> {
+    fn sync(&mut self) -> Result<(), Failed>
+        ensures synced { WhereTold (Some (moments_of self.old)) (λ m. Syncs result m (Some (moments_of self.new))) }
+        ensures cause { HasCause self.old.calls.faults self.new.calls.faults result }
+        ensures sound { self.old.calls.failing ≡ [] → self.new.calls.failing ≡ [] }
+        ensures quiet { self.old.calls.failing ≡ [] → HasNoFault self.old.calls.faults self.new.calls.faults (IsErrOf result Failed.Device) }
+
+        // Which calls fail.
+        ensures call { self.new.calls ≡ after_call self.old.calls }
+        ensures fails { IsErrOf result Failed.Device ↔ IsTrue (fails_next self.old.calls) }
+    {
         if self.calls.next_fails() {
             return Err(Failed::Device);
         }

@@ -3,3 +3,4 @@ pub mod CuttingLemmas
 pub mod PushLemmas
 pub mod CameLemmas
 pub mod SizeLemmas
+pub mod ByteLemmas

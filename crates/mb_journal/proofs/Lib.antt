@@ -4,3 +4,4 @@ pub mod Reading
 pub mod Crashes
 pub mod OpenLemmas
 pub mod MakeLemmas
+pub mod Spelled

@@ -6,6 +6,7 @@ use Rattle.std.proofs.Math.Seq.{take-add}
 use Rattle.std.specs.List.{AllByRecursion}
 use Rattle.mb_base.specs.Shapes.{Bytes}
 use Rattle.mb_base.specs.Spelling.{IsBytes}
+use Rattle.mb_base.proofs.Laws.{IsBytes-drop}
 use Rattle.mb_edge.specs.Disks.{Content, Moments, settled, overwritten, next, IsImage, HoldsInImages, LeavesOnly}
 use Rattle.mb_msg.specs.declared.event.Event.{Event}
 use Rattle.mb_journal.specs.Files.{bytes_of, record_text, entry, entries, EventFits, first_event, Contents, contents, difference, contents_behind, contents_of, Holds}
@@ -65,9 +66,6 @@ same_front at (x ∷ header) (y ∷ file) none long = elim (cases_eq x y) [
     sym_of e = sym e
 
 -- ---- records
-
-IsBytes-drop : (n : ℕ) (bytes : Bytes) → IsBytes bytes → IsBytes (drop n bytes)
-IsBytes-drop n bytes fits i = rw (get_or-drop n bytes i 0) (fits (n + i))
 
 -- before the first record
 pub stands_first : (start : ℕ) (file : Bytes) → start < length file → StandsBefore start file [] start
@@ -137,7 +135,7 @@ journal_read header file (Err NoMemory) none long read = tt
 
 -- ---- the last gate
 
-contents_once : (read : Result Contents ℕ) (a b : Contents) → read ≡ Ok a → read ≡ Ok b → a ≡ b
+pub contents_once : (read : Result Contents ℕ) (a b : Contents) → read ≡ Ok a → read ≡ Ok b → a ≡ b
 contents_once read a b is_a is_b = cc
 
 gate_once : (header file : Bytes) (events found : List Event) (gate place : ℕ) → contents_of header file ≡ Ok (contents events place) → contents_of header file ≡ Ok (contents found gate) → place ≡ gate

@@ -1,12 +1,12 @@
 -- A record is read as it is spelled, and nothing else is read.
 use Rattle.std.proofs.Common.{◌≡◌, inl, inr, ℕ, suc, ◌+◌, ◌≤◌, ◌==◌, cond, nat_lt, nat_le, [], ◌∷◌, ◌++◌, length, get_or, take, drop, Option, Some, None, refl, sym, ◌∙◌, ap, subst, arith, length-append, length-take, length-drop}
 use Rattle.std.proofs.lemmas.Bool.{cases_eq, cases_Bool, cases_lt, cond-true, cond-false, eq-eqb, ne_eqb, le-ltb, lt-ltb, le-leb, leb-true, and_parts, and_from}
-use Rattle.std.proofs.lemmas.List.{take_at, drop_more, get_or-take, get_or_past}
+use Rattle.std.proofs.lemmas.List.{take_at, drop_more}
 use Rattle.std.proofs.Math.Seq.{take-add}
 use Rattle.std.specs.Int.{w32, to_be_bytes}
 use Rattle.mb_base.specs.Shapes.{Bytes, is_within}
 use Rattle.mb_base.specs.Spelling.{IsBytes}
-use Rattle.mb_base.proofs.Laws.{wide32}
+use Rattle.mb_base.proofs.Laws.{wide32, IsBytes-take}
 use Rattle.mb_msg.specs.declared.event.Event.{Event}
 use Rattle.mb_msg.specs.declared.event.Event.TheVariants.{Given, Patience, Nudge}
 use Rattle.mb_journal.specs.Files.{kind_of, bytes_of, record_text, record_size, entry, EventFits, event_of, told_length, first_event}
@@ -115,12 +115,6 @@ pub record IsRecord (event : Event) (bytes : Bytes) : Type 0 where
   pub front : take (length (record_text event)) bytes ≡ record_text event
   pub long : record_size event ≤ length bytes
   pub fits : EventFits event
-
-IsBytes-take : (n : ℕ) (bytes : Bytes) → IsBytes bytes → IsBytes (take n bytes)
-IsBytes-take n bytes fits i = elim (cases_lt i n) [
-  | inl lt ↦ rw (get_or-take n bytes i 0 lt) (fits i)
-  | inr ge ↦ rw (get_or_past (take n bytes) i 0 (omega (arith, length-take n bytes, ge))) (omega arith)
-]
 
 pub record_read : (bytes : Bytes) (event : Event) → IsBytes bytes → first_event bytes ≡ Some event → IsRecord event bytes
 record_read bytes event fits is = elim (cases_lt (length bytes) (told_length bytes + 6)) [

@@ -96,8 +96,8 @@ impl Journal {
     /// Opens the file of a journal. What it answers is acknowledged.
     ///
     /// `BadJournal` comes exactly where the header differs from that of this config and host, with the first such byte, where the file ends
-    /// before its first gate, with its length, or where a gate of 1 isn't followed by a whole record and a gate, with its place, unless the
-    /// disk fails or memory runs out first.
+    /// before its first gate, with its length, or where a gate of 1 has no whole record with a gate behind it, with that gate's place, unless
+    /// the disk fails or memory runs out first.
     pub fn open<D: Disk>(
         alloc: Global,
         disk: &mut D,

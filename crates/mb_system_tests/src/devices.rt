@@ -159,7 +159,7 @@ fn children_get_their_words_and_input_and_tell_their_ends(rt: HostRuntime) -> Re
         ("echo $MINBFT_STARTED_BY; exec sleep 60", 255, "12345\n"),
     ];
     let path = String::from_str(rt.alloc(), "/bin/sh")?;
-    let mut spawner = ChildSpawner::new(&rt, rt.alloc(), path, 12345);
+    let mut spawner = ChildSpawner::new(&rt, rt.alloc(), path, 12345, &[]);
     for (script, status, text) in rows {
         let words = shell(&rt, script)?;
         match spawner.start(&words, b"some bytes", "child.out") {
@@ -177,7 +177,7 @@ fn children_get_their_words_and_input_and_tell_their_ends(rt: HostRuntime) -> Re
 #[test]
 fn a_child_that_does_not_come_to_work_is_a_fault(rt: HostRuntime) -> Result<(), Fail> {
     let path = String::from_str(rt.alloc(), "/bin/sh")?;
-    let mut spawner = ChildSpawner::new(&rt, rt.alloc(), path, 12345);
+    let mut spawner = ChildSpawner::new(&rt, rt.alloc(), path, 12345, &[]);
     let silent = shell(&rt, "exit 0")?;
     assert_eq!(rt;
         spawner.start(&silent, b"", "silent.out"),
@@ -193,6 +193,27 @@ fn a_child_that_does_not_come_to_work_is_a_fault(rt: HostRuntime) -> Result<(), 
     let found = fs::read_to_string(&rt, "taken.out")?;
     assert_eq!(rt; found.as_str(), "kept");
     assert_eq!(rt; spawner.wait(0), Err(Failed::Device));
+    Ok(())
+}
+
+#[test]
+fn nothing_is_started_where_a_later_file_is_there(rt: HostRuntime) -> Result<(), Fail> {
+    let path = String::from_str(rt.alloc(), "/bin/sh")?;
+    let files = ["early.out", "late.out"];
+    let mut spawner = ChildSpawner::new(&rt, rt.alloc(), path, 12345, &files);
+    let words = shell(&rt, "echo x")?;
+    fs::write(&rt, "late.out", b"kept")?;
+    assert_eq!(rt;
+        spawner.start(&words, b"", "early.out"),
+        Err(Failed::Device)
+    );
+    assert!(rt; !fs::exists(&rt, "early.out")?);
+    fs::remove_file(&rt, "late.out")?;
+    for (child, file) in [(0, "early.out"), (1, "late.out")] {
+        assert_eq!(rt; spawner.start(&words, b"", file), Ok(child));
+        assert_eq!(rt; spawner.wait(child), Ok(0));
+        fs::remove_file(&rt, file)?;
+    }
     Ok(())
 }
 
