@@ -22,7 +22,7 @@ use Rattle.mb_node.specs.Inboxes.{HasReceived, arrival_at}
 use Rattle.mb_node.specs.Receiving.{GivesOne, LosesOne}
 use Rattle.mb_node.specs.Events.{left_by, quiets, events}
 use Rattle.mb_node.specs.Outside.{Outside}
-use Rattle.mb_node.specs.Serving.{AreDone, AreCutOff, IsCutOff}
+use Rattle.mb_node.specs.Serving.{AreDone, AreCutOff, IsCutOff, StandsBehind}
 use Rattle.mb_node.specs.Turns.{HasTurned}
 use Rattle.mb_node.specs.Rounds.{quiets_of, event_of, IsServing}
 use Rattle.mb_node.specs.Stops.{IsOfDisk}
@@ -37,26 +37,27 @@ module _ {V : Type 0} (is_state : V → Type 0) (after : V → Bytes → V) (res
     (written : mid.written ≡ here.written) (sent : mid.sent ≡ here.sent) where
   -- the receive failed: what it brought, if it brought an event, is lost
   module _ (s : ServeStop) (other : ¬ IsOfDisk s) (unwritten : ¬ (s ≡ stop.SinkFault)) (journal : JournalState) (disk : Option Moments) (on : journal.halted ≡ false) where
-    by_event : (me : Identity V) (start : History) (before : Outside) (es : List Event) → AreDone me start before mid es → (e : Option Event)
-        → KeepsLast s journal journal disk disk es (onto e es) ⊎ LacksLast me start before mid s journal journal disk disk es (onto e es)
-    by_event me start before es done None = inl (record { more = []; events_are = refl; keeps = kept_none journal disk; runs = on; other = other })
-    by_event me start before es done (Some e) = inr (record {
+    by_event : (me : Identity V) (start : History) (before : Outside) (es : List Event) → AreDone me start before mid es → StandsBehind me start old es → (e : Option Event)
+        → KeepsLast s journal journal disk disk es (onto e es) ⊎ LacksLast me start before mid old s journal journal disk disk es (onto e es)
+    by_event me start before es done stands None = inl (record { more = []; events_are = refl; keeps = kept_none journal disk; runs = on; other = other })
+    by_event me start before es done stands (Some e) = inr (record {
       last = e;
       events_are = refl;
       keeps = lost_one journal disk e;
       unsent = done;
+      stands = stands;
       unwritten = unwritten;
       full = full_unless s journal e other;
     })
 
     by_more : (me : Identity V) (start : History) (before : Outside) (receives : Receives) → IsServing me start before receives here node old → (more : Receives) → length more ≤ 1
-        → KeepsLast s journal journal disk disk (events me start receives) (events me start (more ++ receives)) ⊎ LacksLast me start before mid s journal journal disk disk (events me start receives) (events me start (more ++ receives))
+        → KeepsLast s journal journal disk disk (events me start receives) (events me start (more ++ receives)) ⊎ LacksLast me start before mid old s journal journal disk disk (events me start receives) (events me start (more ++ receives))
     by_more me start before receives so_far [] few = inl (record { more = []; events_are = refl; keeps = kept_none journal disk; runs = on; other = other })
     by_more me start before receives so_far (one ∷ []) few =
         let es = events me start receives in
         let done = done_moved is_state after result part restored node old here mid told told_mid written sent me start before es so_far.done in
         let e = event_of (wants me (left_by me start es)) (quiets me start es) (arrival_at me.shape receives one) in
-        subst (λ (l : List Event). KeepsLast s journal journal disk disk es l ⊎ LacksLast me start before mid s journal journal disk disk es l) (sym (next_events me start receives one)) (by_event me start before es done e)
+        subst (λ (l : List Event). KeepsLast s journal journal disk disk es l ⊎ LacksLast me start before mid old s journal journal disk disk es l) (sym (next_events me start receives one)) (by_event me start before es done so_far.stands e)
     by_more me start before receives so_far (one ∷ (two ∷ more)) few = absurd (omega (arith, few))
 
     pub kept_lost : old.halted ≡ false → LosesOne told told_mid → KeepsUntil is_state after result part restored node old old s journal journal disk disk told told_mid here mid
@@ -88,6 +89,7 @@ module _ {V : Type 0} (is_state : V → Type 0) (after : V → Bytes → V) (res
           more = gives.one ∷ [];
           told = gives.told;
           few = omega arith;
+          of_bytes = (gives.of_bytes, tt);
           cut = λ me start o receives serves so_far unstopped.
               let es = events me start receives in
               let is = event_now is_state after result part restored node old here mid told told_mid written sent next arrival gives ev ev_is e some old mid me start o receives so_far in
@@ -98,6 +100,7 @@ module _ {V : Type 0} (is_state : V → Type 0) (after : V → Bytes → V) (res
           events_are = event_now is_state after result part restored node old here mid told told_mid written sent next arrival gives ev ev_is e some old mid me start o receives so_far;
           keeps = keeps.0;
           unsent = done_moved is_state after result part restored node old here mid told told_mid written sent me start o (events me start receives) so_far.done;
+          stands = so_far.stands;
           unwritten = unwritten;
           full = keeps.1;
         });
@@ -158,6 +161,7 @@ module _ {V : Type 0} (is_state : V → Type 0) (after : V → Bytes → V) (res
       record {
         receives = [];
         told_is = served.told;
+        of_bytes = served.of_bytes;
         ends = λ me d serves rep whole. (served.ends me d serves rep whole, inl (record { keeps = kept_none journal disk; runs = on }, λ of. of));
       }
 
@@ -188,6 +192,7 @@ module _ {V : Type 0} (is_state : V → Type 0) (after : V → Bytes → V) (res
         record {
           receives = on.on.one ∷ so_far.so_far.receives;
           told_is = served.told;
+          of_bytes = served.of_bytes;
           ends = λ me d serves rep whole. (served.ends me d serves rep whole, record { keeps = all_kept true on me d serves rep whole; runs = on_runs });
         }
 
@@ -195,7 +200,7 @@ module _ {V : Type 0} (is_state : V → Type 0) (after : V → Bytes → V) (res
     last_kept : (s : ServeStop) (is : KeepsUntil is_state after result part restored node mid now s journal_mid journal_now disk_mid disk_now told_mid told_now here there)
         → (me : Identity V) (d : History) → Serves is_state after result part restored me → Represents me old d → IsWhole d
         → (HasAll journal journal_now disk disk_now (events me d (is.until.more ++ so_far.so_far.receives)) × ¬ IsOfDisk s)
-        ⊎ LacksOne me d before there s journal journal_now disk disk_now (events me d (is.until.more ++ so_far.so_far.receives))
+        ⊎ LacksOne me d before there now s journal journal_now disk disk_now (events me d (is.until.more ++ so_far.so_far.receives))
     last_kept s is me d serves rep whole =
         let x = so_far.so_far.stands me d serves rep whole in
         let es = events me d so_far.so_far.receives in
@@ -214,6 +219,7 @@ module _ {V : Type 0} (is_state : V → Type 0) (after : V → Bytes → V) (res
             events_are = lacks.events_are;
             keeps = kept_both journal journal_mid journal_now disk disk_mid disk_now es (lacks.last ∷ []) [] runs kept lacks.keeps;
             unsent = lacks.unsent;
+            stands = lacks.stands;
             unwritten = lacks.unwritten;
             full = lacks.full;
           })
@@ -228,13 +234,14 @@ module _ {V : Type 0} (is_state : V → Type 0) (after : V → Bytes → V) (res
         record {
           receives = is.until.more ++ so_far.so_far.receives;
           told_is = served.told;
+          of_bytes = served.of_bytes;
           ends = λ me d serves rep whole. (served.ends me d serves rep whole, by_stop s other me d (last_kept s is me d serves rep whole));
         }
       where
         by_stop : (f : ServeStop) → ((n : ℕ) → f ≡ stop.Budget n → ⊥) → (me : Identity V) (d : History)
             → (HasAll journal journal_now disk disk_now (events me d (is.until.more ++ so_far.so_far.receives)) × ¬ IsOfDisk f)
-            ⊎ LacksOne me d before there f journal journal_now disk disk_now (events me d (is.until.more ++ so_far.so_far.receives))
-            → EndsKept me d before there journal journal_now disk disk_now (events me d (is.until.more ++ so_far.so_far.receives)) (Err f)
+            ⊎ LacksOne me d before there now f journal journal_now disk disk_now (events me d (is.until.more ++ so_far.so_far.receives))
+            → EndsKept me d before there now journal journal_now disk disk_now (events me d (is.until.more ++ so_far.so_far.receives)) (Err f)
         by_stop stop.LinkFault never me d last = last
         by_stop stop.SinkFault never me d last = last
         by_stop stop.DiskFault never me d last = last
@@ -250,6 +257,7 @@ module _ {V : Type 0} (is_state : V → Type 0) (after : V → Bytes → V) (res
       record {
         receives = so_far.so_far.receives;
         told_is = served.told;
+        of_bytes = served.of_bytes;
         ends = λ me d serves rep whole. (served.ends me d serves rep whole, record { keeps = so_far.keeps me d serves rep whole; runs = runs });
       }
 

@@ -47,6 +47,7 @@ module _ {V : Type 0} (is_state : V → Type 0) (after : V → Bytes → V) (res
     more = lost.more;
     told = lost.told;
     few = lost.few;
+    of_bytes = lost.of_bytes;
     cut = λ me start o receives serves so_far unstopped. cut_lost me start o mid old.halted receives lost.more runs lost.few (done_moved me start o (events me start receives) so_far.done) unstopped;
   }
 
@@ -67,6 +68,7 @@ module _ {V : Type 0} (is_state : V → Type 0) (after : V → Bytes → V) (res
     round_quietly now none receiver counted outbox = record {
       one = gives.one;
       told = gives.told;
+      of_bytes = gives.of_bytes;
       goes = λ me start o receives serves so_far unstopped.
           let same : events me start (gives.one ∷ receives) ≡ events me start receives = events_now me start o receives so_far ∙ ap (λ (x : Option Event). onto x (events me start receives)) none in
           let has : HasReceived me.shape (gives.one ∷ receives) now.receiver.inbox = subst (λ (x : Receiver). HasReceived me.shape (gives.one ∷ receives) x.inbox) (sym receiver) (gives.has me.shape receives so_far.inbox) in
@@ -88,6 +90,7 @@ module _ {V : Type 0} (is_state : V → Type 0) (after : V → Bytes → V) (res
         more = gives.one ∷ [];
         told = gives.told;
         few = omega arith;
+        of_bytes = (gives.of_bytes, tt);
         cut = λ me start o receives serves so_far unstopped.
             let es : List Event = events me start receives in
             subst (AreCutOff me start o there later.halted) (sym (event_now me start o receives so_far))
@@ -103,6 +106,7 @@ module _ {V : Type 0} (is_state : V → Type 0) (after : V → Bytes → V) (res
       round_turned now t stopped stopping runs receiver counted hosts host turned = record {
         one = gives.one;
         told = gives.told;
+        of_bytes = gives.of_bytes;
         goes = λ me start o receives serves so_far unstopped. either me start o receives serves so_far unstopped stopped stopping;
       } where
         either : (me : Identity V) (start : History) (o : Outside) (receives : Receives) → Serves is_state after result part restored me → IsServing me start o receives here node old → has_stop me start (events me start receives) ≡ false

@@ -3,7 +3,7 @@ use Rattle.std.proofs.Common.{◌≡◌, ℕ, ◌+◌, ◌≤◌, Bool, true, fa
 use Rattle.std.specs.Prelude.{◌%◌, ◌^◌, ◌==◌, ◌&&◌, ◌||◌, if◌then◌else◌, Result}
 use Rattle.std.specs.Io.KnownBytes.{Appends}
 use Rattle.std.proofs.lemmas.Bool.{false≢true}
-use Rattle.std.specs.List.{flat_map}
+use Rattle.std.specs.List.{flat_map, AllByRecursion}
 use Rattle.std.proofs.lemmas.List.{reverse-append}
 use Rattle.std.proofs.lemmas.List.Concat.{flat_map-append}
 use Rattle.mb_base.specs.Shapes.{Bytes, host_count}
@@ -13,6 +13,7 @@ use Rattle.mb_model.specs.Histories.{History, Identity, onto}
 use Rattle.mb_steps.proofs.StepArises.{IsWhole}
 use Rattle.mb_sched.specs.declared.records.Entry.{Entry}
 use Rattle.mb_sched.specs.Records.{entry_text}
+use Rattle.mb_theory.proofs.Lists.{all_append}
 use Rattle.mb_edge.specs.Told.{with_more}
 use Rattle.mb_edge.proofs.PieceLemmas.{appended_both}
 use Rattle.mb_edge.proofs.ToldLemmas.{with_more-nil, with_more-append}
@@ -27,7 +28,7 @@ use Rattle.mb_node.specs.declared.receiving.Arrival.TheVariants as arrival
 use Rattle.mb_node.specs.declared.stops.ServeStop.{ServeStop}
 use Rattle.mb_node.specs.declared.stops.ServeStop.TheVariants as stop
 use Rattle.mb_node.specs.declared.turn.Turn.{Turn}
-use Rattle.mb_node.specs.Receives.{Receives, made_whole}
+use Rattle.mb_node.specs.Receives.{Receives, ReceiveFits, made_whole}
 use Rattle.mb_node.specs.Inboxes.{HasReceived, arrival_of, arrival_at}
 use Rattle.mb_node.specs.Events.{left_by, quiets, quiets_in, settles, stops, has_stop, events, given_to}
 use Rattle.mb_node.specs.Recording.{end_line, entry_at, lines_at, entries_of, lines_of, sent_at, sent_of}
@@ -259,6 +260,7 @@ module _ {V : Type 0} (is_state : V → Type 0) (after : V → Bytes → V) (res
     pub receives : Receives
     pub told_is : told_now ≡ with_more told (reverse receives)
     pub counted : length receives ≡ count
+    pub of_bytes : AllByRecursion ReceiveFits receives
     pub stands : (me : Identity V) (d : History) → Serves is_state after result part restored me → Represents me old d → IsWhole d → IsServing me d before receives here node now × (has_stop me d (events me d receives) ≡ false)
 
   unfoldable pub so_far_none : (node : Node) → old.halted ≡ false → ((me : Identity V) (d : History) → Represents me old d → HasReceived me.shape [] node.receiver.inbox)
@@ -268,6 +270,7 @@ module _ {V : Type 0} (is_state : V → Type 0) (after : V → Bytes → V) (res
     receives = [];
     told_is = sym (with_more-nil told);
     counted = refl;
+    of_bytes = tt;
     stands = λ me d serves rep whole. (
       record {
         done = done_none me d before;
@@ -288,6 +291,7 @@ module _ {V : Type 0} (is_state : V → Type 0) (after : V → Bytes → V) (res
   ends_unbegun budget = record {
     receives = [];
     told = sym (with_more-nil told);
+    of_bytes = tt;
     ends = λ me d serves rep whole. (done_none me d before, omega arith);
   }
 
@@ -297,6 +301,7 @@ module _ {V : Type 0} (is_state : V → Type 0) (after : V → Bytes → V) (res
       receives = on.one ∷ so_far.receives;
       told_is = told_more told told_mid told_now so_far.receives (on.one ∷ []) so_far.told_is on.told;
       counted = omega (arith, so_far.counted);
+      of_bytes = (on.of_bytes, so_far.of_bytes);
       stands = λ me d serves rep whole. let x = so_far.stands me d serves rep whole in on.goes me d before so_far.receives serves x.0 x.1;
     }
 
@@ -304,6 +309,7 @@ module _ {V : Type 0} (is_state : V → Type 0) (after : V → Bytes → V) (res
     ends_by_stop budget within on = record {
       receives = on.one ∷ so_far.receives;
       told = told_more told told_mid told_now so_far.receives (on.one ∷ []) so_far.told_is on.told;
+      of_bytes = (on.of_bytes, so_far.of_bytes);
       ends = λ me d serves rep whole.
           let x = so_far.stands me d serves rep whole in
           let y = on.goes me d before so_far.receives serves x.0 x.1 in
@@ -314,6 +320,7 @@ module _ {V : Type 0} (is_state : V → Type 0) (after : V → Bytes → V) (res
     ends_cut budget e other within is = record {
       receives = is.more ++ so_far.receives;
       told = told_more told told_mid told_now so_far.receives is.more so_far.told_is (is.told ∙ ap (with_more told_mid) (few_reversed is.more is.few));
+      of_bytes = all_append ReceiveFits is.more so_far.receives is.of_bytes so_far.of_bytes;
       ends = λ me d serves rep whole. let x = so_far.stands me d serves rep whole in by_error e other me d (is.cut me d before so_far.receives serves x.0 x.1);
     } where
       short : length (is.more ++ so_far.receives) ≤ budget
@@ -332,6 +339,7 @@ module _ {V : Type 0} (is_state : V → Type 0) (after : V → Bytes → V) (res
   ends_by_budget now told_now here node budget so_far = record {
     receives = so_far.receives;
     told = so_far.told_is;
+    of_bytes = so_far.of_bytes;
     ends = λ me d serves rep whole. let x = so_far.stands me d serves rep whole in (x.0.done, x.1, x.0.stands, refl, so_far.counted);
   }
 

@@ -1,5 +1,6 @@
 -- What a serving node keeps in its journal.
 use Rattle.std.specs.Prelude.{◌≡◌, ◌⊎◌, ℕ, ◌+◌, ◌<◌, ◌≤◌, max, Bool, false, List, [], ◌∷◌, ◌++◌, reverse, Option, Some, Result, Ok, Err}
+use Rattle.std.specs.List.{AllByRecursion}
 use Rattle.mb_base.specs.Shapes.{Bytes}
 use Rattle.mb_msg.specs.declared.event.Event.{Event}
 use Rattle.mb_model.specs.Histories.{History, Identity}
@@ -17,10 +18,10 @@ use Rattle.mb_node.specs.declared.node.Node.{Node}
 use Rattle.mb_node.specs.declared.stops.ServeStop.{ServeStop}
 use Rattle.mb_node.specs.declared.stops.ServeStop.TheVariants as stop
 use Rattle.mb_node.specs.Stops.{IsOfDisk}
-use Rattle.mb_node.specs.Receives.{Receives}
+use Rattle.mb_node.specs.Receives.{Receives, ReceiveFits}
 use Rattle.mb_node.specs.Events.{events}
 use Rattle.mb_node.specs.Outside.{Outside}
-use Rattle.mb_node.specs.Serving.{AreDone, Ends}
+use Rattle.mb_node.specs.Serving.{AreDone, StandsBehind, Ends}
 use Rattle.mb_node.specs.Rounds.{IsServing, GoesOn, IsStopped}
 
 -- ---- the disk and the journal
@@ -82,12 +83,13 @@ pub record KeepsLast (s : ServeStop) (journal journal' : JournalState) (told tol
   pub runs : journal'.halted ≡ false
   pub other : ¬ IsOfDisk s
 
--- Behind these events there was one more that was not acknowledged, and of it nothing was written or sent.
-pub record LacksLast {V : Type 0} (me : Identity V) (start : History) (before there : Outside) (s : ServeStop) (journal journal' : JournalState) (told told' : Option Moments) (es all : List Event) : Type 0 where
+-- Behind these events there was one more that was not acknowledged. The host took no step for it, and of it nothing was written or sent.
+pub record LacksLast {V : Type 0} (me : Identity V) (start : History) (before there : Outside) (r : Replica V) (s : ServeStop) (journal journal' : JournalState) (told told' : Option Moments) (es all : List Event) : Type 0 where
   pub last : Event
   pub events_are : all ≡ last ∷ es
   pub keeps : AreKept journal journal' told told' (last ∷ []) []
   pub unsent : AreDone me start before there es
+  pub stands : StandsBehind me start r es
   pub unwritten : ¬ (s ≡ stop.SinkFault)
   pub full : IsFullFor s journal' last
 
@@ -104,7 +106,7 @@ module _ {V : Type 0} (is_state : V → Type 0) (after : V → Bytes → V) (res
     pub until : IsStopped is_state after result part restored old r_old r_now told_before told_now here there
     pub keeps : (me : Identity V) (start : History) (before : Outside) (receives : Receives) → IsServing me start before receives here old r_old
         → KeepsLast s journal journal' told told' (events me start receives) (events me start (until.more ++ receives))
-        ⊎ LacksLast me start before there s journal journal' told told' (events me start receives) (events me start (until.more ++ receives))
+        ⊎ LacksLast me start before there r_now s journal journal' told told' (events me start receives) (events me start (until.more ++ receives))
 
   abbrev pub KeptRounds : Node → Node → Replica V → Replica V → JournalState → JournalState → Option Moments → Option Moments → Option Receives → Option Receives → Outside → Outside → Result Bool ServeStop → Type 0
   KeptRounds old now r_old r_now journal journal' told told' told_before told_now here there (Ok stopped) = KeepsOn old now r_old r_now journal journal' told told' told_before told_now here there stopped
@@ -118,27 +120,29 @@ pub record HasAll (journal journal' : JournalState) (told told' : Option Moments
   pub keeps : AreKept journal journal' told told' es es
   pub runs : journal'.halted ≡ false
 
--- The last event was not acknowledged, and of it nothing was written or sent.
-pub record LacksOne {V : Type 0} (me : Identity V) (d : History) (before now : Outside) (s : ServeStop) (journal journal' : JournalState) (told told' : Option Moments) (all : List Event) : Type 0 where
+-- The last event was not acknowledged. The host took no step for it, and of it nothing was written or sent.
+pub record LacksOne {V : Type 0} (me : Identity V) (d : History) (before now : Outside) (r : Replica V) (s : ServeStop) (journal journal' : JournalState) (told told' : Option Moments) (all : List Event) : Type 0 where
   pub last : Event
   pub es : List Event
   pub events_are : all ≡ last ∷ es
   pub keeps : AreKept journal journal' told told' (last ∷ es) es
   pub unsent : AreDone me d before now es
+  pub stands : StandsBehind me d r es
   pub unwritten : ¬ (s ≡ stop.SinkFault)
   pub full : IsFullFor s journal' last
 
 -- All events were kept. Where serving stopped on the way, the last one may have been acknowledged, or not: it was not where the disk failed or the
 -- journal was full.
-abbrev pub EndsKept : {V : Type 0} (me : Identity V) → History → Outside → Outside → JournalState → JournalState → Option Moments → Option Moments → List Event → Result (Unit {0}) ServeStop → Type 0
-EndsKept me d before now journal journal' told told' es (Ok _) = HasAll journal journal' told told' es
-EndsKept me d before now journal journal' told told' es (Err (stop.Budget n)) = HasAll journal journal' told told' es
-EndsKept me d before now journal journal' told told' es (Err s) = (HasAll journal journal' told told' es × ¬ IsOfDisk s) ⊎ LacksOne me d before now s journal journal' told told' es
+abbrev pub EndsKept : {V : Type 0} (me : Identity V) → History → Outside → Outside → Replica V → JournalState → JournalState → Option Moments → Option Moments → List Event → Result (Unit {0}) ServeStop → Type 0
+EndsKept me d before now r journal journal' told told' es (Ok _) = HasAll journal journal' told told' es
+EndsKept me d before now r journal journal' told told' es (Err (stop.Budget n)) = HasAll journal journal' told told' es
+EndsKept me d before now r journal journal' told told' es (Err s) = (HasAll journal journal' told told' es × ¬ IsOfDisk s) ⊎ LacksOne me d before now r s journal journal' told told' es
 
 module _ {V : Type 0} (is_state : V → Type 0) (after : V → Bytes → V) (result : V → Bytes → Bytes) (part : V → ℕ → Bytes) (restored : List Bytes → Result V (ℕ × ℕ)) where
   -- Serving did what the receives mean that the link tells, whatever history the host stood for, and each event was kept before it was acted on.
   pub record HasServedKept (old new : Replica V) (journal journal' : JournalState) (told told' : Option Moments) (budget : ℕ) (told_before told_now : Option Receives) (before now : Outside) (ended : Result (Unit {0}) ServeStop) : Type 0 where
     pub receives : Receives
     pub told_is : told_now ≡ with_more told_before (reverse receives)
+    pub of_bytes : AllByRecursion ReceiveFits receives
     pub ends : (me : Identity V) (d : History) → Serves is_state after result part restored me → Represents me old d → IsWhole d
-        → Ends me d budget before now new receives ended × EndsKept me d before now journal journal' told told' (events me d receives) ended
+        → Ends me d budget before now new receives ended × EndsKept me d before now new journal journal' told told' (events me d receives) ended

@@ -17,6 +17,7 @@ pub(crate) struct Inbox {
 impl Inbox {
     ghost use Rattle.std.specs.Prelude.{◌∷◌, ◌≡◌, [], Some, IfOk, IfSome};
     ghost use Rattle.mb_base.specs.declared.shape.Shape.{Shape as ShapeRecord};
+    ghost use Rattle.mb_base.specs.Spelling.{IsBytes};
     ghost use Rattle.mb_frag.specs.Stages.{IsSized};
     ghost use Rattle.mb_node.specs.Receives.{Receives, made_whole};
     ghost use Rattle.mb_node.specs.Inboxes.{HasReceived};
@@ -44,6 +45,7 @@ impl Inbox {
         ensures message { (s : ShapeRecord) (before : Receives) → HasReceived s before self.old
             → IfOk result (λ message. (message ≡ made_whole s before datagram.now) × HasReceived s (Some datagram.now ∷ before) self.new) }
         ensures fits { IfOk result (λ message. IfSome message IsSized) }
+        ensures of_bytes { IsBytes datagram.now }
     {
         match datagram.first() {
             None => Ok(None),
