@@ -11,3 +11,5 @@ pub mod Rounding
 pub mod Kept
 pub mod KeptRounds
 pub mod Replayed
+pub mod OfBytes
+pub mod OfBytes

@@ -19,8 +19,8 @@
 //!
 //! What is promised of all receives speaks of the history that a host stands for, whichever it is: the events are those of the receives that the
 //! link tells, none left out; the record has an entry for each; what was sent are the pieces of what the host sends. Where serving ends on the
-//! way, the last event is cut off, and all before it are whole. With a journal each event is kept before it is acted on: whatever a crash leaves
-//! of the file, at whatever moment, has the events that were acknowledged and at most the one that was being appended.
+//! way, the last event is cut off, and all before it are whole. With a journal the host takes the step of an event only once it is kept. Whatever a crash
+//! leaves of the file, at whatever moment, says each event that was acknowledged until then; one in whose append the crash fell is there as a whole or not.
 #![tactic(auto)]
 
 mod entries;

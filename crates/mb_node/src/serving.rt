@@ -50,9 +50,9 @@ pub fn serve<V: Service + Drop, K: Sink, L: Link>(
 
 /// Serves as `serve` does, and keeps each event in a journal before its step. The journal has not halted.
 ///
-/// Where the journal is at rest on the disk before, a crash at any moment leaves a file that says all events that were acknowledged until then, in
-/// order, and at most the one that was being appended; and what was written and sent is that of acknowledged events. `DiskFault` comes only where the
-/// disk's count of faults rose, and `Full` where the journal has no room for an event.
+/// Where the journal is at rest on the disk before, a crash at any moment leaves a file that says each event that was acknowledged until then, in the order
+/// in which they came; one in whose append the crash fell is there as a whole or not. What was written and sent is that of acknowledged events, and an event
+/// that was not kept was not stepped. `DiskFault` comes only where the disk's count of faults rose, and `Full` where the journal has no room for an event.
 pub fn serve_kept<V: Service + Drop, K: Sink, L: Link, D: Disk>(
     alloc: Global,
     replica: &mut Replica<V>,
