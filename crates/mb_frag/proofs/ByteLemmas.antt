@@ -1,20 +1,21 @@
 -- Where what was pushed is of bytes, so is what is held.
-use Rattle.std.proofs.Common.{◌≡◌, inl, inr, ℕ, ◌+◌, ◌-◌, Bool, true, false, eqb, cond, [], ◌++◌, length, Result, Ok, Err, refl, sym, ap, subst, ◌∙◌, arith}
+use Rattle.std.proofs.Common.{◌≡◌, inl, inr, ℕ, ◌+◌, ◌-◌, Bool, true, false, eqb, ltb, cond, [], ◌++◌, length, Result, Ok, Err, refl, sym, ap, subst, ◌∙◌, arith}
 use Rattle.std.proofs.lemmas.Bool.{cases_Bool, cases_lt}
-use Rattle.std.proofs.lemmas.List.{get_or_append_left, get_or-append_right, get_or_past}
+use Rattle.std.proofs.lemmas.List.{get_or_append_left, get_or-append_right}
 use Rattle.mb_base.specs.Shapes.{Bytes}
 use Rattle.mb_base.specs.Spelling.{IsBytes}
 use Rattle.mb_base.specs.Reading.{Cursor, cursor}
 use Rattle.mb_base.proofs.Laws.{IsBytes-drop, bind_ok}
 use Rattle.mb_frag.specs.declared.piece.Header.{Header}
+use Rattle.mb_frag.specs.declared.limits.TheConstants.{PIECE}
 use Rattle.mb_frag.specs.Pieces.{Piece}
-use Rattle.mb_frag.specs.Reading.{header_at, piece_at, piece_of}
+use Rattle.mb_frag.specs.Reading.{header_at, least_bytes, piece_at, piece_of}
 use Rattle.mb_frag.specs.Stages.{goes_on}
 use Rattle.mb_frag.specs.Held.{Held, with_piece, taken, push_of}
 use Rattle.mb_frag.proofs.ReadingLemmas.{header_spans}
 
 pub IsBytes-nil : IsBytes []
-IsBytes-nil i = rw (get_or_past [] i 0 (omega arith)) (omega arith)
+IsBytes-nil i = omega arith
 
 IsBytes-append : (front back : Bytes) → IsBytes front → IsBytes back → IsBytes (front ++ back)
 IsBytes-append front back fits more i = elim (cases_lt i (length front)) [
@@ -33,7 +34,7 @@ piece_bytes : (datagram : Bytes) (p : Piece) → IsBytes datagram → piece_of d
 unfolding piece_of
 piece_bytes datagram p fits is =
     let a = bind_ok (header_at (cursor 0 datagram)) (λ (v : Header × Cursor). piece_at v.0 v.1) p is in
-    let read : record { header = a.0.0; bytes = a.0.1.rest } ≡ p = last_of _ _ _ _ (record { header = a.0.0; bytes = a.0.1.rest }) p a.2 in
+    let read : record { header = a.0.0; bytes = a.0.1.rest } ≡ p = last_of (ltb (length a.0.1.rest) (least_bytes a.0.0)) (ltb PIECE (length a.0.1.rest)) a.0.1.at (a.0.1.at + PIECE) (record { header = a.0.0; bytes = a.0.1.rest }) p a.2 in
     let rest = (header_spans.onwards (cursor 0 datagram) a.0.0 a.0.1 a.1).0 in
     subst IsBytes (sym (ap (λ (u : Cursor). u.rest) rest) ∙ ap (λ (q : Piece). q.bytes) read) (IsBytes-drop 9 datagram fits)
 
