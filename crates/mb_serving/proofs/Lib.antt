@@ -1,4 +1,5 @@
 pub mod RecordLaws
 pub mod NodeLaws
+pub mod JournalLaws
 pub mod ReadConfigs
 pub mod WrittenLaws

@@ -4,7 +4,7 @@ use Rattle.mb_answer.proofs.Statuses.{tells_read}
 use Rattle.std.proofs.lemmas.Result.{err_from_is_err_and}
 use Rattle.mb_edge.proofs.FaultLemmas.{tells_none, tells_as, tells_call}
 use Rattle.mb_edge.proofs.ToldLemmas.{with_more-nil}
-use Rattle.mb_node.proofs.Faults.{link_told, sink_told, link_no_sink, sink_no_link, counts_none, call_calm}
+use Rattle.mb_node.proofs.Faults.{link_alone, sink_alone, link_told, sink_told, link_no_sink, sink_no_link, counts_none, call_calm}
 use Rattle.mb_serving.proofs.NodeLaws.{begins_starved, begins_unopened, begins_headless, part_of_head, whole_head}
 use Rattle.mb_serving.proofs.node.begin.Goals as goal
 
@@ -52,3 +52,18 @@ returns-clause-begins g c = (
   c.in_ok-open.ensures.sent,
   whole_head c.args.config.now c.args.host _ _ _ (c.deref.ensures.value ∙ c.in_ok-head.ensures) c.in_ok-write_all.ensures.all,
 )
+
+pub returns-in_err-head-clause-alone : goal.returns-in_err-head-clause-alone
+returns-in_err-head-clause-alone g c =
+    let p = err_from_is_err_and c.from_residual.result c.from_residual.ensures.1 in
+    rw (p.1, p.2) (λ of. of)
+
+pub returns-in_err-open-clause-alone : goal.returns-in_err-open-clause-alone
+returns-in_err-open-clause-alone g c =
+    let p = err_from_is_err_and c.from_residual-in_err-open.result c.from_residual-in_err-open.ensures.1 in
+    rw (p.1, p.2) (link_alone c.in_err-open.field-0.0)
+
+pub returns-in_err-write_all-clause-alone : goal.returns-in_err-write_all-clause-alone
+returns-in_err-write_all-clause-alone g c =
+    let p = err_from_is_err_and c.from_residual-in_err-write_all.result c.from_residual-in_err-write_all.ensures.1 in
+    rw (p.1, p.2) (sink_alone c.in_err-write_all.field-0.0)
