@@ -19,7 +19,7 @@ use Rattle.mb_restart.specs.Runs.{sent_by, Run, events_of, known_to, IsLeft, Are
 
 -- ---- what a run opens
 
--- all events that were acknowledged, and at most the one that was being appended
+-- the acknowledged events, and behind them none but the one whose append had begun
 abbrev pub HasAllAndOne : List Event → Option Event → List Event → Type 0
 HasAllAndOne known begun kept = (kept ≡ known) ⊎ ((one : Event) × (begun ≡ Some one) × (kept ≡ known ++ one ∷ []))
 

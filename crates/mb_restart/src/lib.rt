@@ -12,14 +12,14 @@ ghost use Rattle.mb_restart.specs.Orders.{OneWriteLoses, NoSyncLoses, NoSecondSy
 
 use mb_service::Service;
 
-/// Whatever file a run left, and whatever crashes made of it while it was opened: it says all events that were acknowledged, in order, and at most the one
-/// that was being appended. So it never is no journal of this host.
+/// Whatever file a run left, and whatever crashes made of it while it was opened: it says the acknowledged events in their order, and behind them none but
+/// the one whose append had begun. So opening it never finds that it is no journal of this host.
 pub fn left_files_open()
     ensures { LeftFilesOpen }
 {}
 
-/// Each run takes the steps of all events that were acknowledged before it, in order, and of at most one more: the one that was being appended when the
-/// run before it ended.
+/// Each run takes the steps of all events that were acknowledged before it, in their order, and of no other but the one whose append had begun when the run
+/// before it ended.
 pub fn journals_keep_what_was_acknowledged<V>()
     ensures { JournalsKeep V }
 {}
