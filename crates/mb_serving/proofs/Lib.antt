@@ -2,4 +2,5 @@ pub mod RecordLaws
 pub mod NodeLaws
 pub mod JournalLaws
 pub mod ReadConfigs
+pub mod OfBytes
 pub mod WrittenLaws

@@ -1,17 +1,21 @@
 -- What a node writes, also where it was cut off: a record of its host's own steps, as far as it has whole pairs of lines.
-use Rattle.std.specs.Prelude.{◌≡◌, ℕ, ◌≤◌, ◌<◌, ◌⊎◌, ◌++◌, List, [], length, Option}
+use Rattle.std.specs.Prelude.{◌≡◌, ℕ, ◌≤◌, ◌<◌, ◌⊎◌, ◌++◌, List, [], length, reverse, Option, Some}
 use Rattle.std.specs.List.{flat_map, AllByRecursion}
 use Rattle.std.specs.Io.KnownBytes.{Appends}
 use Rattle.mb_base.specs.Shapes.{Bytes, host_count}
+use Rattle.mb_edge.specs.Told.{with_more}
 use Rattle.mb_msg.specs.declared.event.Event.{Event}
+use Rattle.mb_node.specs.Receives.{Receives}
 use Rattle.mb_node.specs.Recording.{entries_of, lines_of}
 use Rattle.mb_sched.specs.declared.configs.Config.{Config}
 use Rattle.mb_sched.specs.declared.records.Entry.{Entry}
 use Rattle.mb_sched.specs.declared.records.Record.{Record}
 use Rattle.mb_sched.specs.Configs.{SettingsFit}
 use Rattle.mb_sched.specs.Records.{max_record, record_head, entry_text, EventFits, IsShort}
-use Rattle.mb_answer.specs.Devices.{Device}
+use Rattle.mb_answer.specs.Configs.{IsConfigText}
+use Rattle.mb_answer.specs.Devices.{Device, LinkState}
 use Rattle.mb_answer.specs.Records.{IsRecordText}
+use Rattle.mb_serving.specs.Nodes.{events_of, Serves}
 use Rattle.mb_serving.specs.Records.{host_of, IsOwnRecord, same_text}
 
 -- a host of a config
@@ -35,6 +39,13 @@ module _ (c : Config) (host : ℕ) where
     pub whole : part ++ rest ≡ record_head c host ++ lines_of (host_of c host) [] es
     pub written : Appends old new part
 
+  -- A first part was written of the record's first lines and the lines of what was received. All events of that are of bytes.
+  pub record WritesReceived (before after : LinkState) (old new : Option Bytes) : Type 0 where
+    pub receives : Receives
+    pub received : after.received ≡ with_more before.received (reverse receives)
+    pub of_bytes : AllByRecursion EventFits (events_of c host receives)
+    pub writes : WritesFront (events_of c host receives) old new
+
   -- The text is what the host left of these events: the record's first lines, and a first part of what stands behind them.
   pub record IsLeft (es : List Event) (text : Bytes) : Type 0 where
     pub settings : SettingsFit c
@@ -50,3 +61,11 @@ module _ (c : Config) (host : ℕ) where
 abbrev pub RetracesLeft : Bytes → ℕ → Type 0 → Device → Device → Type 0
 RetracesLeft text status fault old new = (c : Config) (host : ℕ) (es : List Event) (left : IsLeft c host es text) → ¬ fault
     → (status ≡ 4) ⊎ ((status ≡ 0) × ((own : IsOwnSoFar c host es left.part) × Appends old.bytes new.bytes (same_text (length own.read.entries))))
+
+-- However a node ends, each first part of what it wrote that has the record's first lines and the length of a record is what its host left of the events that
+-- it received.
+abbrev pub NodesLeaveRecords : Type 0
+NodesLeaveRecords = (text : Bytes) (c : Config) (host budget status : ℕ) (sink sink' : Device) (before after : LinkState) (written : Bytes) → IsConfigText text c → host < host_count c.shape → Serves c host budget status sink sink' before after
+    → sink.bytes ≡ Some [] → sink'.bytes ≡ Some written
+    → (receives : Receives) × (after.received ≡ with_more before.received (reverse receives))
+    × ((part rest : Bytes) → part ++ rest ≡ written → length (record_head c host) ≤ length part → length part ≤ max_record → IsLeft c host (events_of c host receives) part)
