@@ -177,8 +177,8 @@ module _ {V : Type 0} (me : Identity V) (kept : List Event) (journal journal' : 
         meanwhile = all_moments es x.later x.told_is x.appended;
       }
 
-  ends_lacking : (s : ServeStop) (all : List Event) → LacksOne me start before now s journal journal' (Some m) told all → EndsSo all
-  ends_lacking s all lacks =
+  ends_lacking : (new : Replica V) (s : ServeStop) (all : List Event) → LacksOne me start before now new s journal journal' (Some m) told all → EndsSo all
+  ends_lacking new s all lacks =
       let x = lacks.keeps.keeps m refl kept rests in
       subst EndsSo (sym lacks.events_are) (record {
         later = x.later;
@@ -189,20 +189,20 @@ module _ {V : Type 0} (me : Identity V) (kept : List Event) (journal journal' : 
         meanwhile = all_moments (lacks.last ∷ lacks.es) x.later x.told_is x.appended;
       })
 
-  by_stop : (s : ServeStop) (halted : Bool) (es : List Event) → AreCutOff me start before now halted es
-      → (HasAll journal journal' (Some m) told es × ¬ IsOfDisk s) ⊎ LacksOne me start before now s journal journal' (Some m) told es → EndsSo es
-  by_stop s halted es cut (inl all) = ends_all es (sent_cut me start before now halted es cut) all.0
-  by_stop s halted es cut (inr lacks) = ends_lacking s es lacks
+  by_stop : (s : ServeStop) (new : Replica V) (es : List Event) → AreCutOff me start before now new.halted es
+      → (HasAll journal journal' (Some m) told es × ¬ IsOfDisk s) ⊎ LacksOne me start before now new s journal journal' (Some m) told es → EndsSo es
+  by_stop s new es cut (inl all) = ends_all es (sent_cut me start before now new.halted es cut) all.0
+  by_stop s new es cut (inr lacks) = ends_lacking new s es lacks
 
   pub ends_run : (budget : ℕ) (new : Replica V) (receives : Receives) (ended : Result (Unit {0}) ServeStop) → Ends me start budget before now new receives ended
-      → EndsKept me start before now journal journal' (Some m) told (events me start receives) ended → EndsSo (events me start receives)
+      → EndsKept me start before now new journal journal' (Some m) told (events me start receives) ended → EndsSo (events me start receives)
   ends_run budget new receives (Ok done) ends keeps = ends_all (events me start receives) (sent_done me start before now (events me start receives) ends.0) keeps
   ends_run budget new receives (Err (stop.Budget n)) ends keeps = ends_all (events me start receives) (sent_done me start before now (events me start receives) ends.0) keeps
-  ends_run budget new receives (Err stop.LinkFault) ends keeps = by_stop stop.LinkFault new.halted (events me start receives) ends.0 keeps
-  ends_run budget new receives (Err stop.SinkFault) ends keeps = by_stop stop.SinkFault new.halted (events me start receives) ends.0 keeps
-  ends_run budget new receives (Err stop.DiskFault) ends keeps = by_stop stop.DiskFault new.halted (events me start receives) ends.0 keeps
-  ends_run budget new receives (Err (stop.Full n)) ends keeps = by_stop (stop.Full n) new.halted (events me start receives) ends.0 keeps
-  ends_run budget new receives (Err stop.NoMemory) ends keeps = by_stop stop.NoMemory new.halted (events me start receives) ends.0 keeps
+  ends_run budget new receives (Err stop.LinkFault) ends keeps = by_stop stop.LinkFault new (events me start receives) ends.0 keeps
+  ends_run budget new receives (Err stop.SinkFault) ends keeps = by_stop stop.SinkFault new (events me start receives) ends.0 keeps
+  ends_run budget new receives (Err stop.DiskFault) ends keeps = by_stop stop.DiskFault new (events me start receives) ends.0 keeps
+  ends_run budget new receives (Err (stop.Full n)) ends keeps = by_stop (stop.Full n) new (events me start receives) ends.0 keeps
+  ends_run budget new receives (Err stop.NoMemory) ends keeps = by_stop stop.NoMemory new (events me start receives) ends.0 keeps
 
 pub servings_are_runs : {V : Type 0} (is_state : V → Type 0) (next : V → Bytes → V) (result : V → Bytes → Bytes) (part : V → ℕ → Bytes) (restored : List Bytes → Result V (ℕ × ℕ)) → ServingsAreRuns is_state next result part restored
 servings_are_runs is_state next result part restored me kept old new journal journal' m told budget told_before told_now before now ended serves rep whole rests served =

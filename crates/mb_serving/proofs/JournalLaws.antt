@@ -247,12 +247,12 @@ rises (Err stop.NoMemory) sink sink' l l' before after link sinks disk = tt
 pub serves_behind : (c : Config) (host : ℕ) (kept : List Event) (journal journal' : JournalState) (budget : ℕ) (ended : Result (Unit {0}) ServeStop) (sink sink' : Device) (l l' : LinkState) (between after : DiskState)
     (receives : Receives) → HasListened c host l l' receives → (begun : Option Bytes) → Appends sink.bytes begun (kept_head c host kept) → (r : Replica Pairs) (sent : Option Sends) → sent ≡ l.sent
     → Ends (host_of c host) (start_of c host kept) budget (record { written = begun; sent = sent }) (outside sink' l') r receives ended
-    × EndsKept (host_of c host) (start_of c host kept) (record { written = begun; sent = sent }) (outside sink' l') journal journal' between.moments after.moments (events (host_of c host) (start_of c host kept) receives) ended
+    × EndsKept (host_of c host) (start_of c host kept) (record { written = begun; sent = sent }) (outside sink' l') r journal journal' between.moments after.moments (events (host_of c host) (start_of c host kept) receives) ended
     → (IsErrOf ended stop.LinkFault → Rose l.faults l'.faults) → (IsErrOf ended stop.SinkFault → Rose sink.faults sink'.faults) → (IsErrOf ended stop.DiskFault → Rose between.faults after.faults)
     → ServesBehind c host kept journal budget (served_status ended) sink sink' l l' between after
 serves_behind c host kept journal journal' budget ended sink sink' l l' between after receives heard begun head r sent same is link sinks disk =
     let both = subst (λ (s : Option Sends). Ends (host_of c host) (start_of c host kept) budget (record { written = begun; sent = s }) (outside sink' l') r receives ended
-    × EndsKept (host_of c host) (start_of c host kept) (record { written = begun; sent = s }) (outside sink' l') journal journal' between.moments after.moments (events (host_of c host) (start_of c host kept) receives) ended) same is in
+    × EndsKept (host_of c host) (start_of c host kept) (record { written = begun; sent = s }) (outside sink' l') r journal journal' between.moments after.moments (events (host_of c host) (start_of c host kept) receives) ended) same is in
     served journal' ended refl (record {
       receives = receives;
       heard = heard;

@@ -2,5 +2,4 @@ pub mod RecordLaws
 pub mod NodeLaws
 pub mod JournalLaws
 pub mod ReadConfigs
-pub mod OfBytes
 pub mod WrittenLaws

@@ -27,6 +27,7 @@ use Rattle.mb_node.specs.Recording.{sent_digest, entry_at, entries_of, lines_of}
 use Rattle.mb_node.specs.Retracing.{events_in, AreOwn}
 use Rattle.mb_node.specs.Serving.{AreCutOff}
 use Rattle.mb_node.proofs.Counting.{sends_few}
+use Rattle.mb_node.proofs.OfBytes.{events_of_bytes}
 use Rattle.mb_node.proofs.Runs.{lines_more}
 use Rattle.mb_sched.specs.declared.configs.Config.{Config}
 use Rattle.mb_sched.specs.declared.records.Entry.{Entry}
@@ -42,7 +43,6 @@ use Rattle.mb_serving.specs.Records.{host_of, recorded_host, IsOwnRecord, same_t
 use Rattle.mb_serving.specs.Written.{IsOwnSoFar, WritesFront, WritesReceived, IsLeft, RetracesLeft, NodesLeaveRecords}
 use Rattle.mb_serving.proofs.RecordLaws.{events_parted, none_differs}
 use Rattle.mb_serving.proofs.ReadConfigs.{settings_fit}
-use Rattle.mb_serving.proofs.OfBytes.{events_of_bytes}
 
 module _ {S : Type 0} (me : Identity S) where
   -- ---- entries of the first events
@@ -182,7 +182,7 @@ writes_events : (c : Config) (host : ℕ) (sink sink' : Device) (before after : 
 writes_events c host sink sink' before after receives heard writes = record {
   receives = receives;
   received = heard.received;
-  of_bytes = events_of_bytes (host_of c host) receives heard.of_bytes;
+  of_bytes = events_of_bytes (host_of c host) [] receives heard.of_bytes;
   writes = writes;
 }
 

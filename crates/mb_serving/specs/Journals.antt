@@ -119,7 +119,7 @@ module _ (c : Config) (host : ℕ) where
     pub head : Appends sink.bytes begun (kept_head kept)
     pub replica : Replica Pairs
     pub ends : Ends (host_of c host) (start_of kept) budget (record { written = begun; sent = l.sent }) (outside sink' l') replica receives ended
-    pub keeps : EndsKept (host_of c host) (start_of kept) (record { written = begun; sent = l.sent }) (outside sink' l') journal journal' opened.moments after.moments (events (host_of c host) (start_of kept) receives) ended
+    pub keeps : EndsKept (host_of c host) (start_of kept) (record { written = begun; sent = l.sent }) (outside sink' l') replica journal journal' opened.moments after.moments (events (host_of c host) (start_of kept) receives) ended
     pub cause : Rises ended sink sink' l l' opened after
 
   -- It served, or failed before the first receive and left the disk as it was.

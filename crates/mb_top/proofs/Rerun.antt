@@ -49,8 +49,8 @@ module _ (c : Config) (host : ℕ) where
         let es : List Event = events me start on.receives in
         let there = stands_there me (reverse kept) in
         let ends = subst (λ (d : History). Ends me d budget begun (outside sink' l') on.replica on.receives ended) there on.ends in
-        let keeps = subst (λ (d : History). EndsKept me d begun (outside sink' l') journal journal' between.moments after'.moments (events me d on.receives) ended) there on.keeps in
-        let keeps_so = subst (λ (o : Option Moments). EndsKept me start begun (outside sink' l') journal journal' o after'.moments es ended) opens.is keeps in
+        let keeps = subst (λ (d : History). EndsKept me d begun (outside sink' l') on.replica journal journal' between.moments after'.moments (events me d on.receives) ended) there on.keeps in
+        let keeps_so = subst (λ (o : Option Moments). EndsKept me start begun (outside sink' l') on.replica journal journal' o after'.moments es ended) opens.is keeps in
         let header : journal.header ≡ header_text c host = ap (λ (j : JournalState). j.header) is_open.journal_is in
         record {
           kept = kept;
