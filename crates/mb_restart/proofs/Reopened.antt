@@ -6,12 +6,14 @@ use Rattle.std.proofs.lemmas.List.{drop_at}
 use Rattle.mb_base.specs.Shapes.{Bytes}
 use Rattle.mb_msg.specs.declared.event.Event.{Event}
 use Rattle.mb_msg.specs.declared.event.Event.TheVariants as event
+use Rattle.mb_edge.specs.Disks.{Content, IsImage}
 use Rattle.mb_journal.specs.Files.{Contents, contents, contents_of, record_text, entries, EventFits, Holds}
 use Rattle.mb_journal.specs.Keeping.{IsShut, IsWhole, IsCut}
 use Rattle.mb_journal.specs.Opening.{KeepsEvents}
+use Rattle.mb_journal.proofs.Lists.{settled_image}
 use Rattle.mb_journal.proofs.Reading.{cut_holds, shut_holds}
 use Rattle.mb_restart.specs.Runs.{known_to, IsLeft, IsOpenedBy}
-use Rattle.mb_restart.specs.Restarts.{HasAllAndOne, LeftFilesOpen, JournalsKeep}
+use Rattle.mb_restart.specs.Restarts.{HasAllAndOne, RestingFilesAreLeft, LeftFilesOpen, JournalsKeep}
 
 -- ---- a file says one list of events
 
@@ -20,6 +22,14 @@ contents_same read c d is_c is_d = cc
 
 says_once : (header file : Bytes) (a b : List Event) → Holds header a file → Holds header b file → a ≡ b
 says_once header file a b x y = ap (λ (c : Contents). c.events) (contents_same (contents_of header file) (contents a x.gate) (contents b y.gate) x.says y.says)
+
+-- ---- what is left at rest
+
+pub resting_files_are_left : RestingFilesAreLeft
+resting_files_are_left header end events content image rests is = (
+  rests.fit,
+  record { tail = rests.tail; file_is = settled_image ((header ++ entries events) ++ 0 ∷ rests.tail) image (subst (λ (c : Content). IsImage c image) rests.file is) },
+)
 
 -- ---- a shut gate stays shut
 
@@ -65,8 +75,8 @@ opened_again header before events kept begun left opened =
 none_begun : (one : Event) → None ≡ Some one → ⊥
 none_begun one is = absurd cc
 
-made_again : (header made : Bytes) (kept : List Event) → IsShut header [] made → IsOpenedBy header made kept → kept ≡ []
-made_again header made kept shut opened = elim (opened_again header made [] kept None (tt, shut) opened) [
+made_again : (header made : Bytes) (kept : List Event) → IsLeft header [] None made → IsOpenedBy header made kept → kept ≡ []
+made_again header made kept left opened = elim (opened_again header made [] kept None left opened) [
   | inl none ↦ none
   | inr one ↦ absurd (none_begun one.0 one.1)
 ]

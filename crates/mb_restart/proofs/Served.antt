@@ -11,9 +11,7 @@ use Rattle.mb_model.specs.Histories.{History, Identity, onto}
 use Rattle.mb_model.specs.Sending.{Letter}
 use Rattle.mb_model.specs.HostStep.{transition, after}
 use Rattle.mb_edge.specs.Disks.{Content, Moments, next_all, IsImage, HoldsInImages, LeavesOnly}
-use Rattle.mb_journal.specs.Files.{entries}
 use Rattle.mb_journal.specs.Keeping.{JournalState, RestsAt, IsAtRest, IsLeftBy}
-use Rattle.mb_journal.proofs.Lists.{settled_image}
 use Rattle.mb_journal.proofs.Crashes.{leaves_same, leaves_weaker, leaves_both}
 use Rattle.mb_core.specs.declared.replica.Replica.{Replica}
 use Rattle.mb_replica.specs.Represents.{as_sent}
@@ -31,14 +29,9 @@ use Rattle.mb_node.proofs.Told.{part_whole, part_behind}
 use Rattle.mb_node.proofs.Runs.{sends_more}
 use Rattle.mb_restart.specs.Runs.{sent_behind, IsLeft}
 use Rattle.mb_restart.specs.Servings.{IsRunOf, IsRunMeanwhile, EndsRun, ServingsAreRuns}
+use Rattle.mb_restart.proofs.Reopened.{resting_files_are_left}
 
 -- ---- what is left
-
-left_at_rest : (header : Bytes) (end : ℕ) (events : List Event) (content : Content) (image : Bytes) → RestsAt header end events content → IsImage content image → IsLeft header events None image
-left_at_rest header end events content image rests is = (
-  rests.fit,
-  record { tail = rests.tail; file_is = settled_image ((header ++ entries events) ++ 0 ∷ rests.tail) image (subst (λ (c : Content). IsImage c image) rests.file is) },
-)
 
 same_moments : (new old : Moments) → Some new ≡ Some old → new ≡ old
 same_moments new old is = cc
@@ -55,7 +48,7 @@ left_behind : (header : Bytes) (end : ℕ) (events : List Event) (e : Event) (ol
 left_behind header end events e old new image rests [] is each at = record {
   begun = None;
   only = inl refl;
-  left = left_at_rest header end events old.now image rests (subst (λ (m : Moments). IsImage m.now image) is at);
+  left = resting_files_are_left header end events old.now image rests (subst (λ (m : Moments). IsImage m.now image) is at);
 }
 left_behind header end events e old new image rests (content ∷ more) is each at = record {
   begun = Some e;
@@ -161,6 +154,9 @@ module _ {V : Type 0} (me : Identity V) (kept : List Event) (journal journal' : 
   run_but_last : (e : Event) (es : List Event) (image : Bytes) → IsSent me start before now es → IsLeftThen journal.header (kept ++ reverse es) e image → IsOne (e ∷ es) image
   run_but_last e es image sent so = run_of es (e ∷ es) so.begun image sent (begins_then e es so.begun so.only) (omega arith) so.left
 
+  abbrev EndsSo : List Event → Type 0
+  EndsSo es = EndsRun me journal.header kept es m before.sent now.sent told
+
   all_moments : (es : List Event) (later : Moments) → told ≡ Some later → AreAppended journal.header kept es m later → LeavesOnly (IsRunMeanwhile me journal.header kept es) m told
   all_moments es later is appended =
       subst (λ (o : Option Moments). LeavesOnly (IsRunMeanwhile me journal.header kept es) m o) (sym is) (runs_meanwhile me journal.header kept es m later appended)
@@ -173,7 +169,7 @@ module _ {V : Type 0} (me : Identity V) (kept : List Event) (journal journal' : 
         told_is = x.told_is;
         appended = x.appended;
         each = λ image at. run_all es image sent
-            (subst (λ (h : Bytes). IsLeft h (kept ++ reverse es) None image) has.keeps.goes_on.header (left_at_rest journal'.header journal'.end (kept ++ reverse es) x.later.now image (x.rests has.runs) at));
+            (subst (λ (h : Bytes). IsLeft h (kept ++ reverse es) None image) has.keeps.goes_on.header (resting_files_are_left journal'.header journal'.end (kept ++ reverse es) x.later.now image (x.rests has.runs) at));
         meanwhile = all_moments es x.later x.told_is x.appended;
       }
 

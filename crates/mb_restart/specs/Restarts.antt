@@ -9,7 +9,9 @@ use Rattle.mb_msg.specs.declared.event.Event.{Event}
 use Rattle.mb_model.specs.Histories.{Identity, said}
 use Rattle.mb_model.specs.Sending.{Letter}
 use Rattle.mb_model.specs.HostStep.{after}
+use Rattle.mb_edge.specs.Disks.{Content, IsImage}
 use Rattle.mb_journal.specs.Files.{Holds}
+use Rattle.mb_journal.specs.Keeping.{RestsAt}
 use Rattle.mb_journal.specs.Opening.{KeepsEvents}
 use Rattle.mb_theory.specs.World.{World, System, self_of}
 use Rattle.mb_theory.specs.WorldEvents.{IsCorrect}
@@ -22,6 +24,10 @@ use Rattle.mb_restart.specs.Runs.{sent_by, Run, events_of, known_to, IsLeft, Are
 -- the acknowledged events, and behind them none but the one whose append had begun
 abbrev pub HasAllAndOne : List Event → Option Event → List Event → Type 0
 HasAllAndOne known begun kept = (kept ≡ known) ⊎ ((one : Event) × (begun ≡ Some one) × (kept ≡ known ++ one ∷ []))
+
+-- Whatever a crash leaves of a disk at rest at these events is a file that says them. So runs can begin with a journal that was made.
+abbrev pub RestingFilesAreLeft : Type 0
+RestingFilesAreLeft = (header : Bytes) (end : ℕ) (events : List Event) (content : Content) (image : Bytes) → RestsAt header end events content → IsImage content image → IsLeft header events None image
 
 -- Whatever file a run left, and whatever crashes made of it while it was opened again: it says such events, so that it is a journal of this host.
 abbrev pub LeftFilesOpen : Type 0

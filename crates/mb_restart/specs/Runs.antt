@@ -68,5 +68,5 @@ pub record IsOpenedBy (header before : Bytes) (kept : List Event) : Type 0 where
 
 -- Runs one behind the other, the last of them first, from a journal that was made.
 abbrev pub AreRuns : {S : Type 0} (self : Identity S) → Bytes → Bytes → List Run → Type 0
-AreRuns self header made [] = IsShut header [] made
+AreRuns self header made [] = IsLeft header [] None made
 AreRuns self header made (run ∷ runs) = IsOpenedBy header (file_left made runs) run.kept × IsRun self header run × AreRuns self header made runs

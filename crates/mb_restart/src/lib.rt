@@ -6,11 +6,16 @@
 //! (`specs/Orders`).
 #![tactic(auto)]
 
-ghost use Rattle.mb_restart.specs.Restarts.{LeftFilesOpen, JournalsKeep, HostsGoOn, NoCounterTwice, HostsAreInWorlds};
+ghost use Rattle.mb_restart.specs.Restarts.{RestingFilesAreLeft, LeftFilesOpen, JournalsKeep, HostsGoOn, NoCounterTwice, HostsAreInWorlds};
 ghost use Rattle.mb_restart.specs.Servings.{ServingsAreRuns};
 ghost use Rattle.mb_restart.specs.Orders.{OneWriteLoses, NoSyncLoses, NoSecondSyncLoses};
 
 use mb_service::Service;
+
+/// Whatever a crash leaves of a disk at rest, as a journal is once it is made, opened or appended to, says the events there.
+pub fn resting_files_are_left()
+    ensures { RestingFilesAreLeft }
+{}
 
 /// Whatever file a run left, and whatever crashes made of it while it was opened: it says the acknowledged events in their order, and behind them none but
 /// the one whose append had begun. So opening it never finds that it is no journal of this host.
