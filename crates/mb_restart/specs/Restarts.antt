@@ -1,5 +1,5 @@
 -- What holds of a host over all its runs.
-use Rattle.std.specs.Prelude.{◌≡◌, ◌⊎◌, ℕ, zero, suc, List, [], ◌∷◌, ◌++◌, Option, Some, None, Contains, slice_get, option_and_then, if◌then◌else◌, ◌==◌}
+use Rattle.std.specs.Prelude.{◌≡◌, ◌≢◌, ◌⊎◌, ℕ, zero, suc, List, [], ◌∷◌, ◌++◌, Option, Some, None, Contains, slice_get, option_and_then, if◌then◌else◌, ◌==◌}
 use Rattle.std.specs.List.{AllByRecursion}
 use Rattle.mb_base.specs.Shapes.{Bytes}
 use Rattle.mb_parts.specs.Bares.{Bare}
@@ -13,6 +13,7 @@ use Rattle.mb_edge.specs.Disks.{Content, IsImage}
 use Rattle.mb_journal.specs.Files.{Holds}
 use Rattle.mb_journal.specs.Keeping.{RestsAt}
 use Rattle.mb_journal.specs.Opening.{KeepsEvents}
+use Rattle.mb_schedule.specs.declared.schedule.WorldEvent.TheVariants.{Nudge}
 use Rattle.mb_theory.specs.World.{World, System, self_of}
 use Rattle.mb_theory.specs.WorldEvents.{IsCorrect}
 use Rattle.mb_theory.specs.WorldSteps.{world}
@@ -91,3 +92,19 @@ pub record AreInWorld {S : Type 0} (system : System S) (h k : ℕ) (last : Run) 
 abbrev pub HostsAreInWorlds : Type 0 → Type 0
 HostsAreInWorlds S = (system : System S) (h k : ℕ) (header made : Bytes) (last : Run) (runs : List Run) → IsCorrect system.schedule h → AreRuns (self_of system h) header made (last ∷ runs) → came system h k ≡ events_of last
     → AreInWorld system h k last runs
+
+-- ---- that there are such runs
+
+-- Two runs with a crash between them, in which the event that was being appended was lost. What came to the host are the events of the last one.
+pub record IsMet {S : Type 0} (system : System S) (h k : ℕ) (header : Bytes) : Type 0 where
+  pub made : Bytes
+  pub first : Run
+  pub second : Run
+  pub are : AreRuns (self_of system h) header made (second ∷ first ∷ [])
+  pub some : first.acknowledged ≢ []
+  pub lost : (one : Event) × (first.begun ≡ Some one) × (second.kept ≡ known_to first)
+  pub come : came system h k ≡ events_of second
+
+-- So it is where a host is nudged, and nothing else happens.
+abbrev pub RunsAreMet : Type 0 → Type 0
+RunsAreMet S = (system : System S) (h : ℕ) (header : Bytes) → system.schedule.events ≡ Nudge h ∷ [] → IsMet system h 1 header

@@ -6,7 +6,7 @@
 //! (`specs/Orders`).
 #![tactic(auto)]
 
-ghost use Rattle.mb_restart.specs.Restarts.{RestingFilesAreLeft, LeftFilesOpen, JournalsKeep, HostsGoOn, NoCounterTwice, HostsAreInWorlds};
+ghost use Rattle.mb_restart.specs.Restarts.{RestingFilesAreLeft, LeftFilesOpen, JournalsKeep, HostsGoOn, NoCounterTwice, HostsAreInWorlds, RunsAreMet};
 ghost use Rattle.mb_restart.specs.Servings.{ServingsAreRuns};
 ghost use Rattle.mb_restart.specs.Orders.{OneWriteLoses, NoSyncLoses, NoSecondSyncLoses};
 
@@ -45,6 +45,11 @@ pub fn no_counter_is_given_twice<V>()
 /// may be lost.
 pub fn hosts_are_those_of_a_world<V>()
     ensures { HostsAreInWorlds V }
+{}
+
+/// There are such runs with a crash between them, which lost the event whose append had begun, and whose events came to a host in a world.
+pub fn runs_are_met<V>()
+    ensures { RunsAreMet V }
 {}
 
 /// Whatever `serve_kept` of `mb_node` answers from a host that stands behind the events of its journal, it was a run behind these with the events that
