@@ -40,7 +40,7 @@ use Rattle.mb_serving.specs.Nodes.{HasListened, events_of, Serves, stopped, exha
 use Rattle.mb_answer.specs.Records.{IsRecordText, too_long, bad_line, right}
 use Rattle.mb_answer.proofs.RecordTexts.{same_record}
 use Rattle.mb_serving.specs.Records.{host_of, recorded_host, IsOwnRecord, same_text, AnswersRecord, same, differs, AnswersRecordText, Retraces}
-use Rattle.mb_serving.specs.Written.{IsOwnSoFar, WritesFront, WritesReceived, IsLeft, RetracesLeft, NodesLeaveRecords}
+use Rattle.mb_serving.specs.Written.{IsOwnSoFar, WritesFront, WritesReceived, IsLeft, LeavesParts, RetracesLeft, NodesLeaveRecords}
 use Rattle.mb_serving.proofs.RecordLaws.{events_parted, none_differs}
 use Rattle.mb_serving.proofs.ReadConfigs.{settings_fit}
 
@@ -141,7 +141,7 @@ own_so_far c host es part rest settings there of_bytes is within =
 
 -- ---- what a node writes
 
-appends_none : (old : Option Bytes) → Appends old old []
+pub appends_none : (old : Option Bytes) → Appends old old []
 appends_none None = tt
 appends_none (Some xs) = sym (append-nil xs)
 
@@ -229,13 +229,17 @@ front_is_left c host es written part rest settings there of_bytes writes is long
       within = within;
     }
 
+pub parts_are_left : (c : Config) (host : ℕ) (es : List Event) (written : Bytes) (old new : Option Bytes) → SettingsFit c → host < host_count c.shape → AllByRecursion EventFits es → WritesFront c host es old new → old ≡ Some [] → new ≡ Some written
+    → LeavesParts c host es written
+parts_are_left c host es written old new settings there of_bytes writes empty all part rest joined long within =
+    let known : WritesFront c host es (Some []) (Some written) =
+    subst (λ (o : Option Bytes). WritesFront c host es o (Some written)) empty (subst (λ (o : Option Bytes). WritesFront c host es old o) all writes) in
+    front_is_left c host es written part rest settings there of_bytes known joined long within
+
 pub nodes_leave_records : NodesLeaveRecords
 nodes_leave_records text c host budget status sink sink' before after written is there serves empty all =
     let w = writes_front c host budget status sink sink' before after serves in
-    let es : List Event = events_of c host w.receives in
-    let writes : WritesFront c host es (Some []) (Some written) =
-    subst (λ (o : Option Bytes). WritesFront c host es o (Some written)) empty (subst (λ (o : Option Bytes). WritesFront c host es sink.bytes o) all w.writes) in
-    (w.receives, w.received, λ part rest joined long within. front_is_left c host es written part rest (settings_fit text c is) there w.of_bytes writes joined long within)
+    (w.receives, w.received, parts_are_left c host (events_of c host w.receives) written sink.bytes sink'.bytes (settings_fit text c is) there w.of_bytes w.writes empty all)
 
 -- ---- what is answered to it
 

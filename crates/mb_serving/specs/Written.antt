@@ -5,7 +5,9 @@ use Rattle.std.specs.Io.KnownBytes.{Appends}
 use Rattle.mb_base.specs.Shapes.{Bytes, host_count}
 use Rattle.mb_edge.specs.Told.{with_more}
 use Rattle.mb_msg.specs.declared.event.Event.{Event}
+use Rattle.mb_journal.specs.Keeping.{JournalState}
 use Rattle.mb_node.specs.Receives.{Receives}
+use Rattle.mb_node.specs.Events.{events}
 use Rattle.mb_node.specs.Recording.{entries_of, lines_of}
 use Rattle.mb_sched.specs.declared.configs.Config.{Config}
 use Rattle.mb_sched.specs.declared.records.Entry.{Entry}
@@ -17,6 +19,7 @@ use Rattle.mb_answer.specs.Devices.{Device, LinkState}
 use Rattle.mb_answer.specs.Records.{IsRecordText}
 use Rattle.mb_serving.specs.Nodes.{events_of, Serves}
 use Rattle.mb_serving.specs.Records.{host_of, IsOwnRecord, same_text}
+use Rattle.mb_serving.specs.Journals.{DiskState, start_of, ServesBehind}
 
 -- a host of a config
 module _ (c : Config) (host : ℕ) where
@@ -57,15 +60,23 @@ module _ (c : Config) (host : ℕ) where
     pub text_is : text ≡ record_head c host ++ part
     pub within : length text ≤ max_record
 
+  -- Each first part of what was written that has the record's first lines and at most the length of a record is what the host left of these events.
+  abbrev pub LeavesParts : List Event → Bytes → Type 0
+  LeavesParts es written = (part rest : Bytes) → part ++ rest ≡ written → length (record_head c host) ≤ length part → length part ≤ max_record → IsLeft es part
+
 -- What a node left is answered by how many of its events have whole pairs of lines, unless memory runs out or a device fails.
 abbrev pub RetracesLeft : Bytes → ℕ → Type 0 → Device → Device → Type 0
 RetracesLeft text status fault old new = (c : Config) (host : ℕ) (es : List Event) (left : IsLeft c host es text) → ¬ fault
     → (status ≡ 4) ⊎ ((status ≡ 0) × ((own : IsOwnSoFar c host es left.part) × Appends old.bytes new.bytes (same_text (length own.read.entries))))
 
--- However a node ends, each first part of what it wrote that has the record's first lines and the length of a record is what its host left of the events that
--- it received.
+-- However a node ends, what it wrote is what its host left of the events that it received.
 abbrev pub NodesLeaveRecords : Type 0
 NodesLeaveRecords = (text : Bytes) (c : Config) (host budget status : ℕ) (sink sink' : Device) (before after : LinkState) (written : Bytes) → IsConfigText text c → host < host_count c.shape → Serves c host budget status sink sink' before after
     → sink.bytes ≡ Some [] → sink'.bytes ≡ Some written
-    → (receives : Receives) × (after.received ≡ with_more before.received (reverse receives))
-    × ((part rest : Bytes) → part ++ rest ≡ written → length (record_head c host) ≤ length part → length part ≤ max_record → IsLeft c host (events_of c host receives) part)
+    → (receives : Receives) × (after.received ≡ with_more before.received (reverse receives)) × LeavesParts c host (events_of c host receives) written
+
+-- So it is where the node has a journal: of the journal's events, where these are of bytes, and of those that it received behind them.
+abbrev pub KeptNodesLeaveRecords : Type 0
+KeptNodesLeaveRecords = (text : Bytes) (c : Config) (host budget status : ℕ) (kept : List Event) (journal : JournalState) (sink sink' : Device) (l l' : LinkState) (opened after : DiskState) (written : Bytes) → IsConfigText text c → host < host_count c.shape
+    → AllByRecursion EventFits kept → ServesBehind c host kept journal budget status sink sink' l l' opened after → sink.bytes ≡ Some [] → sink'.bytes ≡ Some written
+    → (receives : Receives) × (l'.received ≡ with_more l.received (reverse receives)) × LeavesParts c host (events (host_of c host) (start_of c host kept) receives ++ reverse kept) written

@@ -12,7 +12,7 @@ ghost use Rattle.mb_answer.specs.Configs.{IsConfigText};
 ghost use Rattle.mb_answer.specs.Devices.{Device, LinkState};
 ghost use Rattle.mb_serving.specs.Nodes.{Serves};
 ghost use Rattle.mb_serving.specs.Records.{host_of};
-ghost use Rattle.mb_serving.specs.Written.{IsOwnSoFar, WritesReceived, NodesLeaveRecords};
+ghost use Rattle.mb_serving.specs.Written.{IsOwnSoFar, WritesReceived, NodesLeaveRecords, KeptNodesLeaveRecords};
 
 /// The config of a text keeps the limits of its lines.
 pub fn read_configs_keep_limits()
@@ -35,4 +35,9 @@ pub fn written_records_are_own()
 /// of the events received have whole pairs of lines there.
 pub fn what_nodes_write_is_left()
     ensures { NodesLeaveRecords }
+{}
+
+/// So it is of a node that was started again from its journal: `retrace` answers its record too, which begins with the journal's events.
+pub fn what_kept_nodes_write_is_left()
+    ensures { KeptNodesLeaveRecords }
 {}
