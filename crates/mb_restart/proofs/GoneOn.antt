@@ -1,10 +1,11 @@
 -- What a host sends and stamps behind more events, and that the runs of a host with a journal are those of one host.
-use Rattle.std.proofs.Common.{◌≡◌, inl, inr, true, List, [], ◌∷◌, ◌++◌, reverse, refl, sym, ap, subst, ◌∙◌, append-nil, append_assoc}
+use Rattle.std.proofs.Common.{◌≡◌, inl, inr, ℕ, true, List, [], ◌∷◌, ◌++◌, reverse, Some, refl, sym, ap, subst, ◌∙◌, append-nil, append_assoc}
 use Rattle.std.specs.List.{AllByRecursion}
 use Rattle.std.proofs.lemmas.List.{reverse-append, reverse-reverse}
 use Rattle.mb_base.specs.Shapes.{Bytes}
 use Rattle.mb_parts.specs.Bares.{Bare}
-use Rattle.mb_parts.specs.Counters.{IsBeginning}
+use Rattle.mb_parts.specs.Counters.{at_counter, IsBeginning}
+use Rattle.mb_parts.proofs.Counters.{some_is, at_more}
 use Rattle.mb_msg.specs.declared.event.Event.{Event}
 use Rattle.mb_msg.specs.declared.stamped.Stamped.{Stamped as StampedMessage}
 use Rattle.mb_msg.specs.Stamps.{bare_of}
@@ -13,7 +14,7 @@ use Rattle.mb_model.specs.Sending.{Letter}
 use Rattle.mb_model.specs.HostStep.{transition, after}
 use Rattle.mb_theory.proofs.KeptByEvents.{is_plain, IsKept, event_keeps, execution_keeps, state_keeps}
 use Rattle.mb_restart.specs.Runs.{sent_by, sent_behind, Run, events_of, known_to, IsRun}
-use Rattle.mb_restart.specs.Restarts.{HasAllAndOne, IsWithin, IsPartOf, HostsGoOn}
+use Rattle.mb_restart.specs.Restarts.{HasAllAndOne, IsWithin, IsPartOf, HostsGoOn, StampAlike, NoCounterTwice}
 use Rattle.mb_restart.proofs.Reopened.{journals_keep}
 
 -- ---- what a host stamps
@@ -93,17 +94,17 @@ module _ {S : Type 0} (self : Identity S) where
 in_reverse : (run : Run) → reverse (known_to run) ≡ events_of run
 in_reverse run = reverse-append run.kept (reverse run.acknowledged) ∙ ap (λ (l : List Event). l ++ reverse run.kept) (reverse-reverse run.acknowledged)
 
-opened_more : (before run : Run) → HasAllAndOne (known_to before) run.kept → (more : List Event) × (events_of run ≡ more ++ events_of before)
+opened_more : (before run : Run) → HasAllAndOne (known_to before) before.begun run.kept → (more : List Event) × (events_of run ≡ more ++ events_of before)
 opened_more before run (inl all) = (run.acknowledged, ap (λ (l : List Event). run.acknowledged ++ l) (ap reverse all ∙ in_reverse before))
 opened_more before run (inr one) = (
   run.acknowledged ++ one.0 ∷ [],
-  ap (λ (l : List Event). run.acknowledged ++ l) (ap reverse one.1 ∙ reverse-append (known_to before) (one.0 ∷ []) ∙ ap (λ (l : List Event). one.0 ∷ l) (in_reverse before))
+  ap (λ (l : List Event). run.acknowledged ++ l) (ap reverse one.2 ∙ reverse-append (known_to before) (one.0 ∷ []) ∙ ap (λ (l : List Event). one.0 ∷ l) (in_reverse before))
       ∙ sym (append_assoc run.acknowledged (one.0 ∷ []) (events_of before)),
 )
 
 -- ---- all runs
 
-all_weaker : (P Q : Run → Type 0) → ((run : Run) → P run → Q run) → (runs : List Run) → AllByRecursion P runs → AllByRecursion Q runs
+pub all_weaker : (P Q : Run → Type 0) → ((run : Run) → P run → Q run) → (runs : List Run) → AllByRecursion P runs → AllByRecursion Q runs
 all_weaker P Q is [] all = tt
 all_weaker P Q is (run ∷ runs) all = (is run all.0, all_weaker P Q is runs all.1)
 
@@ -116,3 +117,21 @@ hosts_go_on S self header made last (before ∷ runs) are =
           (λ run part. subst (λ (es : List Event). IsPartOf self es run) (sym more.1) (part_more self (events_of before) more.0 run part)) (before ∷ runs)
           (hosts_go_on S self header made before runs are.2),
     )
+
+-- ---- counters
+
+module _ {S : Type 0} (self : Identity S) (es : List Event) where
+  -- what a run stamped at a counter, the whole host stamped there
+  stamped_there : (run : Run) → IsPartOf self es run → (counter : ℕ) (a : Bare) → at_counter (said (after self (events_of run))) counter ≡ Some a → at_counter (said (after self es)) counter ≡ Some a
+  stamped_there run part counter a at =
+      ap (λ (l : List Bare). at_counter l counter) (sym part.stamps.is) ∙ at_more part.stamps.later (said (after self (events_of run))) counter a at
+
+  stamp_alike : (one two : Run) → IsPartOf self es one → IsPartOf self es two → StampAlike self one two
+  stamp_alike one two first second counter a b at_a at_b = some_is a b (sym (stamped_there one first counter a at_a) ∙ stamped_there two second counter b at_b)
+
+  all_alike : (runs : List Run) → AllByRecursion (IsPartOf self es) runs → AllByRecursion (λ (one : Run). AllByRecursion (StampAlike self one) runs) runs
+  all_alike runs parts = all_weaker (IsPartOf self es) (λ (one : Run). AllByRecursion (StampAlike self one) runs)
+      (λ one first. all_weaker (IsPartOf self es) (StampAlike self one) (λ two second. stamp_alike one two first second) runs parts) runs parts
+
+pub no_counter_twice : (S : Type 0) → NoCounterTwice S
+no_counter_twice S self header made last runs are = all_alike self (events_of last) (last ∷ runs) (hosts_go_on S self header made last runs are)

@@ -1,11 +1,12 @@
 -- A host with a journal, run after run: it is stopped at any moment, and started again from the file that is left.
-use Rattle.std.specs.Prelude.{◌≡◌, List, [], ◌∷◌, ◌++◌, reverse}
+use Rattle.std.specs.Prelude.{◌≡◌, List, [], ◌∷◌, ◌++◌, reverse, Option, Some, None}
+use Rattle.std.specs.List.{AllByRecursion}
 use Rattle.mb_base.specs.Shapes.{Bytes}
 use Rattle.mb_msg.specs.declared.event.Event.{Event}
 use Rattle.mb_model.specs.Histories.{Identity}
 use Rattle.mb_model.specs.Sending.{Letter}
 use Rattle.mb_model.specs.HostStep.{transition, after}
-use Rattle.mb_journal.specs.Files.{Holds}
+use Rattle.mb_journal.specs.Files.{EventFits, Holds}
 use Rattle.mb_journal.specs.Keeping.{IsShut, IsLeftBy}
 use Rattle.mb_journal.specs.Opening.{KeepsEvents}
 
@@ -24,11 +25,12 @@ module _ {S : Type 0} (self : Identity S) where
 
 -- ---- one run
 
--- the events that opening the journal answered, the first of them first; those that were acknowledged then, the last of them first; what was sent; and the
--- file that is left
+-- the events that opening the journal answered, the first of them first; those that were acknowledged then, the last of them first; the one that was being
+-- appended as the run ended, where there was one; what was sent; and the file that is left
 pub record Run : Type 0 where
   pub kept : List Event
   pub acknowledged : List Event
+  pub begun : Option Event
   pub sent : List Letter
   pub left : Bytes
 
@@ -40,15 +42,16 @@ events_of run = run.acknowledged ++ reverse run.kept
 abbrev pub known_to : Run → List Event
 known_to run = run.kept ++ reverse run.acknowledged
 
--- The file says these events, with one that was being appended or without.
-abbrev pub IsLeft : Bytes → List Event → Bytes → Type 0
-IsLeft header events file = (one : Event) × IsLeftBy header events one file
+-- The file says these events; where one was being appended behind them, with this one or without.
+abbrev pub IsLeft : Bytes → List Event → Option Event → Bytes → Type 0
+IsLeft header events None file = AllByRecursion EventFits events × IsShut header events file
+IsLeft header events (Some one) file = IsLeftBy header events one file
 
 -- What a run sends is a first part of what its acknowledged events send behind those of the journal, and the file that it leaves says these all.
 pub record IsRun {S : Type 0} (self : Identity S) (header : Bytes) (run : Run) : Type 0 where
   pub unsent : List Letter
   pub sends : run.sent ++ unsent ≡ sent_behind self (reverse run.kept) run.acknowledged
-  pub leaves : IsLeft header (known_to run) run.left
+  pub leaves : IsLeft header (known_to run) run.begun run.left
 
 -- ---- all runs
 
@@ -65,5 +68,5 @@ pub record IsOpenedBy (header before : Bytes) (kept : List Event) : Type 0 where
 
 -- Runs one behind the other, the last of them first, from a journal that was made.
 abbrev pub AreRuns : {S : Type 0} (self : Identity S) → Bytes → Bytes → List Run → Type 0
-AreRuns self header made [] = IsShut header [] made
+AreRuns self header made [] = IsLeft header [] None made
 AreRuns self header made (run ∷ runs) = IsOpenedBy header (file_left made runs) run.kept × IsRun self header run × AreRuns self header made runs

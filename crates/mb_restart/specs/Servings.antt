@@ -1,9 +1,12 @@
 -- That serving with a journal is a run, whenever it ends.
-use Rattle.std.specs.Prelude.{◌≡◌, ℕ, List, ◌++◌, reverse, map, Option, Some, Result}
+--
+-- A kill is read as the run of the same devices whose next call fails and changes nothing, or, in a write, leaves what was written of it: it is one of those
+-- of which this speaks.
+use Rattle.std.specs.Prelude.{◌≡◌, ℕ, ◌+◌, ◌≤◌, List, ◌∷◌, ◌++◌, length, reverse, map, Option, Some, Result}
 use Rattle.mb_base.specs.Shapes.{Bytes, host_count}
 use Rattle.mb_parts.specs.Counters.{IsBeginning}
 use Rattle.mb_msg.specs.declared.event.Event.{Event}
-use Rattle.mb_model.specs.Histories.{Identity}
+use Rattle.mb_model.specs.Histories.{Identity, onto}
 use Rattle.mb_model.specs.Sending.{Letter}
 use Rattle.mb_model.specs.HostStep.{after}
 use Rattle.mb_steps.proofs.StepArises.{IsWhole}
@@ -17,30 +20,36 @@ use Rattle.mb_node.specs.Receives.{Receives}
 use Rattle.mb_node.specs.Events.{events}
 use Rattle.mb_node.specs.Sends.{Sends, numbered}
 use Rattle.mb_node.specs.Outside.{Outside, SendsPart}
-use Rattle.mb_node.specs.Keeping.{HasServedKept}
+use Rattle.mb_node.specs.Keeping.{AreAppended, HasServedKept}
 use Rattle.mb_restart.specs.Runs.{sent_behind, Run, IsRun}
 
--- A run that began with these events and left this file. What was sent is a first part of the datagrams of its messages.
-pub record IsRunOf {S : Type 0} (me : Identity S) (header : Bytes) (kept : List Event) (before now : Option Sends) (image : Bytes) : Type 0 where
+-- A run that began with the journal's events and left this file. Of the events that came, the last of them first, all were acknowledged but for the last one
+-- at most, which may have been being appended. What was sent is a first part of the datagrams of the run's messages.
+pub record IsRunOf {S : Type 0} (me : Identity S) (header : Bytes) (kept es : List Event) (before now : Option Sends) (image : Bytes) : Type 0 where
   pub run : Run
   pub kept_is : run.kept ≡ kept
   pub left_is : run.left ≡ image
   pub is : IsRun me header run
+  pub earlier : IsBeginning (onto run.begun run.acknowledged) es
+  pub few : length es ≤ length run.acknowledged + 1
   pub sends : SendsPart (numbered (host_count me.shape) me.host 0 (map as_sent run.sent)) before now
 
--- A crash left this file while these events were appended behind those of the journal, the last of them first. Some of them were acknowledged by then, and
--- whatever first part was sent of what those send, it was a run.
+-- A crash left this file while these events were appended behind those of the journal, the last of them first. The first of them were acknowledged before,
+-- the next one was being appended, and whatever first part was sent of what the acknowledged ones send, it was a run.
 pub record IsRunMeanwhile {S : Type 0} (me : Identity S) (header : Bytes) (kept es : List Event) (image : Bytes) : Type 0 where
   pub acknowledged : List Event
-  pub earlier : IsBeginning acknowledged es
+  pub next : Event
+  pub earlier : IsBeginning (next ∷ acknowledged) es
   pub is : (sent unsent : List Letter) → sent ++ unsent ≡ sent_behind me (reverse kept) acknowledged
-      → IsRun me header (record { kept = kept; acknowledged = acknowledged; sent = sent; left = image })
+      → IsRun me header (record { kept = kept; acknowledged = acknowledged; begun = Some next; sent = sent; left = image })
 
--- Whatever a crash leaves of the file, in the end or at a moment before, it was a run.
+-- The events that came were appended one behind the other: the disk was at rest at those that were acknowledged before the next one was begun. Whatever a
+-- crash leaves of the file, in the end or at a moment before, it was a run.
 pub record EndsRun {S : Type 0} (me : Identity S) (header : Bytes) (kept es : List Event) (m : Moments) (before now : Option Sends) (told : Option Moments) : Type 0 where
   pub later : Moments
   pub told_is : told ≡ Some later
-  pub each : (image : Bytes) → IsImage later.now image → IsRunOf me header kept before now image
+  pub appended : AreAppended header kept es m later
+  pub each : (image : Bytes) → IsImage later.now image → IsRunOf me header kept es before now image
   pub meanwhile : LeavesOnly (IsRunMeanwhile me header kept es) m told
 
 -- So serving ends, with whatever answer, from a host that stands behind the events of its journal.

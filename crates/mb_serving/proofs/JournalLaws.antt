@@ -247,12 +247,12 @@ rises (Err stop.NoMemory) sink sink' l l' before after link sinks disk = tt
 pub serves_behind : (c : Config) (host : ℕ) (kept : List Event) (journal journal' : JournalState) (budget : ℕ) (ended : Result (Unit {0}) ServeStop) (sink sink' : Device) (l l' : LinkState) (between after : DiskState)
     (receives : Receives) → HasListened c host l l' receives → (begun : Option Bytes) → Appends sink.bytes begun (kept_head c host kept) → (r : Replica Pairs) (sent : Option Sends) → sent ≡ l.sent
     → Ends (host_of c host) (start_of c host kept) budget (record { written = begun; sent = sent }) (outside sink' l') r receives ended
-    × EndsKept (host_of c host) (start_of c host kept) (record { written = begun; sent = sent }) (outside sink' l') journal journal' between.moments after.moments (events (host_of c host) (start_of c host kept) receives) ended
+    × EndsKept (host_of c host) (start_of c host kept) (record { written = begun; sent = sent }) (outside sink' l') r journal journal' between.moments after.moments (events (host_of c host) (start_of c host kept) receives) ended
     → (IsErrOf ended stop.LinkFault → Rose l.faults l'.faults) → (IsErrOf ended stop.SinkFault → Rose sink.faults sink'.faults) → (IsErrOf ended stop.DiskFault → Rose between.faults after.faults)
     → ServesBehind c host kept journal budget (served_status ended) sink sink' l l' between after
 serves_behind c host kept journal journal' budget ended sink sink' l l' between after receives heard begun head r sent same is link sinks disk =
     let both = subst (λ (s : Option Sends). Ends (host_of c host) (start_of c host kept) budget (record { written = begun; sent = s }) (outside sink' l') r receives ended
-    × EndsKept (host_of c host) (start_of c host kept) (record { written = begun; sent = s }) (outside sink' l') journal journal' between.moments after.moments (events (host_of c host) (start_of c host kept) receives) ended) same is in
+    × EndsKept (host_of c host) (start_of c host kept) (record { written = begun; sent = s }) (outside sink' l') r journal journal' between.moments after.moments (events (host_of c host) (start_of c host kept) receives) ended) same is in
     served journal' ended refl (record {
       receives = receives;
       heard = heard;
@@ -271,23 +271,23 @@ pub opened_as : (c : Config) (number host budget given status : ℕ) (kept : Lis
 opened_as c number host budget given status kept journal sink sink' l l' before between after same is below is_open serves =
     opened kept journal between below (subst (λ (h : ℕ). IsOpen c h kept journal before between) same is_open) (subst (λ (h : ℕ). ServesBehind c h kept journal budget status sink sink' l l' between after) same (rw is serves))
 
-pub bad_as : (c : Config) (number host budget status at : ℕ) (sink sink' : Device) (l : LinkState) (before after : DiskState) → number ≡ host → Says 17 (bad_journal_text at) status sink sink' ⊎ ((status ≡ 4) × (sink ≡ sink'))
+pub bad_as : (c : Config) (number host budget status at : ℕ) (sink sink' : Device) (l : LinkState) (before after : DiskState) → number ≡ host → host < host_count c.shape → Says 17 (bad_journal_text at) status sink sink' ⊎ ((status ≡ 4) × (sink ≡ sink'))
     → IsBad c number at before after → ServesKept c host budget status sink sink' l l before after
-bad_as c number host budget status at sink sink' l before after same says is = bad at says (subst (λ (h : ℕ). IsBad c h at before after) same is) refl
+bad_as c number host budget status at sink sink' l before after same below says is = bad at below says (subst (λ (h : ℕ). IsBad c h at before after) same is) refl
 
-pub unread_as : (c : Config) (number host budget status : ℕ) (sink : Device) (l : LinkState) (before after : DiskState) → number ≡ host → Fails 14 status before.faults after.faults → Opens c number before after
+pub unread_as : (c : Config) (number host budget status : ℕ) (sink : Device) (l : LinkState) (before after : DiskState) → number ≡ host → host < host_count c.shape → Fails 14 status before.faults after.faults → Opens c number before after
     → ServesKept c host budget status sink sink l l before after
-unread_as c number host budget status sink l before after same fails opens = unread fails (subst (λ (h : ℕ). Opens c h before after) same opens) refl refl
+unread_as c number host budget status sink l before after same below fails opens = unread below fails (subst (λ (h : ℕ). Opens c h before after) same opens) refl refl
 
-pub made_as : (c : Config) (number host : ℕ) (sink : Device) (before after : DiskState) → number ≡ host → IsNew c number before after → LeavesNothing c number before after → Makes c host 0 sink sink before after
-made_as c number host sink before after same new leaves = made refl (subst (λ (h : ℕ). IsNew c h before after) same new) (subst (λ (h : ℕ). LeavesNothing c h before after) same leaves) refl
+pub made_as : (c : Config) (number host : ℕ) (sink : Device) (before after : DiskState) → number ≡ host → host < host_count c.shape → IsNew c number before after → LeavesNothing c number before after → Makes c host 0 sink sink before after
+made_as c number host sink before after same below new leaves = made below refl (subst (λ (h : ℕ). IsNew c h before after) same new) (subst (λ (h : ℕ). LeavesNothing c h before after) same leaves) refl
 
-pub exists_as : (c : Config) (number host status len : ℕ) (sink sink' : Device) (before after : DiskState) → number ≡ host → Says 16 (exists_text len) status sink sink' ⊎ ((status ≡ 4) × (sink ≡ sink')) → IsThere c number len before after
+pub exists_as : (c : Config) (number host status len : ℕ) (sink sink' : Device) (before after : DiskState) → number ≡ host → host < host_count c.shape → Says 16 (exists_text len) status sink sink' ⊎ ((status ≡ 4) × (sink ≡ sink')) → IsThere c number len before after
     → Makes c host status sink sink' before after
-exists_as c number host status len sink sink' before after same says there = exists len says (subst (λ (h : ℕ). IsThere c h len before after) same there)
+exists_as c number host status len sink sink' before after same below says there = exists len below says (subst (λ (h : ℕ). IsThere c h len before after) same there)
 
-pub unmade_as : (c : Config) (number host status : ℕ) (sink : Device) (before after : DiskState) → number ≡ host → Fails 14 status before.faults after.faults → LeavesNothing c number before after → Makes c host status sink sink before after
-unmade_as c number host status sink before after same fails leaves = unmade fails (subst (λ (h : ℕ). LeavesNothing c h before after) same leaves) refl
+pub unmade_as : (c : Config) (number host status : ℕ) (sink : Device) (before after : DiskState) → number ≡ host → host < host_count c.shape → Fails 14 status before.faults after.faults → LeavesNothing c number before after → Makes c host status sink sink before after
+unmade_as c number host status sink before after same below fails leaves = unmade below fails (subst (λ (h : ℕ). LeavesNothing c h before after) same leaves) refl
 
 -- What is done from one sink is done from the same by another name.
 pub made_from : (c : Config) (host status : ℕ) (sink same sink' : Device) (before after : DiskState) → sink ≡ same → Makes c host status sink sink' before after → Makes c host status same sink' before after
@@ -333,9 +333,9 @@ serves_unbroken : (c d : Config) (host budget status : ℕ) (sink sink' : Device
     → ¬ Rose sink.faults sink'.faults → ¬ Rose l.faults l'.faults → ¬ Rose before.faults after.faults → ServesKept d host budget status sink sink' l l' before after → IsUnbroken status
 serves_unbroken c d host budget status sink sink' l l' before after old kept same has told holds well calm still (opened found journal between below is_open serves) =
     behind_unbroken sink sink' l l' between after well calm d host budget status found journal (λ rose. still (let later = is_open.later in omega (arith, rose, later))) serves
-serves_unbroken c d host budget status sink sink' l l' before after old kept same has told holds well calm still (bad at says is idle) =
+serves_unbroken c d host budget status sink sink' l l' before after old kept same has told holds well calm still (bad at below says is idle) =
     absurd (no_fault_says (header_text d host) old.now.reads kept at (subst (λ (x : Config). Holds (header_text x host) kept old.now.reads) (sym same) holds) (is.says old told))
-serves_unbroken c d host budget status sink sink' l l' before after old kept same has told holds well calm still (unread fails opens same_sink same_link) = fails_not 14 status before.faults after.faults still fails
+serves_unbroken c d host budget status sink sink' l l' before after old kept same has told holds well calm still (unread below fails opens same_sink same_link) = fails_not 14 status before.faults after.faults still fails
 serves_unbroken c d host budget status sink sink' l l' before after old kept same has told holds well calm still (no_host beyond says same_link same_disk) =
     let far : host_count c.shape ≤ host = subst (λ (x : Config). host_count x.shape ≤ host) same beyond in absurd (omega (arith, far, has))
 

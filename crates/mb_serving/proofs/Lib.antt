@@ -3,3 +3,4 @@ pub mod NodeLaws
 pub mod JournalLaws
 pub mod ReadConfigs
 pub mod WrittenLaws
+pub mod KeptWritten

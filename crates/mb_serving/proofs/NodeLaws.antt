@@ -1,6 +1,7 @@
 -- What serving says of a node, and which statuses it can have.
 use Rattle.std.proofs.Common.{◌≡◌, ℕ, ◌≤◌, ◌<◌, List, [], reverse, Option, Ok, Err, refl, sym, ap, subst, ◌∙◌, arith, ◌⊎◌, inl, inr}
 use Rattle.std.specs.Prelude.{Contains, Result, IsErrOf, IfErr}
+use Rattle.std.specs.List.{AllByRecursion}
 use Rattle.std.specs.Io.KnownBytes.{Appends}
 use Rattle.mb_answer.proofs.ConfigLaws.{same_config, lacks_none}
 use Rattle.mb_answer.specs.Clusters.{IsUnbroken}
@@ -28,7 +29,7 @@ use Rattle.mb_msg.specs.declared.event.Event.{Event}
 use Rattle.mb_node.specs.declared.stops.ServeStop.{ServeStop}
 use Rattle.mb_node.specs.declared.stops.ServeStop.TheVariants as stop
 use Rattle.mb_node.specs.Stops.{link_stop, sink_stop, IsOfDisk}
-use Rattle.mb_node.specs.Receives.{Receives}
+use Rattle.mb_node.specs.Receives.{Receives, ReceiveFits}
 use Rattle.mb_node.specs.Sends.{Sends}
 use Rattle.mb_node.specs.Outside.{Outside}
 use Rattle.mb_node.specs.Serving.{AreDone, AreCutOff, Ends}
@@ -107,10 +108,11 @@ kv_serves c host = record { machine = refl; snapshots = refl; first = no_keys_is
 
 -- The link was opened before, and then these were received.
 pub heard_behind : (c : Config) (host : ℕ) (before middle after : LinkState) (receives : Receives) → HasListened c host before middle [] → after.opens ≡ middle.opens → after.received ≡ with_more middle.received (reverse receives)
-    → HasListened c host before after receives
-heard_behind c host before middle after receives heard opens received = record {
+    → AllByRecursion ReceiveFits receives → HasListened c host before after receives
+heard_behind c host before middle after receives heard opens received of_bytes = record {
   opens = opens ∙ heard.opens;
   received = received ∙ ap (λ (told : Option Receives). with_more told (reverse receives)) (heard.received ∙ with_more-nil before.received);
+  of_bytes = of_bytes;
 }
 
 -- ---- a node

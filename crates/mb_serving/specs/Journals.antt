@@ -63,9 +63,9 @@ module _ (c : Config) (host : ℕ) where
 
 -- A journal is made, or the file has bytes, or the disk fails or memory runs out; or the system has no such host.
 pub data Makes (c : Config) (host status : ℕ) (sink sink' : Device) (before after : DiskState) : Type 0 where
-  made : status ≡ 0 → IsNew c host before after → LeavesNothing c host before after → sink ≡ sink' → Makes c host status sink sink' before after
-  exists : (len : ℕ) → Says 16 (exists_text len) status sink sink' ⊎ ((status ≡ 4) × (sink ≡ sink')) → IsThere c host len before after → Makes c host status sink sink' before after
-  unmade : Fails 14 status before.faults after.faults → LeavesNothing c host before after → sink ≡ sink' → Makes c host status sink sink' before after
+  made : host < host_count c.shape → status ≡ 0 → IsNew c host before after → LeavesNothing c host before after → sink ≡ sink' → Makes c host status sink sink' before after
+  exists : (len : ℕ) → host < host_count c.shape → Says 16 (exists_text len) status sink sink' ⊎ ((status ≡ 4) × (sink ≡ sink')) → IsThere c host len before after → Makes c host status sink sink' before after
+  unmade : host < host_count c.shape → Fails 14 status before.faults after.faults → LeavesNothing c host before after → sink ≡ sink' → Makes c host status sink sink' before after
   no_maker : host_count c.shape ≤ host → Says 1 usage_text status sink sink' → before ≡ after → Makes c host status sink sink' before after
 
 -- what the word `journal` does with a text
@@ -119,7 +119,7 @@ module _ (c : Config) (host : ℕ) where
     pub head : Appends sink.bytes begun (kept_head kept)
     pub replica : Replica Pairs
     pub ends : Ends (host_of c host) (start_of kept) budget (record { written = begun; sent = l.sent }) (outside sink' l') replica receives ended
-    pub keeps : EndsKept (host_of c host) (start_of kept) (record { written = begun; sent = l.sent }) (outside sink' l') journal journal' opened.moments after.moments (events (host_of c host) (start_of kept) receives) ended
+    pub keeps : EndsKept (host_of c host) (start_of kept) (record { written = begun; sent = l.sent }) (outside sink' l') replica journal journal' opened.moments after.moments (events (host_of c host) (start_of kept) receives) ended
     pub cause : Rises ended sink sink' l l' opened after
 
   -- It served, or failed before the first receive and left the disk as it was.
@@ -133,8 +133,8 @@ module _ (c : Config) (host : ℕ) where
 pub data ServesKept (c : Config) (host budget status : ℕ) (sink sink' : Device) (l l' : LinkState) (before after : DiskState) : Type 0 where
   opened : (kept : List Event) (journal : JournalState) (between : DiskState) → host < host_count c.shape → IsOpen c host kept journal before between → ServesBehind c host kept journal budget status sink sink' l l' between after
       → ServesKept c host budget status sink sink' l l' before after
-  bad : (at : ℕ) → Says 17 (bad_journal_text at) status sink sink' ⊎ ((status ≡ 4) × (sink ≡ sink')) → IsBad c host at before after → l ≡ l' → ServesKept c host budget status sink sink' l l' before after
-  unread : Fails 14 status before.faults after.faults → Opens c host before after → sink ≡ sink' → l ≡ l' → ServesKept c host budget status sink sink' l l' before after
+  bad : (at : ℕ) → host < host_count c.shape → Says 17 (bad_journal_text at) status sink sink' ⊎ ((status ≡ 4) × (sink ≡ sink')) → IsBad c host at before after → l ≡ l' → ServesKept c host budget status sink sink' l l' before after
+  unread : host < host_count c.shape → Fails 14 status before.faults after.faults → Opens c host before after → sink ≡ sink' → l ≡ l' → ServesKept c host budget status sink sink' l l' before after
   no_host : host_count c.shape ≤ host → Says 1 usage_text status sink sink' → l ≡ l' → before ≡ after → ServesKept c host budget status sink sink' l l' before after
 
 -- what a node with a journal does with a text

@@ -1,5 +1,6 @@
 -- What a node does with a config: its link, its record, and how it ends.
 use Rattle.std.specs.Prelude.{◌≡◌, ℕ, ◌≤◌, ◌<◌, Bool, false, List, [], ◌∷◌, ◌++◌, length, reverse, Option, Result, Ok, Err, ◌⊎◌}
+use Rattle.std.specs.List.{AllByRecursion}
 use Rattle.std.specs.Io.KnownBytes.{Appends}
 use Rattle.mb_base.specs.Shapes.{Bytes, host_count}
 use Rattle.mb_edge.specs.Faults.{Rose}
@@ -8,7 +9,7 @@ use Rattle.mb_edge.specs.Told.{with_more}
 use Rattle.mb_msg.specs.declared.event.Event.{Event}
 use Rattle.mb_node.specs.declared.stops.ServeStop.{ServeStop}
 use Rattle.mb_node.specs.declared.stops.ServeStop.TheVariants as stop
-use Rattle.mb_node.specs.Receives.{Receives}
+use Rattle.mb_node.specs.Receives.{Receives, ReceiveFits}
 use Rattle.mb_node.specs.Events.{has_stop, events}
 use Rattle.mb_node.specs.Recording.{lines_of}
 use Rattle.mb_node.specs.Outside.{Outside, Adds}
@@ -41,10 +42,11 @@ Fails fault status before now = ((status ≡ fault) × Rose before now) ⊎ (sta
 
 -- a host of a config
 module _ (c : Config) (host : ℕ) where
-  -- The link was opened once, at the config's port under the host's number, and then these were received.
+  -- The link was opened once, at the config's port under the host's number, and then these were received, each datagram of bytes.
   pub record HasListened (before after : LinkState) (receives : Receives) : Type 0 where
     pub opens : after.opens ≡ with_more before.opens ((c.port, host) ∷ [])
     pub received : after.received ≡ with_more before.received (reverse receives)
+    pub of_bytes : AllByRecursion ReceiveFits receives
 
   abbrev pub events_of : Receives → List Event
   events_of receives = events (host_of c host) [] receives

@@ -17,4 +17,7 @@ mod written;
 pub use journals::{kept_node, make_journal};
 pub use node::node as node_of;
 pub use retracing::retrace;
-pub use written::{nodes_write_records, read_configs_keep_limits, written_records_are_own};
+pub use written::{
+    nodes_write_records, read_configs_keep_limits, what_kept_nodes_write_is_left,
+    what_nodes_write_is_left, written_records_are_own,
+};

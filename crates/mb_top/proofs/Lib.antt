@@ -12,3 +12,4 @@ pub mod Doing
 pub mod Blamed
 pub mod Learnt
 pub mod Rerun
+pub mod NodesInWorlds

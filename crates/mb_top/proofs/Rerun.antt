@@ -49,17 +49,19 @@ module _ (c : Config) (host : ℕ) where
         let es : List Event = events me start on.receives in
         let there = stands_there me (reverse kept) in
         let ends = subst (λ (d : History). Ends me d budget begun (outside sink' l') on.replica on.receives ended) there on.ends in
-        let keeps = subst (λ (d : History). EndsKept me d begun (outside sink' l') journal journal' between.moments after'.moments (events me d on.receives) ended) there on.keeps in
-        let keeps_so = subst (λ (o : Option Moments). EndsKept me start begun (outside sink' l') journal journal' o after'.moments es ended) opens.is keeps in
+        let keeps = subst (λ (d : History). EndsKept me d begun (outside sink' l') on.replica journal journal' between.moments after'.moments (events me d on.receives) ended) there on.keeps in
+        let keeps_so = subst (λ (o : Option Moments). EndsKept me start begun (outside sink' l') on.replica journal journal' o after'.moments es ended) opens.is keeps in
         let header : journal.header ≡ header_text c host = ap (λ (j : JournalState). j.header) is_open.journal_is in
         record {
           kept = kept;
           says = is_open.says old told;
           opened = open_now;
           opens = record { since = opens.since; is = refl; each = opens.each };
-          es = es;
-          ends = subst (λ (h : Bytes). EndsRun me h kept es open_now l.sent l'.sent after'.moments) header
-              (ends_run me kept journal journal' open_now after'.moments begun (outside sink' l') (is_open.rests old told open_now opens.is) budget on.replica on.receives ended ends keeps_so);
+          receives = on.receives;
+          heard = on.heard;
+          ends = subst (λ (d : History). EndsRun me (header_text c host) kept (events me d on.receives) open_now l.sent l'.sent after'.moments) (sym there)
+              (subst (λ (h : Bytes). EndsRun me h kept es open_now l.sent l'.sent after'.moments) header
+              (ends_run me kept journal journal' open_now after'.moments begun (outside sink' l') (is_open.rests old told open_now opens.is) budget on.replica on.receives ended ends keeps_so));
         }
 
     behind : (kept : List Event) (journal : JournalState) (budget status : ℕ) (sink sink' : Device) (between : DiskState) → IsOpen c host kept journal before between
@@ -74,9 +76,9 @@ by_host : (c d : Config) (host budget status : ℕ) (sink sink' : Device) (l l' 
     → ServesKept d host budget status sink sink' l l' before after' → IsRerun c host l l' old after' ⊎ IsUnsent c host l l' old after'
 by_host c d host budget status sink sink' l l' before after' old same has told (opened kept journal between below is_open serves) =
     subst (λ (x : Config). IsRerun x host l l' old after' ⊎ IsUnsent x host l l' old after') same (behind d host l l' before after' old told kept journal budget status sink sink' between is_open serves)
-by_host c d host budget status sink sink' l l' before after' old same has told (bad at says is idle) =
+by_host c d host budget status sink sink' l l' before after' old same has told (bad at below says is idle) =
     inr (record { unsent = ap (λ (x : LinkState). x.sent) (sym idle); opens = subst (λ (x : Config). KeepsFile x host old after'.moments) same (is.opens old told) })
-by_host c d host budget status sink sink' l l' before after' old same has told (unread fails opens same_sink idle) =
+by_host c d host budget status sink sink' l l' before after' old same has told (unread below fails opens same_sink idle) =
     inr (record { unsent = ap (λ (x : LinkState). x.sent) (sym idle); opens = subst (λ (x : Config). KeepsFile x host old after'.moments) same (opens old told) })
 by_host c d host budget status sink sink' l l' before after' old same has told (no_host beyond says idle still) =
     let far : host_count c.shape ≤ host = subst (λ (x : Config). host_count x.shape ≤ host) same beyond in absurd (omega (arith, far, has))

@@ -173,8 +173,8 @@ pub fn minbft<S: Source, K: Sink, L: Link, P: Spawner, D: Disk>(
         (device (K.written sink.old) (K.faults sink.old)) (device (K.written sink.new) (K.faults sink.new))
         (disk_state (D.moments disk.old) (D.faults disk.old)) (disk_state (D.moments disk.new) (D.faults disk.new))) }
     // With the word `node`, a host, a number and the path of its journal: that host goes on where the events of the journal lead, whose entries its record
-    // begins with. Each event that follows is kept in the journal before it is acted on, so that a crash at any moment leaves a journal of all that were
-    // acknowledged, in order, and at most the one that was being appended.
+    // begins with. Each event that follows is kept in the journal before it is acted on, so that a crash at any moment leaves a journal of the acknowledged
+    // ones in their order, with the next one or without it.
     ensures kept_node { (host n : ℕ) → command_of (map string_bytes words.now) ≡ Some (Command.KeptNode host n)
         → IfSome (S.left source.old) (λ text. KeptNodes text host n result (device (S.left source.old) (S.faults source.old)) (device (S.left source.new) (S.faults source.new))
         (device (K.written sink.old) (K.faults sink.old)) (device (K.written sink.new) (K.faults sink.new))
@@ -183,8 +183,10 @@ pub fn minbft<S: Source, K: Sink, L: Link, P: Spawner, D: Disk>(
     ensures kept_node_complete { (host n : ℕ) → command_of (map string_bytes words.now) ≡ Some (Command.KeptNode host n)
         → IfSome (S.left source.old) (λ text. IsServedKept text host result (disk_state (D.moments disk.old) (D.faults disk.old)) (Rose (S.faults source.old) (S.faults source.new)
         ⊎ (Rose (K.faults sink.old) (K.faults sink.new) ⊎ (Rose (L.faults link.old) (L.faults link.new) ⊎ Rose (D.faults disk.old) (D.faults disk.new))))) }
-    // Where the disk tells what stands on it, that was a run of the host behind the events that the file said, whatever a crash leaves of the file in the
-    // end or at a moment before; or nothing was sent, and the file kept its events. What follows of all runs together, `mb_restart` says.
+    // Where the disk tells what stands on it, that was a run of the host behind the events that the file said, with those of what was received. Whatever a
+    // crash leaves of the file, in the end or at a moment before, says the acknowledged events in their order, and behind them none but the one whose append
+    // had begun; and what was sent is a first part of what acknowledged events send. Or nothing was sent, and the file kept its events. What follows of all
+    // runs together, `mb_restart` says, and of the host in a world `nodes_are_hosts_of_worlds`.
     ensures kept_node_runs { (host n : ℕ) → command_of (map string_bytes words.now) ≡ Some (Command.KeptNode host n)
         → IfSome (S.left source.old) (λ text. Reruns text host
         (link_state (L.received link.old) (L.sent link.old) (L.opens link.old) (L.faults link.old)) (link_state (L.received link.new) (L.sent link.new) (L.opens link.new) (L.faults link.new))

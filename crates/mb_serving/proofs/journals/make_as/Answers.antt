@@ -1,6 +1,7 @@
-use Rattle.std.proofs.Common.{refl, sym, subst, inl, inr, arith, rules}
+use Rattle.std.proofs.Common.{◌<◌, refl, sym, subst, inl, inr, arith, rules}
 use Rattle.std.specs.Prelude.{Contains, IsErrOf}
 use Rattle.std.proofs.lemmas.Result.{IfOk-weaker}
+use Rattle.mb_base.specs.Shapes.{host_count}
 use Rattle.mb_edge.proofs.FaultLemmas.{tells_none, tells_as}
 use Rattle.mb_journal.specs.declared.making.MakeStop.TheVariants as making
 use Rattle.mb_answer.specs.Texts.{exists_text}
@@ -15,21 +16,27 @@ respond-requires g c = IfOk-weaker c.journal_exists.result _ _ (λ a h. there_to
 -- ---- what is done
 
 pub returns-in-Ok-clause-makes : goal.returns-in-Ok-clause-makes
-returns-in-Ok-clause-makes g c = made_as c.args.config.now _ c.args.host _ _ _ (omega arith) c.in-Ok.ensures.made c.in-Ok.ensures.crash
+returns-in-Ok-clause-makes g c =
+    let below : c.args.host < host_count c.args.config.now.shape = omega (arith, c.if-host-from.false, c.from.ensures, c.n.ensures) in
+    made_as c.args.config.now _ c.args.host _ _ _ (omega arith) below c.in-Ok.ensures.made c.in-Ok.ensures.crash
 
 pub returns-in-Err-Exists-clause-makes : goal.returns-in-Err-Exists-clause-makes
 returns-in-Err-Exists-clause-makes g c =
+    let below : c.args.host < host_count c.args.config.now.shape = omega (arith, c.if-host-from.false, c.from.ensures, c.n.ensures) in
     let there = rw c.in-Err-Exists.field-0-is at c.in-Err-Exists.ensures.made in
-    exists_as c.args.config.now _ c.args.host c.respond.result c.in-Err-Exists.length _ _ _ _ (omega arith)
+    exists_as c.args.config.now _ c.args.host c.respond.result c.in-Err-Exists.length _ _ _ _ (omega arith) below
     (told_answer c.journal_exists.result 16 (exists_text c.in-Err-Exists.length) c.respond.result _ _ c.journal_exists.ensures c.respond.ensures.says c.respond.ensures.lacks) there
 
 pub returns-in-Err-DiskFault-clause-makes : goal.returns-in-Err-DiskFault-clause-makes
 returns-in-Err-DiskFault-clause-makes g c =
+    let below : c.args.host < host_count c.args.config.now.shape = omega (arith, c.if-host-from.false, c.from.ensures, c.n.ensures) in
     let failed : IsErrOf c.make_in.result making.DiskFault = search rules in
-    unmade_as c.args.config.now _ c.args.host _ _ _ _ (omega arith) (inl (refl, c.make_in.ensures.disk.rose failed)) c.make_in.ensures.crash
+    unmade_as c.args.config.now _ c.args.host _ _ _ _ (omega arith) below (inl (refl, c.make_in.ensures.disk.rose failed)) c.make_in.ensures.crash
 
 pub returns-in-Err-NoMemory-clause-makes : goal.returns-in-Err-NoMemory-clause-makes
-returns-in-Err-NoMemory-clause-makes g c = unmade_as c.args.config.now _ c.args.host _ _ _ _ (omega arith) (inr refl) c.make_in.ensures.crash
+returns-in-Err-NoMemory-clause-makes g c =
+    let below : c.args.host < host_count c.args.config.now.shape = omega (arith, c.if-host-from.false, c.from.ensures, c.n.ensures) in
+    unmade_as c.args.config.now _ c.args.host _ _ _ _ (omega arith) below (inr refl) c.make_in.ensures.crash
 
 -- ---- statuses
 

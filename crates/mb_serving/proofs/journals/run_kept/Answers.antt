@@ -67,7 +67,7 @@ returns-clause-serves g c =
     (link_state (g.L.Link.received c.args.link.now) (g.L.Link.sent c.args.link.now) (g.L.Link.opens c.args.link.now) (g.L.Link.faults c.args.link.now))
     (link_state (g.L.Link.received c.serve_kept.new.link) (g.L.Link.sent c.serve_kept.new.link) (g.L.Link.opens c.serve_kept.new.link) (g.L.Link.faults c.serve_kept.new.link))
     (disk_state (g.D.Disk.moments c.args.disk.now) (g.D.Disk.faults c.args.disk.now)) (disk_state (g.D.Disk.moments c.serve_kept.new.disk) (g.D.Disk.faults c.serve_kept.new.disk))
-    is.receives (heard_behind c.args.config.now c.args.host _ _ _ is.receives begun.0 c.serve_kept.ensures.opens is.told_is) (g.K.Sink.written c.write_entries.new.sink)
+    is.receives (heard_behind c.args.config.now c.args.host _ _ _ is.receives begun.0 c.serve_kept.ensures.opens is.told_is is.of_bytes) (g.K.Sink.written c.write_entries.new.sink)
     (appended_both (g.K.Sink.written c.args.sink.now) (g.K.Sink.written c.begin.new.sink) (g.K.Sink.written c.write_entries.new.sink) (record_head c.args.config.now c.args.host) (flat_map entry_text (entries_of me [] (reverse kept))) begun.2 entries)
     c.serve_kept.new.replica (g.L.Link.sent c.begin.new.link) begun.1
     (is.ends me (start_of c.args.config.now c.args.host kept) serves replayed.represents replayed.whole)

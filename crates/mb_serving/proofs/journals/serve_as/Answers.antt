@@ -23,19 +23,22 @@ returns-in-Ok-clause-serves g c =
 
 pub returns-in-Err-BadJournal-clause-serves : goal.returns-in-Err-BadJournal-clause-serves
 returns-in-Err-BadJournal-clause-serves g c =
+    let below : c.args.host < host_count c.args.config.now.shape = omega (arith, c.if-host-from.false, c.from.ensures, c.n.ensures) in
     let broken = rw c.in-Err-BadJournal.field-0-is at c.in-Err-BadJournal.ensures.opened in
-    bad_as c.args.config.now _ c.args.host c.args.events c.respond.result c.in-Err-BadJournal.at _ _ _ _ _ (omega arith)
+    bad_as c.args.config.now _ c.args.host c.args.events c.respond.result c.in-Err-BadJournal.at _ _ _ _ _ (omega arith) below
     (told_answer c.bad_journal.result 17 (bad_journal_text c.in-Err-BadJournal.at) c.respond.result _ _ c.bad_journal.ensures c.respond.ensures.says c.respond.ensures.lacks) broken
 
 pub returns-in-Err-DiskFault-clause-serves : goal.returns-in-Err-DiskFault-clause-serves
 returns-in-Err-DiskFault-clause-serves g c =
+    let below : c.args.host < host_count c.args.config.now.shape = omega (arith, c.if-host-from.false, c.from.ensures, c.n.ensures) in
     let failed : IsErrOf c.open_in.result opening.DiskFault = search rules in
-    unread_as c.args.config.now _ c.args.host c.args.events _ _ _ _ _ (omega arith) (inl (refl, c.open_in.ensures.disk.rose failed)) (rw failed at c.open_in.ensures.opened)
+    unread_as c.args.config.now _ c.args.host c.args.events _ _ _ _ _ (omega arith) below (inl (refl, c.open_in.ensures.disk.rose failed)) (rw failed at c.open_in.ensures.opened)
 
 pub returns-in-Err-NoMemory-clause-serves : goal.returns-in-Err-NoMemory-clause-serves
 returns-in-Err-NoMemory-clause-serves g c =
+    let below : c.args.host < host_count c.args.config.now.shape = omega (arith, c.if-host-from.false, c.from.ensures, c.n.ensures) in
     let starved : IsErrOf c.open_in.result opening.NoMemory = search rules in
-    unread_as c.args.config.now _ c.args.host c.args.events _ _ _ _ _ (omega arith) (inr refl) (rw starved at c.open_in.ensures.opened)
+    unread_as c.args.config.now _ c.args.host c.args.events _ _ _ _ _ (omega arith) below (inr refl) (rw starved at c.open_in.ensures.opened)
 
 -- ---- statuses
 

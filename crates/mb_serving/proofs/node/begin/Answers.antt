@@ -33,7 +33,7 @@ pub returns-in_err-write_all-clause-begins : goal.returns-in_err-write_all-claus
 returns-in_err-write_all-clause-begins g c =
     let p = err_from_is_err_and c.from_residual-in_err-write_all.result c.from_residual-in_err-write_all.ensures.1 in
     begins_headless c.args.config.now c.args.host c.from_residual-in_err-write_all.result p.0 p.1 c.in_err-write_all.field-0.0 p.2 (device (g.K.Sink.written c.args.sink.now) (g.K.Sink.faults c.args.sink.now)) (device (g.K.Sink.written c.write_all.new.sink) (g.K.Sink.faults c.write_all.new.sink)) _ _ (λ e. c.in_err-write_all.ensures.fault (ap Err e))
-    (record { opens = c.in_ok-open.ensures.opens; received = c.in_ok-open.ensures.received ∙ sym (with_more-nil _) }) c.in_ok-open.ensures.sent (part_of_head c.args.config.now c.args.host _ _ _ (c.deref.ensures.value ∙ c.in_ok-head.ensures) c.in_err-write_all.ensures.part)
+    (record { opens = c.in_ok-open.ensures.opens; received = c.in_ok-open.ensures.received ∙ sym (with_more-nil _); of_bytes = tt }) c.in_ok-open.ensures.sent (part_of_head c.args.config.now c.args.host _ _ _ (c.deref.ensures.value ∙ c.in_ok-head.ensures) c.in_err-write_all.ensures.part)
 
 pub returns-in_err-write_all-clause-link : goal.returns-in_err-write_all-clause-link
 returns-in_err-write_all-clause-link g c =
@@ -48,7 +48,7 @@ returns-in_err-write_all-clause-sink g c =
 
 pub returns-clause-begins : goal.returns-clause-begins
 returns-clause-begins g c = (
-  record { opens = c.in_ok-open.ensures.opens; received = c.in_ok-open.ensures.received ∙ sym (with_more-nil _) },
+  record { opens = c.in_ok-open.ensures.opens; received = c.in_ok-open.ensures.received ∙ sym (with_more-nil _); of_bytes = tt },
   c.in_ok-open.ensures.sent,
   whole_head c.args.config.now c.args.host _ _ _ (c.deref.ensures.value ∙ c.in_ok-head.ensures) c.in_ok-write_all.ensures.all,
 )
