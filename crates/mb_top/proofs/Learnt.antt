@@ -58,8 +58,7 @@ module _ (s : Schedule) (w : World) (r : Record) (of : IsRecordIn s w r) (rightl
 
   said_right : (wanted : ℕ) (out : Bytes) (status : ℕ) → AnswersLearn r wanted out → Says wanted out status old new → Right status
   said_right wanted out status (learnt slots took zero text_is) (said same grew) =
-      let learns = moved (given_in r.entries) slots (learnt_whole r (given_in r.entries) slots took) in
-      (
+      let learns = moved (given_in r.entries) slots (learnt_whole r (given_in r.entries) slots took) in (
         λ told. record {
           slots = slots;
           written = subst (λ (b : Bytes). Appends old.bytes new.bytes b) text_is grew;
