@@ -5,8 +5,9 @@ use Rattle.std.specs.List.{flat_map}
 use Rattle.std.specs.Fmt.{decimal}
 use Rattle.std.specs.Global.{Vec}
 use Rattle.std.proofs.lemmas.Bool.{cases_lt, lt-ltb, le-ltb}
-use Rattle.std.proofs.lemmas.List.{take-append-le, take-append_seam}
+use Rattle.std.proofs.lemmas.List.{take-append-le}
 use Rattle.std.proofs.lemmas.Option.{none-some, same_Some}
+use Rattle.std.proofs.Math.Seq.{take-append_seam}
 use Rattle.hex.specs.Hex.{encode_lower}
 use Rattle.mb_base.specs.Shapes.{Bytes}
 use Rattle.mb_kv.specs.Pairs.{Pairs}
