@@ -85,7 +85,7 @@ module _ {S : Type 0} (system : System S) (w : World) (f : Facts system w) (fact
       let opens = open_is system.schedule.shape system.schedule.secret (plans system.schedule w) (issued system.schedule w) (prefix system.schedule w) facts g e digest l o in
       let there = has_plan system.schedule.shape system.schedule.secret (plans system.schedule w) (issued system.schedule w) (prefix system.schedule w) facts e opens.evidence in
       let voted = map_some _ _ x (if_some (e.view == v) _ x votes).1 in
-      let here = plan_is (known e.plan) p voted.0 voted.1.0 in
+      let here = plan_is (known e.plan) p voted.0 voted.1 in
       let same : plans system.schedule w e.plan ≡ known e.plan = there.is ∙ (sym (plans_extend w.hashed _ e.plan there.text there.is) ∙ (ext e.plan here.0 here.1 ∙ sym here.1)) in
       rw same votes
   own_vote known ext g n (bare.Checkpoint pos state digest) l v p x o votes = absurd cc
