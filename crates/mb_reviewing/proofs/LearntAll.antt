@@ -134,7 +134,7 @@ module _ (r : Record) where
 
   pub took_next : (before : List Bytes) (last : Bytes) (old new : Learner Pairs) (t : Took before old) (executed : ℕ)
       → Answers r.config.shape r.config.secret machine snapshots [] (before ++ last ∷ []) t.0 (Ok executed) new → Took (before ++ last ∷ []) new
-  took_next before last old new t executed a = (t.0 ++ a.more, one_more before last t.0 a.more t.1.0 a.represents.learnt a.represents.agrees, a.represents)
+  took_next before last old new t executed a = (t.0 ++ a.more, one_more before last t.0 a.more t.1 a.represents.learnt a.represents.agrees, a.represents)
 
   -- the call stops
   pub stopped : (given before : List Bytes) (last : Bytes) (later : List Bytes) (old new : Learner Pairs) (t : Took before old) (e : LearnStop) → given ≡ before ++ last ∷ later
@@ -147,7 +147,7 @@ module _ (r : Record) where
       later = later;
       place = place;
       executed = length t.0;
-      took = subst (λ (l : List Slot). LearntInTurn r before l) (sym (take-append_seam t.0 a.more)) t.1.0;
+      took = subst (λ (l : List Slot). LearntInTurn r before l) (sym (take-append_seam t.0 a.more)) t.1;
       learnt = a.learnt;
       differs = a.differs;
       lowest = a.lowest;
