@@ -18,7 +18,7 @@ use Rattle.mb_answer.specs.Records.{IsRecordText, AnswersText}
 use Rattle.mb_learn.specs.declared.learner.Learner.{Learner}
 use Rattle.mb_learn.specs.declared.learner.LearnStop.{LearnStop}
 use Rattle.mb_learn.specs.declared.learner.LearnStop.TheVariants as stop
-use Rattle.mb_learn.specs.Learners.{Represents}
+use Rattle.mb_learn.specs.Learners.{Represents, Agrees as AgreesWith}
 use Rattle.mb_learn.specs.Proved.{IsLearnt, DiffersAt, digest_behind}
 use Rattle.mb_reviewing.specs.Given.{given_in}
 
@@ -54,10 +54,10 @@ module _ (r : Record) where
 
   -- What hosts say of their states differs nowhere.
   abbrev pub Agrees : List Bytes → List Slot → Type 0
-  Agrees taken slots = (position : ℕ) (certified : Bytes) → Differs taken slots position certified → ⊥
+  Agrees = AgreesWith r.config.shape r.config.secret machine snapshots []
 
-  -- These slots are learnt from the strings one after the other: behind each string so many of them are executed, which are learnt from the strings up to it, and
-  -- nothing differs.
+  -- The strings are learnt from one after the other: behind so many of them so many slots are executed, those are learnt from these strings, and nothing differs.
+  -- In the end all slots are.
   pub record LearntInTurn (given : List Bytes) (slots : List Slot) : Type 0 where
     pub executed : ℕ → ℕ
     pub rises : (m n : ℕ) → m ≤ n → n ≤ length given → executed m ≤ executed n
@@ -65,7 +65,7 @@ module _ (r : Record) where
     pub agrees : (n : ℕ) → n ≤ length given → Agrees (take n given) (take (executed n) slots)
     pub all : executed (length given) ≡ length slots
 
-  -- The strings before this one were learnt from in turn, and with it these slots are learnt. Now something differs, and this is the lowest position where it does.
+  -- The strings before one were learnt from in turn. With that one these slots are learnt, and something differs: here at the lowest position where it does.
   pub record FirstDiffers (given : List Bytes) (slots : List Slot) (position : ℕ) (certified : Bytes) : Type 0 where
     pub before : List Bytes
     pub last : Bytes
