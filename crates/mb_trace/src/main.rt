@@ -25,9 +25,8 @@ mod text;
 mod trial;
 
 use mb_system::words_of;
-use std::fs;
-use std::io;
 use std::process::ExitCode;
+use std::{fs, io};
 use stop::Stop;
 use text::story_text;
 use trial::first_difference;

@@ -54,10 +54,12 @@ fn add_message(out: &mut String, message: &NewMessage) -> Result<(), NoMemory> {
 fn add_news(alloc: Global, out: &mut String, news: &Report) -> Result<(), NoMemory> {
     let bytes = print_report(alloc, news)?;
     let text = String::from_utf8_lossy(alloc, &bytes)?;
-    for line in text.as_str().lines().skip(FRAME_LINES) {
-        if line != LAST_LINE {
+    let mut place = 0usize;
+    for line in text.as_str().lines() {
+        if place >= FRAME_LINES && line != LAST_LINE {
             writeln!(out, "  {line}")?;
         }
+        place = place.saturating_add(1);
     }
     Ok(())
 }
