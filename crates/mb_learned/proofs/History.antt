@@ -54,7 +54,7 @@ use Rattle.mb_learn.proofs.Tests.{true_false}
 use Rattle.mb_learned.specs.Learned.{BeginsWith, strings, WereGiven, Learns}
 use Rattle.mb_learned.proofs.Beginnings.{claim_issued}
 use Rattle.mb_learned.proofs.GivenBatches.{held_fits, held_hashed}
-use Rattle.mb_learned.proofs.Voted.{all_plans, consistent_all, committed_more, proved_committed}
+use Rattle.mb_learned.proofs.Voted.{proved_committed}
 
 -- ---- marks
 
@@ -126,8 +126,7 @@ module _ {S : Type 0} (system : System S) (w : World) (f : Facts system w) (jump
         let moved : IsCommitted (plans system.schedule w) system.schedule.shape (prefix system.schedule w) e.view (q + 1) (record { counter = e.counter; request = batch_digest (batch_of y) }) =
         subst (λ (n : ℕ). IsCommitted (plans system.schedule w) system.schedule.shape (prefix system.schedule w) e.view n (record { counter = e.counter; request = batch_digest (batch_of y) })) o.place e.committed in
         let digest : batch_digest (batch_of x) ≡ batch_digest (batch_of y) =
-        (agrees system.schedule.shape system.schedule.secret (all_plans system w f facts id apart) (issued system.schedule w) (prefix system.schedule w) (consistent_all system w f facts id apart)).one_batch a.view e.view (q + 1) _ _
-        a.committed (committed_more system w f facts id apart e.view (q + 1) (record { counter = e.counter; request = batch_digest (batch_of y) }) moved) in
+        (agrees system.schedule.shape system.schedule.secret (plans system.schedule w) (issued system.schedule w) (prefix system.schedule w) facts).one_batch a.view e.view (q + 1) _ _ a.committed moved in
         let held = proved.2.held in
         let s = executed_batch system w f jumps asked_fits o.host y o.before o.correct o.past in
         batch_injective system.schedule.shape f.shape (batch_of x) (batch_of y) (held_fits system w f id taken were (batch_of x) held) s.fits

@@ -1,4 +1,3 @@
-pub mod MorePlans
 pub mod GivenClaims
 pub mod GivenBatches
 pub mod Beginnings

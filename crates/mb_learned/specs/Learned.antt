@@ -12,15 +12,16 @@ use Rattle.mb_msg.specs.declared.stamped.Shown.{Shown}
 use Rattle.mb_msg.specs.declared.stamped.Shown.TheVariants as shown
 use Rattle.mb_msg.specs.Bodies.{inside_whole}
 use Rattle.mb_msg.specs.Plans.{plan_string}
-use Rattle.mb_model.specs.Committed.{Plans, IsCommitted}
+use Rattle.mb_model.specs.Committed.{IsCommitted}
 use Rattle.mb_model.specs.Service.{batch_of}
+use Rattle.mb_schedule.specs.declared.schedule.Schedule.{Schedule}
 use Rattle.mb_schedule.specs.Limits.{IsSchedule}
 use Rattle.mb_theory.specs.Hashed.{HashesApart}
 use Rattle.mb_theory.specs.Headline.{IsService}
 use Rattle.mb_theory.specs.Stops.{IsUnstopped}
 use Rattle.mb_theory.specs.World.{World, System}
 use Rattle.mb_theory.specs.WorldEvents.{IsCorrect}
-use Rattle.mb_theory.specs.WorldRecord.{plans_of, prefix}
+use Rattle.mb_theory.specs.WorldRecord.{plans, prefix}
 use Rattle.mb_theory.specs.WorldSteps.{world}
 use Rattle.mb_audited.specs.Blame.{given_to}
 use Rattle.mb_learn.specs.Proved.{IsLearnt, DiffersAt}
@@ -40,6 +41,14 @@ plan_strings _ = []
 -- of all whole OPENs in byte strings
 abbrev pub plans_shown : Shape → List Bytes → List Bytes
 plans_shown s given = flat_map plan_strings (shown_among s given)
+
+-- ---- what is committed
+
+-- In some view of the world this batch is committed at a position, by what the hosts stamped and the plans that are known there.
+pub record IsCommittedAt (s : Schedule) (w : World) (position : ℕ) (b : Batch) : Type 0 where
+  pub view : ℕ
+  pub counter : ℕ
+  pub committed : IsCommitted (plans s w) s.shape (prefix s w) view position (record { counter = counter; request = batch_digest b })
 
 -- ---- lists
 
@@ -61,15 +70,9 @@ module _ {S : Type 0} (system : System S) (w : World) (id : ℕ) where
   abbrev pub Learns : List Bytes → List Slot → Type 0
   Learns = IsLearnt system.schedule.shape system.machine system.initial system.schedule.secret
 
-  -- A batch is committed at a position of some view.
-  pub record IsCommittedAt (position : ℕ) (b : Batch) : Type 0 where
-    pub view : ℕ
-    pub counter : ℕ
-    pub committed : IsCommitted (plans_of strings) system.schedule.shape (prefix system.schedule w) view position (record { counter = counter; request = batch_digest b })
-
   -- Each learnt batch is committed. Of the learnt slots and the line one begins with the other. Nothing that hosts say of their states differs.
   pub record LearnsRightly : Type 0 where
-    pub committed : (taken : List Bytes) (slots : List Slot) → WereGiven taken → Learns taken slots → (q : ℕ) (slot : Slot) → slice_get slots q ≡ Some slot → IsCommittedAt (q + 1) (batch_of slot)
+    pub committed : (taken : List Bytes) (slots : List Slot) → WereGiven taken → Learns taken slots → (q : ℕ) (slot : Slot) → slice_get slots q ≡ Some slot → IsCommittedAt system.schedule w (q + 1) (batch_of slot)
     pub one_history : (taken : List Bytes) (slots : List Slot) → WereGiven taken → Learns taken slots → BeginsWith w.line slots ⊎ BeginsWith slots w.line
     pub same_states : (taken : List Bytes) (slots : List Slot) (position : ℕ) (certified : Bytes) → WereGiven taken → Learns taken slots
         → DiffersAt system.schedule.shape system.machine system.initial system.snapshots system.schedule.secret taken slots position certified → ⊥

@@ -28,7 +28,7 @@ unread_unlearnt found status sink sink' is =
 -- ---- the statuses
 
 record_told : {r : _} (status : ℕ) (out : Bytes) → AnswersLearn r status out → IsToldBy status
-record_told status out (learnt slots learns agrees zero text_is) = inl (omega (arith, zero))
+record_told status out (learnt slots took zero text_is) = inl (omega (arith, zero))
 record_told status out (differs slots position certified first ten text_is) = inr (inl ten)
 
 pub learn_told : (text : Bytes) (status : ℕ) (out : Bytes) → AnswersText AnswersLearn text status out → IsToldBy status
@@ -37,11 +37,11 @@ learn_told text status out (bad_line n short fault two text_is) = inl (omega (ar
 learn_told text status out (right r is answers) = record_told status out answers
 
 record_found : {r : _} (status : ℕ) (out : Bytes) → AnswersLearn r status out → Contains learn_findings status
-record_found status out (learnt slots learns agrees zero text_is) = subst (Contains learn_findings) (sym zero) (0, omega arith, refl)
+record_found status out (learnt slots took zero text_is) = subst (Contains learn_findings) (sym zero) (0, omega arith, refl)
 record_found status out (differs slots position certified first ten text_is) = subst (Contains learn_findings) (sym ten) (1, omega arith, refl)
 
 record_known : {r : _} (status : ℕ) (out : Bytes) → AnswersLearn r status out → Contains learn_statuses status
-record_known status out (learnt slots learns agrees zero text_is) = subst (Contains learn_statuses) (sym zero) (0, omega arith, refl)
+record_known status out (learnt slots took zero text_is) = subst (Contains learn_statuses) (sym zero) (0, omega arith, refl)
 record_known status out (differs slots position certified first ten text_is) = subst (Contains learn_statuses) (sym ten) (5, omega arith, refl)
 
 pub learn_known : (text : Bytes) (status : ℕ) (out : Bytes) → AnswersText AnswersLearn text status out → Contains learn_statuses status

@@ -1,5 +1,5 @@
 -- What is answered to the text of a record from which is learnt: the history that it proves.
-use Rattle.std.specs.Prelude.{◌≡◌, ℕ, ◌≤◌, ◌⊎◌, ⊤, Contains, List, [], ◌∷◌, ◌++◌, length, codes, Result, Ok, Err}
+use Rattle.std.specs.Prelude.{◌≡◌, ℕ, ◌≤◌, ◌⊎◌, ⊤, Contains, List, [], ◌∷◌, ◌++◌, length, take, codes, Result, Ok, Err}
 use Rattle.std.specs.List.{flat_map}
 use Rattle.std.specs.Fmt.{decimal}
 use Rattle.hex.specs.Hex.{encode_lower}
@@ -18,7 +18,7 @@ use Rattle.mb_answer.specs.Records.{IsRecordText, AnswersText}
 use Rattle.mb_learn.specs.declared.learner.Learner.{Learner}
 use Rattle.mb_learn.specs.declared.learner.LearnStop.{LearnStop}
 use Rattle.mb_learn.specs.declared.learner.LearnStop.TheVariants as stop
-use Rattle.mb_learn.specs.Learners.{Represents}
+use Rattle.mb_learn.specs.Learners.{Represents, Agrees as AgreesWith}
 use Rattle.mb_learn.specs.Proved.{IsLearnt, DiffersAt, digest_behind}
 use Rattle.mb_reviewing.specs.Given.{given_in}
 
@@ -54,32 +54,39 @@ module _ (r : Record) where
 
   -- What hosts say of their states differs nowhere.
   abbrev pub Agrees : List Bytes → List Slot → Type 0
-  Agrees taken slots = (position : ℕ) (certified : Bytes) → Differs taken slots position certified → ⊥
+  Agrees = AgreesWith r.config.shape r.config.secret machine snapshots []
 
-  -- These are the first so many of the strings that were given: by those before the last one nothing differed, and now this is the lowest position at which
-  -- something does.
+  -- The strings are learnt from one after the other: behind so many of them so many slots are executed, those are learnt from these strings, and nothing differs.
+  -- In the end all slots are.
+  pub record LearntInTurn (given : List Bytes) (slots : List Slot) : Type 0 where
+    pub executed : ℕ → ℕ
+    pub rises : (m n : ℕ) → m ≤ n → n ≤ length given → executed m ≤ executed n
+    pub learnt : (n : ℕ) → n ≤ length given → Learns (take n given) (take (executed n) slots)
+    pub agrees : (n : ℕ) → n ≤ length given → Agrees (take n given) (take (executed n) slots)
+    pub all : executed (length given) ≡ length slots
+
+  -- The strings before one were learnt from in turn. With that one these slots are learnt, and something differs: here at the lowest position where it does.
   pub record FirstDiffers (given : List Bytes) (slots : List Slot) (position : ℕ) (certified : Bytes) : Type 0 where
     pub before : List Bytes
     pub last : Bytes
     pub later : List Bytes
     pub place : given ≡ before ++ last ∷ later
-    pub earlier : List Slot
-    pub learnt_before : Learns before earlier
-    pub agreed : Agrees before earlier
+    pub executed : ℕ
+    pub took : LearntInTurn before (take executed slots)
     pub learnt : Learns (before ++ last ∷ []) slots
     pub differs : Differs (before ++ last ∷ []) slots position certified
     pub lowest : (p : ℕ) (other : Bytes) → Differs (before ++ last ∷ []) slots p other → position ≤ p
 
   -- what comes of learning from these strings, one after the other
   abbrev pub LearnsAll : List Bytes → Result (Unit {0}) LearnStop → Learner Pairs → Type 0
-  LearnsAll given (Ok done) learner = (slots : List Slot) × Represents r.config.shape r.config.secret machine snapshots [] given slots learner
+  LearnsAll given (Ok done) learner = (slots : List Slot) × LearntInTurn given slots × Represents r.config.shape r.config.secret machine snapshots [] given slots learner
   LearnsAll given (Err (stop.Differs position found certified)) learner = (slots : List Slot) × FirstDiffers given slots position certified × (found ≡ state_behind slots position)
   LearnsAll given (Err stop.Halted) learner = ⊥
   LearnsAll given (Err stop.NoMemory) learner = ⊤
 
 -- what is answered to a record
 pub data AnswersLearn (r : Record) (status : ℕ) (out : Bytes) : Type 0 where
-  learnt : (slots : List Slot) → Learns r (given_in r.entries) slots → Agrees r (given_in r.entries) slots → status ≡ 0 → out ≡ learnt_text slots (state_behind r slots (length slots)) → AnswersLearn r status out
+  learnt : (slots : List Slot) → LearntInTurn r (given_in r.entries) slots → status ≡ 0 → out ≡ learnt_text slots (state_behind r slots (length slots)) → AnswersLearn r status out
   differs : (slots : List Slot) (position : ℕ) (certified : Bytes) → FirstDiffers r (given_in r.entries) slots position certified → status ≡ 10 → out ≡ differs_text position (state_behind r slots position) certified → AnswersLearn r status out
 
 -- the statuses that tell what was learnt

@@ -82,7 +82,8 @@ fn answer_record(alloc: Global, written: Record) -> Result<Answer, NoMemory>
                 certified,
             },
         ) => differs(alloc, pos, &found, &certified),
-        Err(LearnStop::NoMemory | LearnStop::Halted) => Err(NoMemory),
+        Err(LearnStop::NoMemory) => Err(NoMemory),
+        Err(LearnStop::Halted) => unreachable!(),
     }
 }
 

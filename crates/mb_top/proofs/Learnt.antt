@@ -16,6 +16,7 @@ use Rattle.mb_answer.specs.Records.{IsRecordText, AnswersText, too_long, bad_lin
 use Rattle.mb_answer.proofs.RecordTexts.{same_record}
 use Rattle.mb_reviewing.specs.Given.{given_in}
 use Rattle.mb_reviewing.specs.Learning.{machine, snapshots, Learns as LearnsOf, AnswersLearn, learnt, differs, LearnsFrom}
+use Rattle.mb_reviewing.proofs.LearntAll.{learnt_whole}
 use Rattle.mb_learn.specs.Proved.{IsLearnt, DiffersAt}
 use Rattle.mb_learned.specs.Learned.{WereGiven, LearnsRightly}
 use Rattle.mb_learned.proofs.Learned.{learners_agree}
@@ -56,16 +57,17 @@ module _ (s : Schedule) (w : World) (r : Record) (of : IsRecordIn s w r) (rightl
         more (y ∷ l) (inr i) = inr (more l i)
 
   said_right : (wanted : ℕ) (out : Bytes) (status : ℕ) → AnswersLearn r wanted out → Says wanted out status old new → Right status
-  said_right wanted out status (learnt slots learns agrees zero text_is) (said same grew) = (
-    λ told. record {
-      slots = slots;
-      written = subst (λ (b : Bytes). Appends old.bytes new.bytes b) text_is grew;
-      learnt = learns;
-      committed = rightly.committed (given_in r.entries) slots all_given (moved (given_in r.entries) slots learns);
-      line = rightly.one_history (given_in r.entries) slots all_given (moved (given_in r.entries) slots learns);
-    },
-    λ ten. absurd (omega (arith, same, zero, ten)),
-  )
+  said_right wanted out status (learnt slots took zero text_is) (said same grew) =
+      let learns = moved (given_in r.entries) slots (learnt_whole r (given_in r.entries) slots took) in (
+        λ told. record {
+          slots = slots;
+          written = subst (λ (b : Bytes). Appends old.bytes new.bytes b) text_is grew;
+          took = took;
+          committed = rightly.committed (given_in r.entries) slots all_given learns;
+          line = rightly.one_history (given_in r.entries) slots all_given learns;
+        },
+        λ ten. absurd (omega (arith, same, zero, ten)),
+      )
   said_right wanted out status (differs slots position certified first ten text_is) (said same grew) =
       absurd (rightly.same_states (first.before ++ first.last ∷ []) slots position certified (first_given first.before first.last first.later first.place)
       (moved (first.before ++ first.last ∷ []) slots first.learnt) (moved_difference (first.before ++ first.last ∷ []) slots position certified first.differs))

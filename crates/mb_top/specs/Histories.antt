@@ -11,18 +11,18 @@ use Rattle.mb_theory.specs.Stops.{IsUnstopped}
 use Rattle.mb_theory.specs.World.{World}
 use Rattle.mb_answer.specs.Devices.{Device}
 use Rattle.mb_reviewing.specs.Given.{given_in}
-use Rattle.mb_reviewing.specs.Learning.{Learns, learnt_text, state_behind}
+use Rattle.mb_reviewing.specs.Learning.{LearntInTurn, learnt_text, state_behind}
 use Rattle.mb_learned.specs.Learned.{BeginsWith, IsCommittedAt, strings}
 use Rattle.mb_top.specs.Blames.{IsRecordIn}
 use Rattle.mb_top.specs.Systems.{system_of, world}
 
--- The slots that are written are learnt from what the host was given, and each is committed in the world. They and the line of the world are beginnings of one
--- another.
+-- The slots that are written are learnt in turn from what the host was given, and each is committed in the world. They and the line of the world are beginnings
+-- of one another.
 pub record WritesLine (s : Schedule) (w : World) (r : Record) (old new : Device) : Type 0 where
   pub slots : List Slot
   pub written : Appends old.bytes new.bytes (learnt_text slots (state_behind r slots (length slots)))
-  pub learnt : Learns r (given_in r.entries) slots
-  pub committed : (q : ℕ) (slot : Slot) → slice_get slots q ≡ Some slot → IsCommittedAt (system_of s) w r.id (q + 1) (batch_of slot)
+  pub took : LearntInTurn r (given_in r.entries) slots
+  pub committed : (q : ℕ) (slot : Slot) → slice_get slots q ≡ Some slot → IsCommittedAt s w (q + 1) (batch_of slot)
   pub line : BeginsWith w.line slots ⊎ BeginsWith slots w.line
 
 -- Whatever schedule it is, with at most f faulty hosts and while nothing is forged or refused by the world and no two of the strings share a digest: at

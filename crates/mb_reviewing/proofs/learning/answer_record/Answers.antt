@@ -13,7 +13,7 @@ returns-in-Ok c =
     let r = c.args.written in
     let took = c.in-Ok.ensures r (made_empty r _ c.in_ok-learner.learner c.new.ensures c.in_ok-learner.ensures) in
     let all : Took r (given_in r.entries) c.learn_all.new.learner = subst (λ (l : List Bytes). Took r l c.learn_all.new.learner) (ap texts c.as_slice.ensures.value ∙ c.in_ok-given.ensures) took in
-    IfOk-weaker c.learnt.result _ _ (λ a h. learnt all.0 all.1.learnt all.1.agrees h.0 h.1) (c.learnt.ensures r (given_in r.entries) all.0 all.1)
+    IfOk-weaker c.learnt.result _ _ (λ a h. learnt all.0 all.1 h.0 h.1) (c.learnt.ensures r (given_in r.entries) all.0 all.2)
 
 pub returns-in-Err-Differs : goal.returns-in-Err-Differs
 returns-in-Err-Differs c =
