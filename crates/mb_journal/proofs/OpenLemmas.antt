@@ -14,7 +14,7 @@ use Rattle.mb_journal.specs.Keeping.{RestsAt, IsShut, IsCut, Lands}
 use Rattle.mb_journal.specs.declared.opening.Found.{Found}
 use Rattle.mb_journal.specs.declared.opening.OpenStop.{OpenStop}
 use Rattle.mb_journal.specs.declared.opening.OpenStop.TheVariants.{BadJournal, DiskFault, NoMemory}
-use Rattle.mb_journal.specs.Opening.{StandsBefore, IsParted, ReadsRecords, ReadsJournal, KeepsEvents, MayShut, shut_at}
+use Rattle.mb_journal.specs.Opening.{StandsBefore, IsParted, ReadsRecords, ReadsJournal, KeepsEvents, StaysWhole, MayShut, shut_at}
 use Rattle.mb_journal.proofs.RecordLemmas.{length-record_text, record_read}
 use Rattle.mb_journal.proofs.Reading.{entries-push, fit_push, ends_read, fault_read, shut_holds, whole_opened, whole_closed}
 use Rattle.mb_journal.proofs.Lists.{settled_image, overwritten_at}
@@ -168,13 +168,16 @@ keeps_same header file image same events event fit fits cut = subst (λ (l : Byt
 module _ (header : Bytes) (old : Moments) where
   -- what a crash may leave while the file is opened
   abbrev pub Opens : Bytes → Type 0
-  Opens image = IsImage old.now image ⊎ KeepsEvents header old.now.reads image
+  Opens image = IsImage old.now image ⊎ StaysWhole header old.now.reads image
 
   abbrev pub synced : Moments
   synced = next old (settled old.now.reads)
 
+  stays_same : (image : Bytes) → image ≡ old.now.reads → StaysWhole header old.now.reads image
+  stays_same image same = record { touched = inl same; keeps = keeps_same header old.now.reads image same }
+
   synced_image : HoldsInImages Opens (settled old.now.reads)
-  synced_image image is = inr (keeps_same header old.now.reads image (settled_image old.now.reads image is))
+  synced_image image is = inr (stays_same image (settled_image old.now.reads image is))
 
   pub opens_synced : (mid : Option Moments) → mid ≡ Some synced → LeavesOnly Opens old mid
   opens_synced mid is = record { since = settled old.now.reads ∷ []; is = is; each = (synced_image, tt) }
@@ -189,9 +192,12 @@ module _ (header : Bytes) (old : Moments) where
       let byte_old : byte ≡ get_or old.now.reads gate 0 = byte_is ∙ ap (λ (l : Bytes). get_or l gate 0) file_is in
       leaves_both Opens old mid new first (leaves_weaker (MayShut gate byte old.now.reads) Opens synced new (λ image may. inr (kept_of image may says_old byte_old)) (shut refl))
     where
-      kept_of : (image : Bytes) → MayShut gate byte old.now.reads image → contents_of header old.now.reads ≡ Ok (contents found gate) → byte ≡ get_or old.now.reads gate 0 → KeepsEvents header old.now.reads image
-      kept_of image (inl same) says is = keeps_same header old.now.reads image same
-      kept_of image (inr lands) says is = gate_keeps header old.now.reads found gate says (λ zero. lands.0 (is ∙ zero)) image lands.1
+      kept_of : (image : Bytes) → MayShut gate byte old.now.reads image → contents_of header old.now.reads ≡ Ok (contents found gate) → byte ≡ get_or old.now.reads gate 0 → StaysWhole header old.now.reads image
+      kept_of image (inl same) says is = stays_same image same
+      kept_of image (inr lands) says is = record {
+        touched = inr (contents found gate, says, lands.1);
+        keeps = gate_keeps header old.now.reads found gate says (λ zero. lands.0 (is ∙ zero)) image lands.1;
+      }
 
   -- then the journal is at rest
   pub rests_opened : (file : Bytes) (found : List Event) (gate byte : ℕ) (content : Content) → file ≡ old.now.reads → IsParted header file found gate → byte ≡ get_or file gate 0

@@ -9,7 +9,7 @@ use Rattle.mb_msg.specs.declared.event.Event.{Event}
 use Rattle.mb_journal.specs.declared.opening.Found.{Found}
 use Rattle.mb_journal.specs.declared.opening.OpenStop.{OpenStop}
 use Rattle.mb_journal.specs.declared.opening.OpenStop.TheVariants.{BadJournal, DiskFault, NoMemory}
-use Rattle.mb_journal.specs.Files.{entries, EventFits, first_event, contents, contents_of}
+use Rattle.mb_journal.specs.Files.{entries, EventFits, first_event, Contents, contents, contents_of}
 use Rattle.mb_journal.specs.Keeping.{IsCut, Lands}
 
 -- behind a front of the file stand the whole records of these events, and then a gate
@@ -52,6 +52,15 @@ ReadsJournal header file (Err NoMemory) = Unit {0}
 abbrev pub KeepsEvents : Bytes → Bytes → Bytes → Type 0
 KeepsEvents header file image =
     (events : List Event) (event : Event) → AllByRecursion EventFits events → EventFits event → IsCut header events event file → IsCut header events event image
+
+-- A file stays as it reads, but for the gate that ends its events where it says some: that one may become any byte.
+abbrev pub IsTouched : Bytes → Bytes → Bytes → Type 0
+IsTouched header file image = (image ≡ file) ⊎ ((found : Contents) × (contents_of header file ≡ Ok found) × Lands found.gate (0 ∷ []) file image)
+
+-- So a file that is no journal of this host is left alone, and of one that is nothing gets lost.
+pub record StaysWhole (header file image : Bytes) : Type 0 where
+  pub touched : IsTouched header file image
+  pub keeps : KeepsEvents header file image
 
 -- a gate is shut where it isn't
 abbrev pub shut_at : ℕ → ℕ → Bytes → Bytes

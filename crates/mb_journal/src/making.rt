@@ -6,7 +6,7 @@ ghost use Rattle.mb_edge.specs.Faults.{TellsFaults};
 ghost use Rattle.mb_edge.specs.Disks.{WhereTold, LeavesOnly, IsImage, settled};
 ghost use Rattle.mb_journal.specs.Files.{contents_of, Holds};
 ghost use Rattle.mb_journal.specs.Keeping.{RestsAt, IsAtRest};
-ghost use Rattle.mb_journal.specs.Opening.{KeepsEvents};
+ghost use Rattle.mb_journal.specs.Opening.{StaysWhole};
 ghost use Rattle.mb_journal.specs.Making.{SaysNothing};
 ghost use Rattle.mb_journal.specs.Headers.{header_text};
 
@@ -79,6 +79,9 @@ impl Journal {
         ensures empty { OnOk result (WhereTold (D.moments disk.old) (λ old. old.now.reads ≡ [])) }
         ensures rests { OnOk result (WhereTold (D.moments disk.old) (λ old. WhereTold (D.moments disk.new) (λ new. RestsAt (header_text config.now id) 45 [] new.now))) }
 
+        // A file with bytes stays as it is, whatever the answer.
+        ensures there { WhereTold (D.moments disk.old) (λ old. old.now.reads ≢ [] → D.moments disk.new ≡ D.moments disk.old) }
+
         // Over a file without bytes, a crash at any moment leaves no journal, or one without events.
         ensures any_moment { WhereTold (D.moments disk.old) (λ old. old.now ≡ settled [] → LeavesOnly (SaysNothing (header_text config.now id)) old (D.moments disk.new)) }
 
@@ -95,8 +98,8 @@ impl Journal {
 
     /// Opens the file of a journal. What it answers is acknowledged.
     ///
-    /// `BadJournal` comes exactly where the header differs from that of this config and host, with the first such byte, where the file ends
-    /// before its first gate, with its length, or where a gate of 1 has no whole record with a gate behind it, with that gate's place, unless
+    /// `BadJournal` comes exactly where a byte of the header is another than this config and host give, with the first such place; where the file ends
+    /// before its first gate, with its length; or where no whole record with a gate behind it follows a gate of 1, with that gate's place; unless
     /// the disk fails or memory runs out first.
     pub fn open<D: Disk>(
         alloc: Global,
@@ -111,8 +114,9 @@ impl Journal {
         ensures bad { (at : ℕ) → IsErrOf result (OpenStop.BadJournal at) → WhereTold (D.moments disk.old) (λ old. contents_of (header_text config.now id) old.now.reads ≡ Err at) }
         ensures rests { IfOk result (λ opened. WhereTold (D.moments disk.old) (λ old. WhereTold (D.moments disk.new) (λ new. IsAtRest opened.journal opened.events.items new.now))) }
 
-        // A crash at any moment leaves what one before might have left, or keeps the events.
-        ensures any_moment { WhereTold (D.moments disk.old) (λ old. LeavesOnly (λ image. IsImage old.now image ⊎ KeepsEvents (header_text config.now id) old.now.reads image) old (D.moments disk.new)) }
+        // A crash at any moment leaves what one before might have left, or a file that is whole: one that is no journal of this host as it reads, and of one
+        // that is its events.
+        ensures any_moment { WhereTold (D.moments disk.old) (λ old. LeavesOnly (λ image. IsImage old.now image ⊎ StaysWhole (header_text config.now id) old.now.reads image) old (D.moments disk.new)) }
 
         ensures faults { TellsFaults (D.never_fails disk.old) (D.never_fails disk.new) (D.faults disk.old) (D.faults disk.new) (IsErrOf result OpenStop.DiskFault) }
     {

@@ -53,7 +53,7 @@ use Rattle.mb_answer.proofs.ConfigLaws.{same_config, lacks_none}
 use Rattle.mb_serving.specs.Nodes.{outside, served_status, HasListened, Fails, IsUnbegun, headless, unopened}
 use Rattle.mb_serving.specs.Records.{host_of}
 use Rattle.mb_serving.specs.declared.journals.TheConstants.{JOURNAL_LIMIT}
-use Rattle.mb_serving.specs.Journals.{DiskState, LeavesNothing, IsNew, IsThere, Makes, made, exists, unmade, Opens, IsOpen, IsBad, Rises, start_of, kept_head, ServesBehind, served, unbegun, ServesKept, opened, bad, unread, no_host, KeptNodes, IsServedKept, making_statuses, kept_node_statuses, IsMade, IsOpened, IsOfWriting}
+use Rattle.mb_serving.specs.Journals.{DiskState, SparesFile, IsNew, IsThere, Makes, made, exists, unmade, Opens, IsOpen, IsBad, Rises, start_of, kept_head, ServesBehind, served, unbegun, ServesKept, opened, bad, unread, no_host, KeptNodes, IsServedKept, making_statuses, kept_node_statuses, IsMade, IsOpened, IsOfWriting}
 
 -- ---- entries are written
 
@@ -279,15 +279,15 @@ pub unread_as : (c : Config) (number host budget status : ℕ) (sink : Device) (
     → ServesKept c host budget status sink sink l l before after
 unread_as c number host budget status sink l before after same below fails opens = unread below fails (subst (λ (h : ℕ). Opens c h before after) same opens) refl refl
 
-pub made_as : (c : Config) (number host : ℕ) (sink : Device) (before after : DiskState) → number ≡ host → host < host_count c.shape → IsNew c number before after → LeavesNothing c number before after → Makes c host 0 sink sink before after
-made_as c number host sink before after same below new leaves = made below refl (subst (λ (h : ℕ). IsNew c h before after) same new) (subst (λ (h : ℕ). LeavesNothing c h before after) same leaves) refl
+pub made_as : (c : Config) (number host : ℕ) (sink : Device) (before after : DiskState) → number ≡ host → host < host_count c.shape → IsNew c number before after → SparesFile c number before after → Makes c host 0 sink sink before after
+made_as c number host sink before after same below new leaves = made below refl (subst (λ (h : ℕ). IsNew c h before after) same new) (subst (λ (h : ℕ). SparesFile c h before after) same leaves) refl
 
 pub exists_as : (c : Config) (number host status len : ℕ) (sink sink' : Device) (before after : DiskState) → number ≡ host → host < host_count c.shape → Says 16 (exists_text len) status sink sink' ⊎ ((status ≡ 4) × (sink ≡ sink')) → IsThere c number len before after
     → Makes c host status sink sink' before after
 exists_as c number host status len sink sink' before after same below says there = exists len below says (subst (λ (h : ℕ). IsThere c h len before after) same there)
 
-pub unmade_as : (c : Config) (number host status : ℕ) (sink : Device) (before after : DiskState) → number ≡ host → host < host_count c.shape → Fails 14 status before.faults after.faults → LeavesNothing c number before after → Makes c host status sink sink before after
-unmade_as c number host status sink before after same below fails leaves = unmade below fails (subst (λ (h : ℕ). LeavesNothing c h before after) same leaves) refl
+pub unmade_as : (c : Config) (number host status : ℕ) (sink : Device) (before after : DiskState) → number ≡ host → host < host_count c.shape → Fails 14 status before.faults after.faults → SparesFile c number before after → Makes c host status sink sink before after
+unmade_as c number host status sink before after same below fails leaves = unmade below fails (subst (λ (h : ℕ). SparesFile c h before after) same leaves) refl
 
 -- What is done from one sink is done from the same by another name.
 pub made_from : (c : Config) (host status : ℕ) (sink same sink' : Device) (before after : DiskState) → sink ≡ same → Makes c host status sink sink' before after → Makes c host status same sink' before after

@@ -17,7 +17,7 @@ use Rattle.mb_journal.specs.declared.making.Opened.{Opened}
 use Rattle.mb_journal.specs.declared.opening.OpenStop.{OpenStop}
 use Rattle.mb_journal.specs.declared.opening.OpenStop.TheVariants as opening
 use Rattle.mb_journal.specs.Making.{SaysNothing}
-use Rattle.mb_journal.specs.Opening.{KeepsEvents}
+use Rattle.mb_journal.specs.Opening.{StaysWhole}
 use Rattle.mb_journal.specs.Headers.{header_text}
 use Rattle.mb_node.specs.declared.stops.ServeStop.{ServeStop}
 use Rattle.mb_node.specs.declared.stops.ServeStop.TheVariants as stop
@@ -46,9 +46,10 @@ disk_state moments faults = record { moments = moments; faults = faults }
 -- ---- a journal is made
 
 module _ (c : Config) (host : ℕ) where
-  -- In a file without bytes a crash meanwhile leaves no journal, or one without events.
-  abbrev pub LeavesNothing : DiskState → DiskState → Type 0
-  LeavesNothing before after = WhereTold before.moments (λ old. old.now ≡ settled [] → LeavesOnly (SaysNothing (header_text c host)) old after.moments)
+  -- A file with bytes stays as it is. In one without a crash meanwhile leaves no journal, or one without events.
+  pub record SparesFile (before after : DiskState) : Type 0 where
+    pub there : WhereTold before.moments (λ old. old.now.reads ≢ [] → after.moments ≡ before.moments)
+    pub empty : WhereTold before.moments (λ old. old.now ≡ settled [] → LeavesOnly (SaysNothing (header_text c host)) old after.moments)
 
   -- The file had no bytes, and has a journal without events.
   pub record IsNew (before after : DiskState) : Type 0 where
@@ -63,9 +64,9 @@ module _ (c : Config) (host : ℕ) where
 
 -- A journal is made, or the file has bytes, or the disk fails or memory runs out; or the system has no such host.
 pub data Makes (c : Config) (host status : ℕ) (sink sink' : Device) (before after : DiskState) : Type 0 where
-  made : host < host_count c.shape → status ≡ 0 → IsNew c host before after → LeavesNothing c host before after → sink ≡ sink' → Makes c host status sink sink' before after
+  made : host < host_count c.shape → status ≡ 0 → IsNew c host before after → SparesFile c host before after → sink ≡ sink' → Makes c host status sink sink' before after
   exists : (len : ℕ) → host < host_count c.shape → Says 16 (exists_text len) status sink sink' ⊎ ((status ≡ 4) × (sink ≡ sink')) → IsThere c host len before after → Makes c host status sink sink' before after
-  unmade : host < host_count c.shape → Fails 14 status before.faults after.faults → LeavesNothing c host before after → sink ≡ sink' → Makes c host status sink sink' before after
+  unmade : host < host_count c.shape → Fails 14 status before.faults after.faults → SparesFile c host before after → sink ≡ sink' → Makes c host status sink sink' before after
   no_maker : host_count c.shape ≤ host → Says 1 usage_text status sink sink' → before ≡ after → Makes c host status sink sink' before after
 
 -- what the word `journal` does with a text
@@ -75,9 +76,9 @@ MakesBy text host status source source' sink sink' before after = Uses text (λ 
 -- ---- a journal is opened
 
 module _ (c : Config) (host : ℕ) where
-  -- Meanwhile a crash leaves a file as before, or one that keeps its events.
+  -- Meanwhile a crash leaves a file as before, or one that is whole: no journal of this host as it reads, and of a journal its events.
   abbrev pub Opens : DiskState → DiskState → Type 0
-  Opens before after = WhereTold before.moments (λ old. LeavesOnly (λ image. IsImage old.now image ⊎ KeepsEvents (header_text c host) old.now.reads image) old after.moments)
+  Opens before after = WhereTold before.moments (λ old. LeavesOnly (λ image. IsImage old.now image ⊎ StaysWhole (header_text c host) old.now.reads image) old after.moments)
 
   -- The file said these events, and the disk is at rest at them.
   pub record IsOpen (kept : List Event) (journal : JournalState) (before after : DiskState) : Type 0 where

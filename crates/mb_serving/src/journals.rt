@@ -10,7 +10,7 @@ ghost use Rattle.mb_sched.specs.Configs.{max_config};
 ghost use Rattle.mb_sched.specs.Records.{entry_text};
 ghost use Rattle.mb_answer.specs.Devices.{device, link_state};
 ghost use Rattle.mb_serving.specs.Nodes.{served_status};
-ghost use Rattle.mb_serving.specs.Journals.{disk_state, IsMade, LeavesNothing, IsOpened, Makes, MakesBy, ServesBehind, ServesKept, KeptNodes, IsOfWriting, IsServedKept, making_statuses, kept_node_statuses};
+ghost use Rattle.mb_serving.specs.Journals.{disk_state, IsMade, SparesFile, IsOpened, Makes, MakesBy, ServesBehind, ServesKept, KeptNodes, IsOfWriting, IsServedKept, making_statuses, kept_node_statuses};
 
 use crate::node::{begin, served_status};
 use mb_answer::{
@@ -26,7 +26,7 @@ use mb_node::{ServeStop, replay, serve_kept};
 use mb_sched::{Config, Entry, print_entry};
 use std::alloc::Global;
 
-/// The most bytes that a node's journal may have, so that its events have room in memory when it is opened.
+/// The most bytes that a node's journal may have.
 pub const JOURNAL_LIMIT: u64 = 268_435_456;
 
 /// Makes the journal of a host in the file of a path.
@@ -39,7 +39,7 @@ fn make_in<D: Disk>(
 ) -> Result<(), MakeStop>
     requires { host < host_count config.now.shape }
     ensures made { IsMade config.now host result (disk_state (D.moments disk.old) (D.faults disk.old)) (disk_state (D.moments disk.new) (D.faults disk.new)) }
-    ensures crash { LeavesNothing config.now host (disk_state (D.moments disk.old) (D.faults disk.old)) (disk_state (D.moments disk.new) (D.faults disk.new)) }
+    ensures crash { SparesFile config.now host (disk_state (D.moments disk.old) (D.faults disk.old)) (disk_state (D.moments disk.new) (D.faults disk.new)) }
     ensures disk { TellsFaults (D.never_fails disk.old) (D.never_fails disk.new) (D.faults disk.old) (D.faults disk.new) (IsErrOf result MakeStop.DiskFault) }
 {
     disk.open(path)?;

@@ -8,7 +8,7 @@ use Rattle.mb_model.specs.HostStep.{transition, after}
 use Rattle.mb_edge.specs.Disks.{Moments, next_all, IsImage}
 use Rattle.mb_journal.specs.Headers.{header_text}
 use Rattle.mb_journal.specs.Keeping.{JournalState}
-use Rattle.mb_journal.specs.Opening.{KeepsEvents}
+use Rattle.mb_journal.specs.Opening.{StaysWhole}
 use Rattle.mb_journal.proofs.Crashes.{leaves_same}
 use Rattle.mb_node.specs.declared.stops.ServeStop.{ServeStop}
 use Rattle.mb_node.specs.Events.{left_by, events}
@@ -90,5 +90,5 @@ kept_nodes_run text host budget status source source' sink sink' l l' before aft
 kept_nodes_run text host budget status source source' sink sink' l l' before after' (unused lacks idle) c reads has old told =
     inr (record {
       unsent = ap (λ (x : LinkState). x.sent) (sym idle.0);
-      opens = leaves_same (λ image. IsImage old.now image ⊎ KeepsEvents (header_text c host) old.now.reads image) old after'.moments (sym (ap (λ (d : DiskState). d.moments) idle.1) ∙ told);
+      opens = leaves_same (λ image. IsImage old.now image ⊎ StaysWhole (header_text c host) old.now.reads image) old after'.moments (sym (ap (λ (d : DiskState). d.moments) idle.1) ∙ told);
     })

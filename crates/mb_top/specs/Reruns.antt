@@ -5,7 +5,7 @@ use Rattle.mb_msg.specs.declared.event.Event.{Event}
 use Rattle.mb_edge.specs.Disks.{Moments, IsImage, WhereTold, LeavesOnly}
 use Rattle.mb_journal.specs.Files.{Holds}
 use Rattle.mb_journal.specs.Headers.{header_text}
-use Rattle.mb_journal.specs.Opening.{KeepsEvents}
+use Rattle.mb_journal.specs.Opening.{StaysWhole}
 use Rattle.mb_node.specs.Receives.{Receives}
 use Rattle.mb_node.specs.Events.{events}
 use Rattle.mb_sched.specs.declared.configs.Config.{Config}
@@ -22,9 +22,9 @@ use Rattle.mb_restart.specs.Restarts.{came, AreInWorld}
 use Rattle.mb_restart.specs.Servings.{EndsRun}
 use Rattle.mb_top.specs.Systems.{system_of}
 
--- A crash leaves a file as before, or one that keeps its events.
+-- A crash leaves a file as before, or one that is whole: no journal of this host as it reads, and of a journal its events.
 abbrev pub KeepsFile : Config → ℕ → Moments → Option Moments → Type 0
-KeepsFile c host old new = LeavesOnly (λ image. IsImage old.now image ⊎ KeepsEvents (header_text c host) old.now.reads image) old new
+KeepsFile c host old new = LeavesOnly (λ image. IsImage old.now image ⊎ StaysWhole (header_text c host) old.now.reads image) old new
 
 -- The file said these events, and kept them while it was opened. What followed was a run behind them with the events of what was received: whatever a crash
 -- leaves of the file, in the end or at a moment before, is what a run leaves, and what was sent is a first part of what a run sends.

@@ -15,7 +15,10 @@ returns-in_err-open-clause-made g c =
     not_made c.args.config.now c.args.host _ _ c.from_residual.result p.0 c.in_err-open.field-0.0 p.1 p.2
 
 pub returns-in_err-open-clause-crash : goal.returns-in_err-open-clause-crash
-returns-in_err-open-clause-crash g c old is empty = leaves_same (SaysNothing (header_text c.args.config.now c.args.host)) old _ (c.in_err-open.ensures.same ∙ is)
+returns-in_err-open-clause-crash g c = record {
+  there = λ old is some. c.in_err-open.ensures.same;
+  empty = λ old is empty. leaves_same (SaysNothing (header_text c.args.config.now c.args.host)) old _ (c.in_err-open.ensures.same ∙ is);
+}
 
 pub returns-in_err-open-clause-disk : goal.returns-in_err-open-clause-disk
 returns-in_err-open-clause-disk g c =
@@ -28,7 +31,10 @@ returns-clause-made g c =
     c.in_ok-open.ensures.same c.make.ensures.exists c.make.ensures.kept c.make.ensures.empty c.make.ensures.rests
 
 pub returns-clause-crash : goal.returns-clause-crash
-returns-clause-crash g c old is empty = c.make.ensures.any_moment old (c.in_ok-open.ensures.same ∙ is) empty
+returns-clause-crash g c = record {
+  there = λ old is some. c.make.ensures.there old (c.in_ok-open.ensures.same ∙ is) some ∙ c.in_ok-open.ensures.same;
+  empty = λ old is empty. c.make.ensures.any_moment old (c.in_ok-open.ensures.same ∙ is) empty;
+}
 
 pub returns-clause-disk : goal.returns-clause-disk
 returns-clause-disk g c = counts_after _ _ _ _ _ _ _ (call_calm _ _ _ _ _ c.in_ok-open.ensures.cause c.in_ok-open.ensures.sound c.in_ok-open.ensures.quiet) c.make.ensures.faults

@@ -4,7 +4,7 @@ use Rattle.mb_edge.specs.Disks.{IsImage}
 use Rattle.mb_edge.proofs.FaultLemmas.{tells_as, tells_call}
 use Rattle.mb_journal.specs.Headers.{header_text}
 use Rattle.mb_journal.specs.Keeping.{JournalState}
-use Rattle.mb_journal.specs.Opening.{KeepsEvents}
+use Rattle.mb_journal.specs.Opening.{StaysWhole}
 use Rattle.mb_journal.proofs.Crashes.{leaves_same}
 use Rattle.mb_node.proofs.Faults.{call_calm, counts_after}
 use Rattle.mb_serving.specs.Journals.{disk_state}
@@ -15,7 +15,7 @@ pub returns-in_err-open-clause-opened : goal.returns-in_err-open-clause-opened
 returns-in_err-open-clause-opened g c =
     let p = err_from_is_err_and c.from_residual.result c.from_residual.ensures.1 in
     not_opened c.args.config.now c.args.host _ _ c.from_residual.result p.0 c.in_err-open.field-0.0 p.1 p.2
-    (λ old is. leaves_same (λ image. IsImage old.now image ⊎ KeepsEvents (header_text c.args.config.now c.args.host) old.now.reads image) old _ (c.in_err-open.ensures.same ∙ is))
+    (λ old is. leaves_same (λ image. IsImage old.now image ⊎ StaysWhole (header_text c.args.config.now c.args.host) old.now.reads image) old _ (c.in_err-open.ensures.same ∙ is))
 
 pub returns-in_err-open-clause-disk : goal.returns-in_err-open-clause-disk
 returns-in_err-open-clause-disk g c =

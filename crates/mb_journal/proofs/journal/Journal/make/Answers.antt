@@ -32,3 +32,24 @@ pub returns-in_err-write_and_sync-clause-any_moment : goal.returns-in_err-write_
 returns-in_err-write_and_sync-clause-any_moment g c old is empty =
     leaves_nothing (header_text c.args.config.now c.args.id) c.deref.result.now (c.deref.ensures.value ∙ c.in_ok-start.ensures) old (g.D.Disk.moments c.len.new.self) (g.D.Disk.moments c.write_and_sync.new.disk)
     (c.len.ensures.same ∙ is) empty c.write_and_sync.ensures.crash
+
+-- ---- a file with bytes
+
+pub returns-in_err-length-clause-there : goal.returns-in_err-length-clause-there
+returns-in_err-length-clause-there g c old is some = c.len.ensures.same
+
+pub returns-then-length-ne0-clause-there : goal.returns-then-length-ne0-clause-there
+returns-then-length-ne0-clause-there g c old is some = c.len.ensures.same
+
+pub returns-in_err-start-clause-there : goal.returns-in_err-start-clause-there
+returns-in_err-start-clause-there g c old is some = c.len.ensures.same
+
+pub returns-in_err-write_and_sync-clause-there : goal.returns-in_err-write_and_sync-clause-there
+returns-in_err-write_and_sync-clause-there g c old is some =
+    let none : c.in_ok-length.length ≡ 0 = search rules in
+    absurd (some (no_bytes_read old.now c.in_ok-length.length (c.in_ok-length.ensures.len old is) none))
+
+pub returns-clause-there : goal.returns-clause-there
+returns-clause-there g c old is some =
+    let none : c.in_ok-length.length ≡ 0 = search rules in
+    absurd (some (no_bytes_read old.now c.in_ok-length.length (c.in_ok-length.ensures.len old is) none))

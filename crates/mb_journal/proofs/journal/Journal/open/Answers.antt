@@ -4,7 +4,7 @@ use Rattle.mb_edge.specs.Disks.{IsImage, LeavesOnly}
 use Rattle.mb_journal.specs.declared.opening.OpenStop.TheVariants.{BadJournal}
 use Rattle.mb_journal.specs.Files.{contents_of}
 use Rattle.mb_journal.specs.Keeping.{JournalState, RestsAt}
-use Rattle.mb_journal.specs.Opening.{KeepsEvents}
+use Rattle.mb_journal.specs.Opening.{StaysWhole}
 use Rattle.mb_journal.proofs.journal.Journal.open.Goals as goal
 
 pub returns-in_err-found-clause-bad : goal.returns-in_err-found-clause-bad
@@ -15,7 +15,7 @@ returns-in_err-found-clause-bad g c at told old is =
 
 pub returns-in_err-found-clause-any_moment : goal.returns-in_err-found-clause-any_moment
 returns-in_err-found-clause-any_moment g c old is =
-    subst (λ (h : Bytes). LeavesOnly (λ image. IsImage old.now image ⊎ KeepsEvents h old.now.reads image) old (g.D.Disk.moments c.open_file.new.disk)) (c.deref.ensures.value ∙ c.in_ok-header.ensures) (c.open_file.ensures.any_moment old is)
+    subst (λ (h : Bytes). LeavesOnly (λ image. IsImage old.now image ⊎ StaysWhole h old.now.reads image) old (g.D.Disk.moments c.open_file.new.disk)) (c.deref.ensures.value ∙ c.in_ok-header.ensures) (c.open_file.ensures.any_moment old is)
 
 pub returns-clause-events : goal.returns-clause-events
 returns-clause-events g c old is = record {
@@ -31,4 +31,4 @@ returns-clause-rests g c old is new new_is =
 
 pub returns-clause-any_moment : goal.returns-clause-any_moment
 returns-clause-any_moment g c old is =
-    subst (λ (h : Bytes). LeavesOnly (λ image. IsImage old.now image ⊎ KeepsEvents h old.now.reads image) old (g.D.Disk.moments c.open_file.new.disk)) (c.deref.ensures.value ∙ c.in_ok-header.ensures) (c.open_file.ensures.any_moment old is)
+    subst (λ (h : Bytes). LeavesOnly (λ image. IsImage old.now image ⊎ StaysWhole h old.now.reads image) old (g.D.Disk.moments c.open_file.new.disk)) (c.deref.ensures.value ∙ c.in_ok-header.ensures) (c.open_file.ensures.any_moment old is)
