@@ -107,7 +107,7 @@ def one_lie(words, config, lie, folder):
         wrong += differs
     print(f"{lie}: {run.verdict}; of {run.lines[-1].split()[2]} positions are proved {' '.join(proved)}", flush=True)
     for said in wrong:
-        print(f"    {said}")
+        print(f"    {said[:300]}")
     return not wrong
 
 
