@@ -45,11 +45,15 @@ class Client:
             self.tell(self.waiting)
         return None
 
-    def ask(self, operation):
-        """The position and the result that f+1 hosts told alike, or None."""
+    def ask_once(self, operation):
+        """Sends the next request, and waits for nothing."""
         self.number += 1
         self.waiting = request(self.config, 0, self.number, operation)
         self.tell(self.waiting)
+
+    def ask(self, operation):
+        """The position and the result that f+1 hosts told alike, or None."""
+        self.ask_once(operation)
         told = {}
         for _ in range(TURNS):
             message = self.receive()

@@ -2,7 +2,8 @@
 """check_documents.py: checks README.md, docs and examples/README.md, and prints what is not right; then the status is 1.
 
 Each relative link leads to a file that is there, and to a heading of it; each file that is named whole, as `crates/..`, `tools/..` or `mb_x/specs/..`, is there; no
-cell of a table has more than 300 characters; README, PROMISE and ARCHITECTURE keep their sizes; no `@@NAME@@` is left that waits for a number."""
+cell of a table has more than 300 characters; README, PROMISE and ARCHITECTURE keep their sizes; no `@@NAME@@` is left that waits for a number; each story
+is that of the example of its name."""
 import pathlib
 import re
 import sys
@@ -76,8 +77,18 @@ def size_faults():
             yield f"{name}: {size} bytes, more than {most}"
 
 
+def story_faults():
+    """Stories whose schedule, without what is told between its lines, is not the example's; and examples without one."""
+    stories = TOP / "crates" / "mb_trace" / "data"
+    for example in sorted((TOP / "examples").glob("*.schedule")):
+        story = stories / f"{example.stem}.story"
+        told = story.read_text().splitlines() if story.exists() else []
+        if [line for line in told if not line.startswith("  ")] != example.read_text().splitlines():
+            yield f"{story.relative_to(TOP)} is no story of {example.name}"
+
+
 def main():
-    faults = list(size_faults())
+    faults = [*size_faults(), *story_faults()]
     for document in documents():
         place = document.relative_to(TOP)
         faults += [f"{place}:{number}: {fault}" for number, line in lines_outside_fences(document) for fault in faults_of_line(document, line)]

@@ -12,6 +12,7 @@ use Rattle.mb_base.specs.declared.shape.Shape.{Shape}
 use Rattle.mb_parts.specs.Fits.{FitsText}
 use Rattle.mb_cluster.specs.Runs.{OpsFit, Asks, Opens, wire}
 use Rattle.mb_cluster.specs.Missing.{EndsByStops, AwaitsEach}
+use Rattle.mb_cluster.specs.Order.{GoesInOrder}
 use Rattle.mb_cluster.proofs.EndLemmas.{none_awaited}
 use Rattle.mb_sched.specs.declared.configs.Config.{Config}
 use Rattle.mb_sched.specs.Words.{is, is_hex, is_operation, bytes_of, operation_of}
@@ -181,14 +182,18 @@ cluster_completes text turns status old new (unused lacks idle) c reads calm =
 
 pub runs_cluster : (c : Config) (turns status : ℕ) (ended : Result (Unit {0}) ClusterStop) (old new : Devices) (sink : Device) → old.sink ≡ sink → status ≡ run_status ended
     → Asks c turns ended (wire old.link.received old.link.sent) (wire new.link.received new.link.sent) sink.bytes new.sink.bytes → Opens c ended old.link.opens new.link.opens
-    → RunsNodes c ended (spawned old.spawner.starts old.spawner.waits) (spawned new.spawner.starts new.spawner.waits) → HasRisen ended old new → EndsAs ended old.spawner.bad_ends new.spawner.bad_ends
+    → RunsNodes c ended (spawned old.spawner.starts old.spawner.waits) (spawned new.spawner.starts new.spawner.waits)
+    → GoesInOrder c turns old.link.opens new.link.opens (wire old.link.received old.link.sent) (wire new.link.received new.link.sent) sink.bytes new.sink.bytes (spawned old.spawner.starts old.spawner.waits) (spawned new.spawner.starts new.spawner.waits)
+    → HasRisen ended old new → EndsAs ended old.spawner.bad_ends new.spawner.bad_ends
     → RunsCluster c turns status old new
-runs_cluster c turns status ended old new sink same is asks opens nodes cause bad = record {
+runs_cluster c turns status ended old new sink same is asks opens nodes order cause bad = record {
   ended = ended;
   status_is = is;
   asks = subst (λ (d : Device). Asks c turns ended (wire old.link.received old.link.sent) (wire new.link.received new.link.sent) d.bytes new.sink.bytes) (sym same) asks;
   opens = opens;
   nodes = nodes;
+  order = subst (λ (d : Device). GoesInOrder c turns old.link.opens new.link.opens (wire old.link.received old.link.sent) (wire new.link.received new.link.sent) d.bytes new.sink.bytes
+      (spawned old.spawner.starts old.spawner.waits) (spawned new.spawner.starts new.spawner.waits)) (sym same) order;
   cause = cause;
   bad_ends = bad;
 }

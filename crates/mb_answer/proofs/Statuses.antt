@@ -27,12 +27,23 @@ told_low s (inr finding) = inr finding
 finding_least : (s : ℕ) → IsFinding s → 10 ≤ s
 finding_least s (inl is) = omega (arith, is)
 finding_least s (inr (inl is)) = omega (arith, is)
-finding_least s (inr (inr is)) = omega (arith, is)
+finding_least s (inr (inr (inl is))) = omega (arith, is)
+finding_least s (inr (inr (inr (inl is)))) = omega (arith, is)
+finding_least s (inr (inr (inr (inr is)))) = omega (arith, is)
 
-finding_most : (s : ℕ) → IsFinding s → s < 14
+finding_most : (s : ℕ) → IsFinding s → s < 18
 finding_most s (inl is) = omega (arith, is)
 finding_most s (inr (inl is)) = omega (arith, is)
-finding_most s (inr (inr is)) = omega (arith, is)
+finding_most s (inr (inr (inl is))) = omega (arith, is)
+finding_most s (inr (inr (inr (inl is)))) = omega (arith, is)
+finding_most s (inr (inr (inr (inr is)))) = omega (arith, is)
+
+finding_no_disk : (s : ℕ) → IsFinding s → ¬ (s ≡ 14)
+finding_no_disk s (inl found) = λ is. absurd (omega (arith, found, is))
+finding_no_disk s (inr (inl found)) = λ is. absurd (omega (arith, found, is))
+finding_no_disk s (inr (inr (inl found))) = λ is. absurd (omega (arith, found, is))
+finding_no_disk s (inr (inr (inr (inl found)))) = λ is. absurd (omega (arith, found, is))
+finding_no_disk s (inr (inr (inr (inr found)))) = λ is. absurd (omega (arith, found, is))
 
 pub told_is_not : (s n : ℕ) → IsToldBy s → 4 ≤ n → n < 10 → ¬ (s ≡ n)
 told_is_not s n (inl lt) le below = λ is. absurd (omega (arith, lt, le, is))
@@ -47,6 +58,11 @@ low_no_link s (inr finding) = let least = finding_least s finding in λ is. absu
 pub low_no_spawner : (s : ℕ) → IsLow s → ¬ (s ≡ 8)
 low_no_spawner s (inl lt) = λ is. absurd (omega (arith, lt, is))
 low_no_spawner s (inr finding) = let least = finding_least s finding in λ is. absurd (omega (arith, least, is))
+
+-- nor that of a disk's fault,
+pub low_no_disk : (s : ℕ) → IsLow s → ¬ (s ≡ 14)
+low_no_disk s (inl lt) = λ is. absurd (omega (arith, lt, is))
+low_no_disk s (inr finding) = finding_no_disk s finding
 
 -- nor that of a bad end.
 pub low_no_end : (s : ℕ) → IsLow s → ¬ (s ≡ 18)

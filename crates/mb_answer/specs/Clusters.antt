@@ -6,6 +6,7 @@ use Rattle.mb_cluster.specs.declared.stop.ClusterStop.TheVariants as stop
 use Rattle.mb_cluster.specs.Nodes.{Spawned, RunsNodes, EndsAs, spawned}
 use Rattle.mb_cluster.specs.Runs.{Asks, Opens, wire}
 use Rattle.mb_cluster.specs.Missing.{EndsByStops, AwaitsEach}
+use Rattle.mb_cluster.specs.Order.{GoesInOrder}
 use Rattle.mb_edge.specs.Faults.{Rose}
 use Rattle.mb_sched.specs.declared.configs.Config.{Config}
 use Rattle.mb_answer.specs.Configs.{IsConfigText, Uses}
@@ -42,6 +43,8 @@ pub record RunsCluster (c : Config) (turns status : ℕ) (old new : Devices) : T
   pub asks : Asks c turns ended (wire old.link.received old.link.sent) (wire new.link.received new.link.sent) old.sink.bytes new.sink.bytes
   pub opens : Opens c ended old.link.opens new.link.opens
   pub nodes : RunsNodes c ended (spawned old.spawner.starts old.spawner.waits) (spawned new.spawner.starts new.spawner.waits)
+  pub order : GoesInOrder c turns old.link.opens new.link.opens (wire old.link.received old.link.sent) (wire new.link.received new.link.sent) old.sink.bytes new.sink.bytes
+      (spawned old.spawner.starts old.spawner.waits) (spawned new.spawner.starts new.spawner.waits)
   pub cause : HasRisen ended old new
   pub bad_ends : EndsAs ended old.spawner.bad_ends new.spawner.bad_ends
 

@@ -66,9 +66,9 @@ IsUnread stop.TooLong status sink sink' = SaysOrStarves 2 too_long_text status s
 IsUnread stop.Fault status sink sink' = (status ≡ 5) × (sink ≡ sink')
 IsUnread stop.NoMemory status sink sink' = (status ≡ 4) × (sink ≡ sink')
 
--- the statuses of what is found in a record
+-- the statuses of what is found in a record, and of what is found in the file of a journal
 abbrev pub IsFinding : ℕ → Type 0
-IsFinding status = (status ≡ 10) ⊎ ((status ≡ 12) ⊎ (status ≡ 13))
+IsFinding status = (status ≡ 10) ⊎ ((status ≡ 12) ⊎ ((status ≡ 13) ⊎ ((status ≡ 16) ⊎ (status ≡ 17))))
 
 -- the statuses that a text goes with
 abbrev pub IsToldBy : ℕ → Type 0

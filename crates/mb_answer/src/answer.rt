@@ -1,7 +1,7 @@
 //! The statuses, and the texts that go with them.
 
 ghost use Rattle.std.specs.Prelude.{◌≡◌, IfOk};
-ghost use Rattle.mb_answer.specs.Texts.{usage_text, too_long_text, bad_line_text, forged_text, forged_tag_text};
+ghost use Rattle.mb_answer.specs.Texts.{usage_text, too_long_text, bad_line_text, exists_text, bad_journal_text, forged_text, forged_tag_text};
 ghost use Rattle.mb_answer.specs.Refusals.{IsRefusal};
 
 use mb_base::{Counter, Host, NoMemory};
@@ -36,12 +36,20 @@ pub const DIFFERS: u8 = 10;
 pub const ILLEGAL: u8 = 12;
 /// A counter is missing in a record.
 pub const GAP: u8 = 13;
+/// The disk failed.
+pub const DISK_FAULT: u8 = 14;
+/// A journal has no room for the next event.
+pub const JOURNAL_FULL: u8 = 15;
+/// The file of a journal that is to be made has bytes already.
+pub const JOURNAL_EXISTS: u8 = 16;
+/// A file is no journal of this config and host.
+pub const BAD_JOURNAL: u8 = 17;
 /// A node ended with another status than 0.
 pub const CHILD_ENDED: u8 = 18;
 
 /// How the program is used.
 pub const USAGE_TEXT: &[u8] =
-    b"usage: minbft replay | soak SEED N | node ID EVENTS | retrace | cluster TURNS | audit H | learn\n";
+    b"usage: minbft replay | soak SEED N | node ID EVENTS [PATH] | retrace | cluster TURNS | audit H | learn | journal ID PATH\n";
 
 /// A status, and what is written with it.
 #[derive(Drop)]
@@ -77,6 +85,28 @@ pub fn bad_line(alloc: Global, number: u64) -> Result<Answer, NoMemory>
     let text = format!(in alloc; "bad line {number}\n")?;
     Ok(Answer {
         status: BAD_INPUT,
+        text: text.into_bytes(),
+    })
+}
+
+/// The file of a journal that is to be made has so many bytes already.
+pub fn journal_exists(alloc: Global, length: u64) -> Result<Answer, NoMemory>
+    ensures { IfOk result (λ a. (a.status ≡ 16) × (a.text.items ≡ exists_text length)) }
+{
+    let text = format!(in alloc; "exists {length}\n")?;
+    Ok(Answer {
+        status: JOURNAL_EXISTS,
+        text: text.into_bytes(),
+    })
+}
+
+/// A file is no journal of this config and host, by the offset of its first fault.
+pub fn bad_journal(alloc: Global, at: u64) -> Result<Answer, NoMemory>
+    ensures { IfOk result (λ a. (a.status ≡ 17) × (a.text.items ≡ bad_journal_text at)) }
+{
+    let text = format!(in alloc; "bad journal at {at}\n")?;
+    Ok(Answer {
+        status: BAD_JOURNAL,
         text: text.into_bytes(),
     })
 }

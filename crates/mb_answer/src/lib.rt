@@ -14,9 +14,10 @@ mod ends;
 mod saying;
 
 pub use answer::{
-    Answer, BAD_INPUT, BUDGET, CHILD_ENDED, DIFFERS, DONE, DOUBLE, FORGED, GAP, ILLEGAL,
-    LINK_FAULT, NO_MEMORY, SINK_FAULT, SOURCE_FAULT, SPAWN_FAULT, USAGE, USAGE_TEXT, bad_line,
-    forged, forged_tag, refusal, too_long, usage,
+    Answer, BAD_INPUT, BAD_JOURNAL, BUDGET, CHILD_ENDED, DIFFERS, DISK_FAULT, DONE, DOUBLE, FORGED,
+    GAP, ILLEGAL, JOURNAL_EXISTS, JOURNAL_FULL, LINK_FAULT, NO_MEMORY, SINK_FAULT, SOURCE_FAULT,
+    SPAWN_FAULT, USAGE, USAGE_TEXT, bad_journal, bad_line, forged, forged_tag, journal_exists,
+    refusal, too_long, usage,
 };
 pub use configs::{cluster, config_from};
 pub use saying::{respond, say, tell_unread};

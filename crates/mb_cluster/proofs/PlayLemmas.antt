@@ -1,5 +1,5 @@
 -- A whole run: what was played, the stops, and the ends of the nodes.
-use Rattle.std.proofs.Common.{◌≡◌, ℕ, ◌+◌, ◌≤◌, List, [], ◌∷◌, ◌++◌, length, map, Option, Result, Ok, Err, refl, sym, ap, subst, ◌∙◌, append-nil, arith, inl, inr}
+use Rattle.std.proofs.Common.{◌≡◌, ◌⊎◌, ℕ, ◌+◌, ◌≤◌, List, [], ◌∷◌, ◌++◌, length, map, Option, Result, Ok, Err, refl, sym, ap, subst, ◌∙◌, append-nil, arith, inl, inr}
 use Rattle.std.specs.Io.KnownBytes.{Appends}
 use Rattle.std.proofs.lemmas.List.{take_all, length-map}
 use Rattle.mb_base.specs.Shapes.{Bytes, host_count}
@@ -17,12 +17,13 @@ use Rattle.mb_cluster.specs.Hearing.{Hearing, no_hearing}
 use Rattle.mb_cluster.specs.Posts.{program, posts, number_after, requests, stops, AreSome}
 use Rattle.mb_cluster.specs.Sends.{SendsSome, SendsInTurn}
 use Rattle.mb_cluster.specs.Exchanges.{Exchange, result_text}
-use Rattle.mb_cluster.specs.Nodes.{spawned, AreStarted, AwaitsSome, StartsNodes, RunFirst, RunsNodes, EndsAs}
+use Rattle.mb_cluster.specs.Nodes.{spawned, AreStarted, AwaitsSome, StartsNodes, RunEach, RunFirst, RunsNodes, EndsAs}
 use Rattle.mb_cluster.specs.Ends.{IsSpawnStop, AwaitsNodes, EndsWell}
 use Rattle.mb_cluster.specs.Runs.{Wire, AppendsFront, all_receives, AsksAll, SendsThenStops, IsBroken, IsCutOff, AsksNone, Asks, Opens}
 use Rattle.mb_cluster.specs.Missing.{MissesFew, SendsBut, EndsByStops, AwaitsBut, AwaitsEach}
 use Rattle.mb_cluster.specs.Steps.{AsksThese, Breaks, CutsOff, AsksOps}
 use Rattle.mb_cluster.specs.Plays.{PlaysNone, Plays}
+use Rattle.mb_cluster.specs.Order.{GoesInOrder, PlaysInOrder}
 use Rattle.mb_cluster.proofs.FewLemmas.{few_since}
 use Rattle.mb_cluster.proofs.EndLemmas.{started_none, started_as, some_none}
 use Rattle.mb_cluster.proofs.WireLemmas.{more_both, more_none}
@@ -327,6 +328,38 @@ module _ (c : Config) where
           few = few_since sends.some (posts (host_count c.shape) after.post.number (stops c.secret)) f g h sooner few;
           sent = more_both old.sent mid.sent new.sent front.0 sends.some front.1 sends.told;
         }
+
+    -- ---- the order
+
+    -- It is kept by the STOPs and the waits.
+    module _ (opens o1 o2 : Option (List (ℕ × ℕ))) (children : List ℕ) (s0 s1 s2 : Option (List (ℕ × Start))) (w0 w1 w2 : Option (List (ℕ × ℕ))) (q : Result (Unit {0}) Failed) (unopened : o2 ≡ o1) (stays : s2 ≡ s1) (unawaited : w1 ≡ w0)
+        (some : AwaitsSome children w1 w2) (sends : SendsSome (posts after.post.hosts after.post.number (stops c.secret)) q mid.sent new.sent) where
+      each_or_none : AreStarted c (host_count c.shape) children s0 s1 ⊎ PlaysNone before after old mid written written' → RunEach c (spawned s0 w1) (spawned s1 w2) ⊎ AsksNone c turns old new written written'
+      each_or_none (inl all) = inl (record { children = children; started = all; awaited = some })
+      each_or_none (inr none) = inr (none_asked q none sends)
+
+      pub stays_in_order : PlaysInOrder c before after opens o1 old mid written written' children s0 s1 → GoesInOrder c turns opens o2 old new written written' (spawned s0 w0) (spawned s2 w2)
+      stays_in_order plays = rw (stays, ← unawaited, unopened) (record { opened = plays.opened; started = each_or_none plays.started })
+
+  -- Nothing was begun.
+  pub in_order_at_once : (turns : ℕ) (opens : Option (List (ℕ × ℕ))) (at : Wire) (written : Option Bytes) (s : Option (List (ℕ × Start))) (w : Option (List (ℕ × ℕ))) → GoesInOrder c turns opens opens at at written written (spawned s w) (spawned s w)
+  in_order_at_once turns opens at written s w = record {
+    opened = inr (refl, refl);
+    started = inr (record { received = refl; stopped = []; some = tt; sent = more_none at.sent; kept = refl });
+  }
+
+  -- The link was not opened, so nothing else was done.
+  pub plays_in_no_order : (p : Program) (opens opens' : Option (List (ℕ × ℕ))) (old new : Wire) (written : Option Bytes) (children : List ℕ) (s : Option (List (ℕ × Start))) → new.received ≡ old.received → new.sent ≡ old.sent → opens' ≡ with_more opens []
+      → PlaysInOrder c p p opens opens' old new written written children s s
+  plays_in_no_order p opens opens' old new written children s kept unsent unopened = record {
+    opened = inr (unopened ∙ sym (more_none opens), refl);
+    started = inr (record { received = kept; sent = unsent; number = refl; kept = refl });
+  }
+
+  -- Not every node was started, so nothing was asked.
+  pub plays_unasked : (p : Program) (opens opens' : Option (List (ℕ × ℕ))) (old new : Wire) (written : Option Bytes) (children : List ℕ) (s s' : Option (List (ℕ × Start))) → new.received ≡ old.received → new.sent ≡ old.sent
+      → opens' ≡ with_more opens ((c.port, program) ∷ []) → PlaysInOrder c p p opens opens' old new written written children s s'
+  plays_unasked p opens opens' old new written children s s' kept unsent opened = record { opened = inl opened; started = inr (record { received = kept; sent = unsent; number = refl; kept = refl }) }
 
   -- ---- nodes
 

@@ -13,3 +13,4 @@ pub mod Listens
 pub mod Steps
 pub mod Writes
 pub mod Plays
+pub mod Order

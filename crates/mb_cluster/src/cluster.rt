@@ -10,6 +10,7 @@ ghost use Rattle.mb_cluster.specs.Ends.{EndsWell};
 ghost use Rattle.mb_cluster.specs.Runs.{OpsFit, Asks, Opens, wire};
 ghost use Rattle.mb_cluster.specs.Missing.{EndsByStops, AwaitsEach};
 ghost use Rattle.mb_cluster.specs.Plays.{Plays};
+ghost use Rattle.mb_cluster.specs.Order.{GoesInOrder, PlaysInOrder};
 
 use crate::asking::Program;
 use crate::nodes::{await_nodes, start_nodes};
@@ -42,6 +43,9 @@ pub fn run_cluster<K: Sink, L: Link, P: Spawner>(
     ensures opens { Opens config.now result (L.opens link.old) (L.opens link.new) }
     // The nodes, and how they end.
     ensures nodes { RunsNodes config.now result (spawned (P.starts spawner.old) (P.waits spawner.old)) (spawned (P.starts spawner.new) (P.waits spawner.new)) }
+    // No node is started before the link is open, and nothing asked before each node is started.
+    ensures order { GoesInOrder config.now turns (L.opens link.old) (L.opens link.new) (wire (L.received link.old) (L.sent link.old)) (wire (L.received link.new) (L.sent link.new)) (K.written sink.old) (K.written sink.new)
+        (spawned (P.starts spawner.old) (P.waits spawner.old)) (spawned (P.starts spawner.new) (P.waits spawner.new)) }
     ensures bad_ends { EndsAs result (P.bad_ends spawner.old) (P.bad_ends spawner.new) }
     ensures well { P.all_end_well spawner.old → EndsWell result }
     // Whatever the answer is: where any node was started no more STOPs are missing than the link failed, and no more waits for the nodes that were started
@@ -96,6 +100,8 @@ fn play<K: Sink, L: Link, P: Spawner>(
     ensures starts { StartsNodes config.now result children.new.items (P.starts spawner.old) (P.starts spawner.new) }
     ensures few { length children.new.items ≤ host_count config.now.shape }
     ensures first { AreStarted config.now (length children.new.items) children.new.items (P.starts spawner.old) (P.starts spawner.new) }
+    ensures order { PlaysInOrder config.now program.old program.new (L.opens link.old) (L.opens link.new) (wire (L.received link.old) (L.sent link.old)) (wire (L.received link.new) (L.sent link.new)) (K.written sink.old) (K.written sink.new)
+        children.new.items (P.starts spawner.old) (P.starts spawner.new) }
     ensures waits { P.waits spawner.new ≡ P.waits spawner.old }
     ensures bad_ends { P.bad_ends spawner.new ≡ P.bad_ends spawner.old }
     ensures well { P.all_end_well spawner.old → P.all_end_well spawner.new }

@@ -73,7 +73,8 @@ listed : (o : Option Bytes) (part : Bytes) → sha256 part ≡ unwrap_or o [] �
 listed (Some x) part e = ap (λ (y : Bytes). Some y) (sym e)
 listed None part e = let n = ap (λ (y : Bytes). length y) e in absurd (omega (arith, n, length-sha256 part))
 
-parts_certified : (digests parts : List Bytes) (first : ℕ) → wrong_part digests first parts ≡ None → (i : ℕ) (part : Bytes) → slice_get parts i ≡ Some part → slice_get digests (first + i) ≡ Some (sha256 part)
+-- So the parts that pass stand in the list, each at its place.
+pub parts_certified : (digests parts : List Bytes) (first : ℕ) → wrong_part digests first parts ≡ None → (i : ℕ) (part : Bytes) → slice_get parts i ≡ Some part → slice_get digests (first + i) ≡ Some (sha256 part)
 parts_certified digests parts first e i part there =
     let place : i ≡ (first + i) - first = omega arith in
     listed (slice_get digests (first + i)) part (part_digest digests parts first (first + i) part e (omega arith) (subst (λ (j : ℕ). slice_get parts j ≡ Some part) place there))

@@ -32,6 +32,7 @@ impl Reassembler {
     ghost use Rattle.std.specs.Prelude.{◌≡◌, ◌*◌, length, IfOk};
     ghost use Rattle.mb_frag.specs.Seen.{PieceFits, seen};
     ghost use Rattle.mb_frag.specs.Held.{IsWhole, nothing_held, with_piece, taken, push_of};
+    ghost use Rattle.mb_frag.specs.Stages.{IsSized};
 
     /// Holds nothing. All memory is taken here.
     pub fn make(alloc: Global) -> Result<Reassembler, NoMemory>
@@ -45,12 +46,15 @@ impl Reassembler {
 
     /// Takes a datagram. A piece with index 0 begins a message, and what was held is dropped. Any other piece is taken only where it is the next one of the message that is begun. A datagram that isn't taken changes nothing.
     ///
+    /// A message that is whole has 1 to 4,194,304 bytes.
+    ///
     /// The sender isn't looked at: there is one reassembler for each.
     #[tactic(auto, unfolding(crate::specs::Held::push_of))]
     pub fn push(&mut self, datagram: &[u8]) -> Pushed
         ensures answer { result ≡ (push_of self.old datagram.now).0 }
         ensures held { self.new ≡ (push_of self.old datagram.now).1 }
         ensures whole { result ≡ Pushed.Whole → IsWhole self.new }
+        ensures sized { result ≡ Pushed.Whole → IsSized self.new.bytes }
     {
         match Piece::read(datagram) {
             Ok(piece) => self.take(&piece),
@@ -70,6 +74,7 @@ impl Reassembler {
         requires { PieceFits piece.now }
         ensures answer { result ≡ (taken self.old (seen piece.now)).0 }
         ensures held { self.new ≡ (taken self.old (seen piece.now)).1 }
+        ensures sized { result ≡ Pushed.Whole → IsSized self.new.bytes }
     {
         if piece.header.index == 0 {
             self.clear();
@@ -91,11 +96,13 @@ impl Reassembler {
     }
 
     /// Puts a piece behind the bytes of those before it.
+    #[tactic(auto, using(crate::proofs::SizeLemmas::last_sized))]
     fn join(&mut self, piece: &Piece<'_>) -> Pushed
         requires piece { PieceFits piece.now }
         requires place { length self.old.bytes ≡ piece.now.header.index * PIECE }
         ensures answer { result ≡ (with_piece self.old.bytes (seen piece.now)).0 }
         ensures held { self.new ≡ (with_piece self.old.bytes (seen piece.now)).1 }
+        ensures sized { result ≡ Pushed.Whole → IsSized self.new.bytes }
     {
         self.bytes.extend_from_slice(piece.bytes).unwrap();
         let header = piece.header;

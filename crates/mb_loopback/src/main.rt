@@ -113,7 +113,7 @@ fn soak(rt: &HostRuntime) -> io::Result<()> {
 fn lonely_node(rt: &HostRuntime) -> io::Result<()> {
     let words = words_from(rt, &["node", "0", "40"])?;
     let config = fs::read(rt, CONFIG)?;
-    let mut spawner = ChildSpawner::new(rt, rt.alloc(), own_path(rt), NO_PROCESS);
+    let mut spawner = ChildSpawner::new(rt, rt.alloc(), own_path(rt), NO_PROCESS, &[]);
     let Ok(child) = spawner.start(&words, &config, "lonely.record") else {
         return Err(not_run());
     };

@@ -26,7 +26,6 @@ use Rattle.mb_msg.specs.declared.event.Step.{Step}
 use Rattle.mb_msg.specs.declared.event.Outcome.{Outcome}
 use Rattle.mb_msg.specs.declared.event.Outcome.TheVariants as outcome
 use Rattle.mb_msg.specs.Stamps.{ui_of}
-use Rattle.mb_msg.specs.Spelling.{kind_of}
 use Rattle.mb_msg.specs.Reading.{message_of}
 use Rattle.mb_model.specs.Histories.{History, Identity, LostPatience, Nudged, Accepted, gate, closed_at, here, view_of}
 use Rattle.mb_model.specs.Held.{view_limit, wish_of}
@@ -44,7 +43,7 @@ use Rattle.mb_model.specs.EnabledRules as rule
 use Rattle.mb_model.specs.CarriedOut.{placed_in, serve, serve_all, close_slot, at_interval, execute, carry_out, run_rules, enough}
 use Rattle.mb_model.specs.Given.{Answer, closing, offer_prepare, named_prepare, casts_vote, accept, give_stamped, give_request, give_wish, give_resend, give_fetch, give_state, install_where_all, jump, floor_shown, go_on, give_entries, give_log, give}
 use Rattle.mb_model.specs.HostStep.{on_patience, on_nudge, wish_again, with_fetch, low_rose, finished_where, on_message, on_bytes, transition, rules_follow, asks_on, is_taken}
-use Rattle.mb_model.proofs.Options.{option_cases, of_both, or_some}
+use Rattle.mb_model.proofs.Options.{option_cases, or_some}
 use Rattle.mb_steps.proofs.StepArises.{IsWhole}
 use Rattle.mb_steps.proofs.StepGivenArise.{give_arises}
 use Rattle.mb_model.proofs.ShapesFit.{shape_fits}

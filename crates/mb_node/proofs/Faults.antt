@@ -8,7 +8,8 @@ use Rattle.mb_edge.specs.declared.writing.WriteStop.TheVariants as writing
 use Rattle.mb_edge.specs.Faults.{HasCause, HasNoFault, Rose, TellsFaults}
 use Rattle.mb_node.specs.declared.stops.ServeStop.{ServeStop}
 use Rattle.mb_node.specs.declared.stops.ServeStop.TheVariants.{LinkFault, SinkFault, Budget}
-use Rattle.mb_node.specs.Stops.{link_stop, sink_stop}
+use Rattle.mb_node.specs.declared.stops.ServeStop.TheVariants as stop
+use Rattle.mb_node.specs.Stops.{link_stop, sink_stop, IsOfDisk, IsOfKeeping}
 
 -- The count never fell, and stayed at a device that is known not to fail.
 pub record Calm (before now : ℕ) (safe_before safe_now : Type 0) : Type 0 where
@@ -92,3 +93,26 @@ link_no_sink failed.NoMemory e r made is told = let same : e ≡ SinkFault = cc 
 pub sink_no_link : {Y : Type 0} (cause : WriteStop) (e : ServeStop) (r : Result Y ServeStop) → r ≡ Err e → e ≡ sink_stop cause → IsErrOf r LinkFault → ⊥
 sink_no_link writing.Fault e r made is told = let same : e ≡ LinkFault = cc in absurd cc
 sink_no_link writing.NoMemory e r made is told = let same : e ≡ LinkFault = cc in absurd cc
+
+-- keeping an event makes no receives
+pub keeping_no_budget : (e : ServeStop) (n : ℕ) → IsOfKeeping e → e ≡ Budget n → ⊥
+keeping_no_budget stop.LinkFault n of is = absurd of
+keeping_no_budget stop.SinkFault n of is = absurd of
+keeping_no_budget stop.DiskFault n of is = absurd cc
+keeping_no_budget (stop.Budget k) n of is = absurd of
+keeping_no_budget (stop.Full length) n of is = absurd cc
+keeping_no_budget stop.NoMemory n of is = absurd cc
+
+-- no stop of the link or the sink is one of the disk
+pub link_alone : (cause : Failed) → ¬ IsOfDisk (link_stop cause)
+link_alone failed.Device = λ of. of
+link_alone failed.NoMemory = λ of. of
+
+pub sink_alone : (cause : WriteStop) → ¬ IsOfDisk (sink_stop cause)
+sink_alone writing.Fault = λ of. of
+sink_alone writing.NoMemory = λ of. of
+
+-- no stop of the link is one of the sink
+pub link_unwritten : (cause : Failed) → ¬ (link_stop cause ≡ SinkFault)
+link_unwritten failed.Device = λ is. absurd cc
+link_unwritten failed.NoMemory = λ is. absurd cc

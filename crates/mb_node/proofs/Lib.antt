@@ -8,3 +8,8 @@ pub mod Turning
 pub mod Counting
 pub mod Lengths
 pub mod Rounding
+pub mod Kept
+pub mod KeptRounds
+pub mod Replayed
+pub mod OfBytes
+pub mod OfBytes

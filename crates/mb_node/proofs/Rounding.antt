@@ -26,10 +26,10 @@ use Rattle.mb_node.proofs.Runs.{next_events, same_quiets, cut_lost, cut_more, se
 
 module _ {V : Type 0} (is_state : V → Type 0) (after : V → Bytes → V) (result : V → Bytes → Bytes) (part : V → ℕ → Bytes) (restored : List Bytes → Result V (ℕ × ℕ)) (node : Node) (old : Replica V) (here mid : Outside) (told told_mid : Option Receives)
     (written : mid.written ≡ here.written) (sent : mid.sent ≡ here.sent) where
-  done_moved : (me : Identity V) (start : History) (o : Outside) (es : List Event) → AreDone me start o here es → AreDone me start o mid es
+  pub done_moved : (me : Identity V) (start : History) (o : Outside) (es : List Event) → AreDone me start o here es → AreDone me start o mid es
   done_moved me start o es done = record { written = rw written done.written; sent = sent ∙ done.sent }
 
-  serving_moved : (me : Identity V) (start : History) (o : Outside) (receives : Receives) → IsServing me start o receives here node old → IsServing me start o receives mid node old
+  pub serving_moved : (me : Identity V) (start : History) (o : Outside) (receives : Receives) → IsServing me start o receives here node old → IsServing me start o receives mid node old
   serving_moved me start o receives so_far = record {
     done = done_moved me start o (events me start receives) so_far.done;
     stands = so_far.stands;
@@ -42,11 +42,12 @@ module _ {V : Type 0} (is_state : V → Type 0) (after : V → Bytes → V) (res
 
   -- ---- the receive failed
 
-  pub round_lost : old.halted ≡ false → LosesOne told told_mid → IsStopped is_state after result part restored node old old told told_mid here mid
+  unfoldable pub round_lost : old.halted ≡ false → LosesOne told told_mid → IsStopped is_state after result part restored node old old told told_mid here mid
   round_lost runs lost = record {
     more = lost.more;
     told = lost.told;
     few = lost.few;
+    of_bytes = lost.of_bytes;
     cut = λ me start o receives serves so_far unstopped. cut_lost me start o mid old.halted receives lost.more runs lost.few (done_moved me start o (events me start receives) so_far.done) unstopped;
   }
 
@@ -54,7 +55,7 @@ module _ {V : Type 0} (is_state : V → Type 0) (after : V → Bytes → V) (res
 
   module _ (next : Receiver) (arrival : Arrival) (gives : GivesOne node.receiver next arrival told told_mid) (ev : Option Event)
       (ev_is : (me : Identity V) (d : History) → Represents me old d → ev ≡ event_of (wants me d) node.quiets arrival) where
-    events_now : (me : Identity V) (start : History) (o : Outside) (receives : Receives) → IsServing me start o receives here node old → events me start (gives.one ∷ receives) ≡ onto ev (events me start receives)
+    pub events_now : (me : Identity V) (start : History) (o : Outside) (receives : Receives) → IsServing me start o receives here node old → events me start (gives.one ∷ receives) ≡ onto ev (events me start receives)
     events_now me start o receives so_far =
         let d : History = left_by me start (events me start receives) in
         let arrives : arrival ≡ arrival_at me.shape receives gives.one = gives.is me.shape receives so_far.inbox in
@@ -63,10 +64,11 @@ module _ {V : Type 0} (is_state : V → Type 0) (after : V → Bytes → V) (res
         (sym (ev_is me d so_far.stands.represents ∙ ap (λ (n : ℕ). event_of (wants me d) n arrival) so_far.counted ∙ ap (event_of (wants me d) (quiets me start (events me start receives))) arrives))
 
     -- that is no event
-    pub round_quietly : (now : Node) → ev ≡ None → now.receiver ≡ next → now.quiets ≡ node.quiets → now.outbox ≡ node.outbox → GoesOn is_state after result part restored node now old old told told_mid here mid false
+    unfoldable pub round_quietly : (now : Node) → ev ≡ None → now.receiver ≡ next → now.quiets ≡ node.quiets → now.outbox ≡ node.outbox → GoesOn is_state after result part restored node now old old told told_mid here mid false
     round_quietly now none receiver counted outbox = record {
       one = gives.one;
       told = gives.told;
+      of_bytes = gives.of_bytes;
       goes = λ me start o receives serves so_far unstopped.
           let same : events me start (gives.one ∷ receives) ≡ events me start receives = events_now me start o receives so_far ∙ ap (λ (x : Option Event). onto x (events me start receives)) none in
           let has : HasReceived me.shape (gives.one ∷ receives) now.receiver.inbox = subst (λ (x : Receiver). HasReceived me.shape (gives.one ∷ receives) x.inbox) (sym receiver) (gives.has me.shape receives so_far.inbox) in
@@ -75,19 +77,20 @@ module _ {V : Type 0} (is_state : V → Type 0) (after : V → Bytes → V) (res
 
     -- its event
     module _ (e : Event) (some : ev ≡ Some e) (later : Replica V) (there : Outside) where
-      event_now : (me : Identity V) (start : History) (o : Outside) (receives : Receives) → IsServing me start o receives here node old → events me start (gives.one ∷ receives) ≡ e ∷ events me start receives
+      pub event_now : (me : Identity V) (start : History) (o : Outside) (receives : Receives) → IsServing me start o receives here node old → events me start (gives.one ∷ receives) ≡ e ∷ events me start receives
       event_now me start o receives so_far = events_now me start o receives so_far ∙ ap (λ (x : Option Event). onto x (events me start receives)) some
 
-      count_is : (me : Identity V) (d : History) → Represents me old d → quiets_of arrival ≡ quiets_in e
+      pub count_is : (me : Identity V) (d : History) → Represents me old d → quiets_of arrival ≡ quiets_in e
       count_is me d rep = same_quiets (wants me d) node.quiets arrival e (sym (ev_is me d rep) ∙ some)
 
       -- where it stopped on the way
-      pub round_cut : ((me : Identity V) (d : History) (n : ℕ) → Serves is_state after result part restored me → Represents me old d → IsWhole d → node.outbox.hosts ≡ host_count me.shape → node.outbox.host ≡ me.host → node.outbox.number ≡ n % 2 ^ 32 → IsCutOff me mid there later.halted n d e)
+      unfoldable pub round_cut : ((me : Identity V) (d : History) (n : ℕ) → Serves is_state after result part restored me → Represents me old d → IsWhole d → node.outbox.hosts ≡ host_count me.shape → node.outbox.host ≡ me.host → node.outbox.number ≡ n % 2 ^ 32 → IsCutOff me mid there later.halted n d e)
           → IsStopped is_state after result part restored node old later told told_mid here there
       round_cut cut = record {
         more = gives.one ∷ [];
         told = gives.told;
         few = omega arith;
+        of_bytes = (gives.of_bytes, tt);
         cut = λ me start o receives serves so_far unstopped.
             let es : List Event = events me start receives in
             subst (AreCutOff me start o there later.halted) (sym (event_now me start o receives so_far))
@@ -96,13 +99,14 @@ module _ {V : Type 0} (is_state : V → Type 0) (after : V → Bytes → V) (res
       }
 
       -- where it is whole
-      pub round_turned : (now : Node) (t : Turn) (stopped : Bool) → t.stops ≡ stopped → later.halted ≡ false → now.receiver ≡ next → now.quiets ≡ (if t.settles then 0 else node.quiets + quiets_of arrival)
+      unfoldable pub round_turned : (now : Node) (t : Turn) (stopped : Bool) → t.stops ≡ stopped → later.halted ≡ false → now.receiver ≡ next → now.quiets ≡ (if t.settles then 0 else node.quiets + quiets_of arrival)
           → now.outbox.hosts ≡ node.outbox.hosts → now.outbox.host ≡ node.outbox.host
           → ((me : Identity V) (d : History) (n : ℕ) → Serves is_state after result part restored me → Represents me old d → IsWhole d → node.outbox.hosts ≡ host_count me.shape → node.outbox.host ≡ me.host → node.outbox.number ≡ n % 2 ^ 32 → HasTurned me d n e mid there later now.outbox t)
           → GoesOn is_state after result part restored node now old later told told_mid here there stopped
       round_turned now t stopped stopping runs receiver counted hosts host turned = record {
         one = gives.one;
         told = gives.told;
+        of_bytes = gives.of_bytes;
         goes = λ me start o receives serves so_far unstopped. either me start o receives serves so_far unstopped stopped stopping;
       } where
         either : (me : Identity V) (start : History) (o : Outside) (receives : Receives) → Serves is_state after result part restored me → IsServing me start o receives here node old → has_stop me start (events me start receives) ≡ false

@@ -3,7 +3,7 @@ use Rattle.std.proofs.Common.{◌≡◌, ℕ, ◌+◌, ◌≤◌, Bool, true, fa
 use Rattle.std.specs.Prelude.{◌%◌, ◌^◌, ◌==◌, ◌&&◌, ◌||◌, if◌then◌else◌, Result}
 use Rattle.std.specs.Io.KnownBytes.{Appends}
 use Rattle.std.proofs.lemmas.Bool.{false≢true}
-use Rattle.std.specs.List.{flat_map}
+use Rattle.std.specs.List.{flat_map, AllByRecursion}
 use Rattle.std.proofs.lemmas.List.{reverse-append}
 use Rattle.std.proofs.lemmas.List.Concat.{flat_map-append}
 use Rattle.mb_base.specs.Shapes.{Bytes, host_count}
@@ -13,6 +13,7 @@ use Rattle.mb_model.specs.Histories.{History, Identity, onto}
 use Rattle.mb_steps.proofs.StepArises.{IsWhole}
 use Rattle.mb_sched.specs.declared.records.Entry.{Entry}
 use Rattle.mb_sched.specs.Records.{entry_text}
+use Rattle.mb_theory.proofs.Lists.{all_append}
 use Rattle.mb_edge.specs.Told.{with_more}
 use Rattle.mb_edge.proofs.PieceLemmas.{appended_both}
 use Rattle.mb_edge.proofs.ToldLemmas.{with_more-nil, with_more-append}
@@ -27,7 +28,7 @@ use Rattle.mb_node.specs.declared.receiving.Arrival.TheVariants as arrival
 use Rattle.mb_node.specs.declared.stops.ServeStop.{ServeStop}
 use Rattle.mb_node.specs.declared.stops.ServeStop.TheVariants as stop
 use Rattle.mb_node.specs.declared.turn.Turn.{Turn}
-use Rattle.mb_node.specs.Receives.{Receives, made_whole}
+use Rattle.mb_node.specs.Receives.{Receives, ReceiveFits, made_whole}
 use Rattle.mb_node.specs.Inboxes.{HasReceived, arrival_of, arrival_at}
 use Rattle.mb_node.specs.Events.{left_by, quiets, quiets_in, settles, stops, has_stop, events, given_to}
 use Rattle.mb_node.specs.Recording.{end_line, entry_at, lines_at, entries_of, lines_of, sent_at, sent_of}
@@ -97,7 +98,7 @@ module _ {V : Type 0} (me : Identity V) (start : History) where
 
   -- ---- what one event more adds
 
-  sends_more : (es : List Event) (e : Event) → datagrams_of me start (e ∷ es) ≡ datagrams_of me start es ++ datagrams_at me (length (sent_of me start es)) (left_by me start es) e
+  pub sends_more : (es : List Event) (e : Event) → datagrams_of me start (e ∷ es) ≡ datagrams_of me start es ++ datagrams_at me (length (sent_of me start es)) (left_by me start es) e
   unfolding sent_of
   sends_more es e =
       numbered_both (host_count me.shape) me.host 0 (sent_of me start es) (sent_at me (left_by me start es) e)
@@ -259,15 +260,17 @@ module _ {V : Type 0} (is_state : V → Type 0) (after : V → Bytes → V) (res
     pub receives : Receives
     pub told_is : told_now ≡ with_more told (reverse receives)
     pub counted : length receives ≡ count
+    pub of_bytes : AllByRecursion ReceiveFits receives
     pub stands : (me : Identity V) (d : History) → Serves is_state after result part restored me → Represents me old d → IsWhole d → IsServing me d before receives here node now × (has_stop me d (events me d receives) ≡ false)
 
-  pub so_far_none : (node : Node) → old.halted ≡ false → ((me : Identity V) (d : History) → Represents me old d → HasReceived me.shape [] node.receiver.inbox)
+  unfoldable pub so_far_none : (node : Node) → old.halted ≡ false → ((me : Identity V) (d : History) → Represents me old d → HasReceived me.shape [] node.receiver.inbox)
       → ((me : Identity V) (d : History) → Represents me old d → node.outbox ≡ record { host = me.host; hosts = host_count me.shape; number = 0 }) → node.quiets ≡ 0 → SoFar old told before node 0
   unfolding left_by events quiets sent_of
   so_far_none node runs inbox outbox none = record {
     receives = [];
     told_is = sym (with_more-nil told);
     counted = refl;
+    of_bytes = tt;
     stands = λ me d serves rep whole. (
       record {
         done = done_none me d before;
@@ -283,37 +286,41 @@ module _ {V : Type 0} (is_state : V → Type 0) (after : V → Bytes → V) (res
   }
 
   -- memory ran out before the first receive
-  pub ends_unbegun : (budget : ℕ) → HasServed is_state after result part restored old old budget told told before before (Err stop.NoMemory)
+  unfoldable pub ends_unbegun : (budget : ℕ) → HasServed is_state after result part restored old old budget told told before before (Err stop.NoMemory)
   unfolding events
   ends_unbegun budget = record {
     receives = [];
     told = sym (with_more-nil told);
+    of_bytes = tt;
     ends = λ me d serves rep whole. (done_none me d before, omega arith);
   }
 
   module _ (mid now : Replica V) (told_mid told_now : Option Receives) (here there : Outside) (node later : Node) (count : ℕ) (so_far : SoFar mid told_mid here node count) where
-    pub so_far_more : GoesOn is_state after result part restored node later mid now told_mid told_now here there false → SoFar now told_now there later (count + 1)
+    unfoldable pub so_far_more : GoesOn is_state after result part restored node later mid now told_mid told_now here there false → SoFar now told_now there later (count + 1)
     so_far_more on = record {
       receives = on.one ∷ so_far.receives;
       told_is = told_more told told_mid told_now so_far.receives (on.one ∷ []) so_far.told_is on.told;
       counted = omega (arith, so_far.counted);
+      of_bytes = (on.of_bytes, so_far.of_bytes);
       stands = λ me d serves rep whole. let x = so_far.stands me d serves rep whole in on.goes me d before so_far.receives serves x.0 x.1;
     }
 
-    pub ends_by_stop : (budget : ℕ) → count + 1 ≤ budget → GoesOn is_state after result part restored node later mid now told_mid told_now here there true → HasServed is_state after result part restored old now budget told told_now before there (Ok tt)
+    unfoldable pub ends_by_stop : (budget : ℕ) → count + 1 ≤ budget → GoesOn is_state after result part restored node later mid now told_mid told_now here there true → HasServed is_state after result part restored old now budget told told_now before there (Ok tt)
     ends_by_stop budget within on = record {
       receives = on.one ∷ so_far.receives;
       told = told_more told told_mid told_now so_far.receives (on.one ∷ []) so_far.told_is on.told;
+      of_bytes = (on.of_bytes, so_far.of_bytes);
       ends = λ me d serves rep whole.
           let x = so_far.stands me d serves rep whole in
           let y = on.goes me d before so_far.receives serves x.0 x.1 in
           (y.0, y.1, y.2, omega (arith, so_far.counted, within));
     }
 
-    pub ends_cut : (budget : ℕ) (e : ServeStop) → ((n : ℕ) → e ≡ stop.Budget n → ⊥) → count + 1 ≤ budget → IsStopped is_state after result part restored node mid now told_mid told_now here there → HasServed is_state after result part restored old now budget told told_now before there (Err e)
+    unfoldable pub ends_cut : (budget : ℕ) (e : ServeStop) → ((n : ℕ) → e ≡ stop.Budget n → ⊥) → count + 1 ≤ budget → IsStopped is_state after result part restored node mid now told_mid told_now here there → HasServed is_state after result part restored old now budget told told_now before there (Err e)
     ends_cut budget e other within is = record {
       receives = is.more ++ so_far.receives;
       told = told_more told told_mid told_now so_far.receives is.more so_far.told_is (is.told ∙ ap (with_more told_mid) (few_reversed is.more is.few));
+      of_bytes = all_append ReceiveFits is.more so_far.receives is.of_bytes so_far.of_bytes;
       ends = λ me d serves rep whole. let x = so_far.stands me d serves rep whole in by_error e other me d (is.cut me d before so_far.receives serves x.0 x.1);
     } where
       short : length (is.more ++ so_far.receives) ≤ budget
@@ -325,11 +332,14 @@ module _ {V : Type 0} (is_state : V → Type 0) (after : V → Bytes → V) (res
       by_error stop.SinkFault never me d cut = (cut, short)
       by_error (stop.Budget n) never me d cut = absurd (never n refl)
       by_error stop.NoMemory never me d cut = (cut, short)
+      by_error stop.DiskFault never me d cut = (cut, short)
+      by_error (stop.Full length) never me d cut = (cut, short)
 
-  pub ends_by_budget : (now : Replica V) (told_now : Option Receives) (here : Outside) (node : Node) (budget : ℕ) → SoFar now told_now here node budget → HasServed is_state after result part restored old now budget told told_now before here (Err (stop.Budget budget))
+  unfoldable pub ends_by_budget : (now : Replica V) (told_now : Option Receives) (here : Outside) (node : Node) (budget : ℕ) → SoFar now told_now here node budget → HasServed is_state after result part restored old now budget told told_now before here (Err (stop.Budget budget))
   ends_by_budget now told_now here node budget so_far = record {
     receives = so_far.receives;
     told = so_far.told_is;
+    of_bytes = so_far.of_bytes;
     ends = λ me d serves rep whole. let x = so_far.stands me d serves rep whole in (x.0.done, x.1, x.0.stands, refl, so_far.counted);
   }
 
@@ -340,6 +350,8 @@ round_stopped is_state after result part restored old now r_old r_now told_befor
 round_stopped is_state after result part restored old now r_old r_now told_before told_now here there stop.SinkFault is = (λ n e. absurd cc, is)
 round_stopped is_state after result part restored old now r_old r_now told_before told_now here there (stop.Budget n) is = absurd is
 round_stopped is_state after result part restored old now r_old r_now told_before told_now here there stop.NoMemory is = (λ n e. absurd cc, is)
+round_stopped is_state after result part restored old now r_old r_now told_before told_now here there stop.DiskFault is = (λ n e. absurd cc, is)
+round_stopped is_state after result part restored old now r_old r_now told_before told_now here there (stop.Full length) is = (λ n e. absurd cc, is)
 
 pub stopped_round : {V : Type 0} (is_state : V → Type 0) (after : V → Bytes → V) (result : V → Bytes → Bytes) (part : V → ℕ → Bytes) (restored : List Bytes → Result V (ℕ × ℕ)) (old now : Node) (r_old r_now : Replica V) (told_before told_now : Option Receives) (here there : Outside) (ended : Result Bool ServeStop) (e : ServeStop)
     → ended ≡ Err e → ((n : ℕ) → e ≡ stop.Budget n → ⊥) → IsStopped is_state after result part restored old r_old r_now told_before told_now here there → Rounds is_state after result part restored old now r_old r_now told_before told_now here there ended
@@ -349,6 +361,8 @@ stopped_round is_state after result part restored old now r_old r_now told_befor
   by_stop stop.SinkFault never = stopped
   by_stop (stop.Budget n) never = absurd (never n refl)
   by_stop stop.NoMemory never = stopped
+  by_stop stop.DiskFault never = stopped
+  by_stop (stop.Full length) never = stopped
 
 -- a turn that stopped
 pub turn_stopped : {V : Type 0} (me : Identity V) (d : History) (number : ℕ) (e : Event) (here there : Outside) (r : Replica V) (outbox : Outbox) (s : ServeStop) → Turned me d number e here there r outbox (Err s) → ((n : ℕ) → s ≡ stop.Budget n → ⊥) × IsCutOff me here there r.halted number d e
@@ -356,3 +370,5 @@ turn_stopped me d number e here there r outbox stop.LinkFault is = (λ n x. absu
 turn_stopped me d number e here there r outbox stop.SinkFault is = (λ n x. absurd cc, is)
 turn_stopped me d number e here there r outbox (stop.Budget n) is = absurd is
 turn_stopped me d number e here there r outbox stop.NoMemory is = (λ n x. absurd cc, is)
+turn_stopped me d number e here there r outbox stop.DiskFault is = (λ n x. absurd cc, is)
+turn_stopped me d number e here there r outbox (stop.Full length) is = (λ n x. absurd cc, is)

@@ -106,3 +106,5 @@ turned_err me d n e here there r outbox result s is other cut = rw is (by_stop s
   by_stop stop.SinkFault never = cut
   by_stop (stop.Budget k) never = absurd (never k refl)
   by_stop stop.NoMemory never = cut
+  by_stop stop.DiskFault never = cut
+  by_stop (stop.Full length) never = cut

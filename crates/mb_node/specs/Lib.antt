@@ -11,3 +11,5 @@ pub mod Retracing
 pub mod Messages
 pub mod Inboxes
 pub mod Receiving
+pub mod Keeping
+pub mod Replaying

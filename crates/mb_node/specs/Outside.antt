@@ -1,5 +1,5 @@
 -- What was written and sent.
-use Rattle.std.specs.Prelude.{◌≡◌, ◌≢◌, ℕ, List, [], ◌++◌, Option, Result, Ok, Err}
+use Rattle.std.specs.Prelude.{◌≡◌, ◌≢◌, List, [], ◌++◌, Option, Result, Ok, Err}
 use Rattle.std.specs.Io.KnownBytes.{Appends}
 use Rattle.mb_base.specs.Shapes.{Bytes}
 use Rattle.mb_edge.specs.Told.{with_more}

@@ -1,6 +1,7 @@
 -- What receives mean: which messages they make whole, with one reassembler for each sender.
 use Rattle.std.specs.Prelude.{ℕ, Bool, false, ◌||◌, List, [], ◌∷◌, nat_lt, ◌==◌, if◌then◌else◌, Option, Some, None}
 use Rattle.mb_base.specs.Shapes.{Bytes, host_count}
+use Rattle.mb_base.specs.Spelling.{IsBytes}
 use Rattle.mb_base.specs.declared.shape.Shape.{Shape}
 use Rattle.mb_frag.specs.declared.pushed.Pushed.TheVariants.{Whole}
 use Rattle.mb_frag.specs.Held.{Held, Step, nothing_held, push_of}
@@ -8,6 +9,11 @@ use Rattle.mb_frag.specs.Held.{Held, Step, nothing_held, push_of}
 -- what was received, newest first: datagrams, and none where it was quiet
 abbrev pub Receives : Type 0
 Receives = List (Option Bytes)
+
+-- a datagram is of bytes
+abbrev pub ReceiveFits : Option Bytes → Type 0
+ReceiveFits None = Unit {0}
+ReceiveFits (Some datagram) = IsBytes datagram
 
 -- the number of the client program, as a sender and as a peer
 abbrev pub client_peer : ℕ

@@ -1,5 +1,6 @@
 -- A node between two receives, and what one receive leads to.
 use Rattle.std.specs.Prelude.{◌≡◌, ℕ, ◌+◌, ◌%◌, ◌^◌, ◌≤◌, ◌==◌, ◌&&◌, ◌++◌, Bool, true, false, [], ◌∷◌, List, length, if◌then◌else◌, Option, Some, None, Result, Ok, Err}
+use Rattle.std.specs.List.{AllByRecursion}
 use Rattle.mb_base.specs.Shapes.{Bytes, host_count}
 use Rattle.mb_msg.specs.declared.event.Event.{Event}
 use Rattle.mb_msg.specs.declared.event.Event.TheVariants as event
@@ -12,7 +13,7 @@ use Rattle.mb_node.specs.declared.receiving.Arrival.{Arrival}
 use Rattle.mb_node.specs.declared.receiving.Arrival.TheVariants as arrival
 use Rattle.mb_node.specs.declared.stops.ServeStop.{ServeStop}
 use Rattle.mb_node.specs.declared.stops.ServeStop.TheVariants as stop
-use Rattle.mb_node.specs.Receives.{Receives}
+use Rattle.mb_node.specs.Receives.{Receives, ReceiveFits}
 use Rattle.mb_node.specs.Inboxes.{HasReceived}
 use Rattle.mb_node.specs.Events.{patience_limit, quiets, has_stop, events}
 use Rattle.mb_node.specs.Recording.{sent_of}
@@ -50,6 +51,7 @@ module _ {V : Type 0} where
   pub record GoesOn (is_state : V → Type 0) (after : V → Bytes → V) (result : V → Bytes → Bytes) (part : V → ℕ → Bytes) (restored : List Bytes → Result V (ℕ × ℕ)) (old now : Node) (r_old r_now : Replica V) (told_before told_now : Option Receives) (here there : Outside) (stopped : Bool) : Type 0 where
     pub one : Option Bytes
     pub told : told_now ≡ with_more told_before (one ∷ [])
+    pub of_bytes : ReceiveFits one
     pub goes : (me : Identity V) (start : History) (before : Outside) (receives : Receives) → Serves is_state after result part restored me → IsServing me start before receives here old r_old → has_stop me start (events me start receives) ≡ false
         → Goes me start before (one ∷ receives) there now r_now stopped
 
@@ -58,6 +60,7 @@ module _ {V : Type 0} where
     pub more : Receives
     pub told : told_now ≡ with_more told_before more
     pub few : length more ≤ 1
+    pub of_bytes : AllByRecursion ReceiveFits more
     pub cut : (me : Identity V) (start : History) (before : Outside) (receives : Receives) → Serves is_state after result part restored me → IsServing me start before receives here old r_old → has_stop me start (events me start receives) ≡ false
         → AreCutOff me start before there r_now.halted (events me start (more ++ receives))
 

@@ -1,5 +1,6 @@
 -- What a serving node does, as its link and its sink tell it.
 use Rattle.std.specs.Prelude.{◌≡◌, ℕ, ◌≤◌, Bool, true, false, List, [], ◌∷◌, ◌++◌, length, reverse, Option, Result, Ok, Err}
+use Rattle.std.specs.List.{AllByRecursion}
 use Rattle.mb_base.specs.Shapes.{Bytes, host_count}
 use Rattle.mb_msg.specs.declared.event.Event.{Event}
 use Rattle.mb_model.specs.Histories.{History, Identity}
@@ -10,7 +11,7 @@ use Rattle.mb_core.specs.Represents.{Represents}
 use Rattle.mb_replica.specs.Represents.{Serves}
 use Rattle.mb_node.specs.declared.stops.ServeStop.{ServeStop}
 use Rattle.mb_node.specs.declared.stops.ServeStop.TheVariants as stop
-use Rattle.mb_node.specs.Receives.{Receives}
+use Rattle.mb_node.specs.Receives.{Receives, ReceiveFits}
 use Rattle.mb_node.specs.Events.{left_by, has_stop, events}
 use Rattle.mb_node.specs.Recording.{lines_at, lines_of, sent_at, sent_of}
 use Rattle.mb_node.specs.Sends.{Sends, numbered}
@@ -82,4 +83,5 @@ module _ {V : Type 0} where
   pub record HasServed (is_state : V → Type 0) (after : V → Bytes → V) (result : V → Bytes → Bytes) (part : V → ℕ → Bytes) (restored : List Bytes → Result V (ℕ × ℕ)) (old new : Replica V) (budget : ℕ) (told_before told_now : Option Receives) (before now : Outside) (ended : Result (Unit {0}) ServeStop) : Type 0 where
     pub receives : Receives
     pub told : told_now ≡ with_more told_before (reverse receives)
+    pub of_bytes : AllByRecursion ReceiveFits receives
     pub ends : (me : Identity V) (d : History) → Serves is_state after result part restored me → Represents me old d → IsWhole d → Ends me d budget before now new receives ended

@@ -59,6 +59,19 @@ pub(crate) fn sent_digest(sent: &[Sent]) -> Digest
     hasher.finalize()
 }
 
+/// The entry of an event that sends these messages.
+pub(crate) fn entry_of(event: Event, sent: &[Sent]) -> Entry
+    requires messages { AreMessages sent.now }
+    requires few { length sent.now < 2 ^ 32 }
+    ensures { result ≡ entry_with event sent.now }
+{
+    Entry {
+        event,
+        count: sent.len() as u32,
+        digest: sent_digest(sent),
+    }
+}
+
 /// The two lines of an event, and `end` behind those of a right STOP.
 pub(crate) fn lines(
     alloc: Global,
@@ -70,11 +83,7 @@ pub(crate) fn lines(
     requires few { length sent.now < 2 ^ 32 }
     ensures { IfOk result (λ text. text.items ≡ lines_with (entry_with event sent.now) ends) }
 {
-    let entry = Entry {
-        event,
-        count: sent.len() as u32,
-        digest: sent_digest(sent),
-    };
+    let entry = entry_of(event, sent);
     let mut text = print_entry(alloc, &entry)?;
     if ends {
         text.extend_from_slice(b"end\n")?;

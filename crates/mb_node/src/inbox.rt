@@ -15,8 +15,10 @@ pub(crate) struct Inbox {
 }
 
 impl Inbox {
-    ghost use Rattle.std.specs.Prelude.{◌∷◌, ◌≡◌, [], Some, IfOk};
+    ghost use Rattle.std.specs.Prelude.{◌∷◌, ◌≡◌, [], Some, IfOk, IfSome};
     ghost use Rattle.mb_base.specs.declared.shape.Shape.{Shape as ShapeRecord};
+    ghost use Rattle.mb_base.specs.Spelling.{IsBytes};
+    ghost use Rattle.mb_frag.specs.Stages.{IsSized};
     ghost use Rattle.mb_node.specs.Receives.{Receives, made_whole};
     ghost use Rattle.mb_node.specs.Inboxes.{HasReceived};
 
@@ -40,8 +42,10 @@ impl Inbox {
         alloc: Global,
         datagram: &[u8],
     ) -> Result<Option<Items<u8>>, NoMemory>
-        ensures { (s : ShapeRecord) (before : Receives) → HasReceived s before self.old
+        ensures message { (s : ShapeRecord) (before : Receives) → HasReceived s before self.old
             → IfOk result (λ message. (message ≡ made_whole s before datagram.now) × HasReceived s (Some datagram.now ∷ before) self.new) }
+        ensures fits { IfOk result (λ message. IfSome message IsSized) }
+        ensures of_bytes { IsBytes datagram.now }
     {
         match datagram.first() {
             None => Ok(None),
@@ -54,8 +58,9 @@ impl Inbox {
     }
 }
 
-ghost use Rattle.std.specs.Prelude.{◌≡◌, IfOk};
+ghost use Rattle.std.specs.Prelude.{◌≡◌, IfOk, IfSome};
 ghost use Rattle.mb_frag.specs.Held.{push_of};
+ghost use Rattle.mb_frag.specs.Stages.{IsSized};
 ghost use Rattle.mb_node.specs.Receives.{whole_message};
 
 /// Pushes a datagram, and gives the message that it makes whole.
@@ -66,6 +71,7 @@ fn push(
 ) -> Result<Option<Items<u8>>, NoMemory>
     ensures message { IfOk result (λ message. message ≡ whole_message (push_of joiner.old datagram.now)) }
     ensures held { joiner.new ≡ (push_of joiner.old datagram.now).1 }
+    ensures fits { IfOk result (λ message. IfSome message IsSized) }
 {
     match joiner.push(datagram) {
         Pushed::Whole => {

@@ -1,22 +1,28 @@
 //! A node between two receives, and one receive of it with what follows.
 
-ghost use Rattle.std.specs.Prelude.{◌≡◌, ◌≤◌, ◌<◌, ◌+◌, ◌-◌, ◌^◌, false, [], IfOk, OnOk, IsErrOf};
+ghost use Rattle.std.specs.Prelude.{◌≡◌, ◌≤◌, ◌<◌, ◌+◌, ◌-◌, ◌^◌, false, [], IfOk, IfErr, IfSome, OnOk, IsErrOf};
 ghost use Rattle.mb_base.specs.Shapes.{host_count};
 ghost use Rattle.mb_core.specs.Represents.{IsAtRest};
 ghost use Rattle.mb_node.specs.Inboxes.{HasReceived};
 ghost use Rattle.mb_edge.specs.Faults.{TellsFaults};
 ghost use Rattle.mb_node.specs.Rounds.{Rounds, event_of, quiets_of};
+ghost use Rattle.mb_node.specs.Keeping.{KeptRounds};
+ghost use Rattle.mb_node.specs.Receiving.{ArrivalFits};
+ghost use Rattle.mb_journal.specs.Files.{EventFits};
+ghost use Rattle.mb_node.specs.Stops.{IsOfDisk};
 ghost use Rattle.mb_model.specs.Histories.{Identity, History};
 ghost use Rattle.mb_core.specs.Represents.{Represents};
 ghost use Rattle.mb_replica.specs.Waiting.{wants};
 
+use crate::keeping::keep;
 use crate::outbox::Outbox;
 use crate::receiving::{Arrival, Receiver};
 use crate::stops::ServeStop;
 use crate::turn::take_turn;
 use mb_base::{Host, NoMemory, Shape};
 use mb_core::Replica;
-use mb_edge::{Link, Sink};
+use mb_edge::{Disk, Link, Sink};
+use mb_journal::Journal;
 use mb_msg::Event;
 use mb_service::Service;
 use std::alloc::Global;
@@ -64,6 +70,7 @@ impl Node {
         requires rests { IsAtRest V.is_state V.after V.answer V.part_of V.restored replica.old }
         ensures rounds { Rounds V.is_state V.after V.answer V.part_of V.restored self.old self.new replica.old replica.new (L.received link.old) (L.received link.new)
             (record { written = K.written out.old; sent = L.sent link.old }) (record { written = K.written out.new; sent = L.sent link.new }) result }
+        ensures alone { IfErr result (λ s. ¬ IsOfDisk s) }
         ensures few { self.new.quiets ≤ self.old.quiets + 1 }
         ensures runs { OnOk result (replica.new.halted ≡ false) }
         ensures rests { replica.new.halted ≡ false → IsAtRest V.is_state V.after V.answer V.part_of V.restored replica.new }
@@ -82,6 +89,43 @@ impl Node {
         Ok(turn.stops)
     }
 
+    /// One receive, whose event is kept in a journal before its step. Whether that was a right STOP.
+    pub(crate) fn kept_round<V: Service + Drop, K: Sink, L: Link, D: Disk>(
+        &mut self,
+        alloc: Global,
+        replica: &mut Replica<V>,
+        journal: &mut Journal,
+        disk: &mut D,
+        link: &mut L,
+        out: &mut K,
+    ) -> Result<bool, ServeStop>
+        requires few { self.old.quiets < 2 ^ 64 - 1 }
+        requires runs { replica.old.halted ≡ false }
+        requires rests { IsAtRest V.is_state V.after V.answer V.part_of V.restored replica.old }
+        requires keeps { journal.old.halted ≡ false }
+        ensures rounds { KeptRounds V.is_state V.after V.answer V.part_of V.restored self.old self.new replica.old replica.new journal.old journal.new (D.moments disk.old) (D.moments disk.new)
+            (L.received link.old) (L.received link.new) (record { written = K.written out.old; sent = L.sent link.old }) (record { written = K.written out.new; sent = L.sent link.new }) result }
+        ensures few { self.new.quiets ≤ self.old.quiets + 1 }
+        ensures runs { OnOk result (replica.new.halted ≡ false) }
+        ensures rests { replica.new.halted ≡ false → IsAtRest V.is_state V.after V.answer V.part_of V.restored replica.new }
+        ensures keeps { OnOk result (journal.new.halted ≡ false) }
+        ensures opens { L.opens link.new ≡ L.opens link.old }
+        ensures link { TellsFaults (L.never_fails link.old) (L.never_fails link.new) (L.faults link.old) (L.faults link.new) (IsErrOf result ServeStop.LinkFault) }
+        ensures sink { TellsFaults (K.never_fails out.old) (K.never_fails out.new) (K.faults out.old) (K.faults out.new) (IsErrOf result ServeStop.SinkFault) }
+        ensures disk { TellsFaults (D.never_fails disk.old) (D.never_fails disk.new) (D.faults disk.old) (D.faults disk.new) (IsErrOf result ServeStop.DiskFault) }
+    {
+        let arrived = self.receiver.receive(alloc, link)?;
+        let Some(event) = self.event_of(replica, arrived) else {
+            return Ok(false);
+        };
+        keep(journal, disk, &event)?;
+        let turn = take_turn(alloc, replica, link, out, &mut self.outbox, event)?;
+        if turn.settles {
+            self.quiets = 0;
+        }
+        Ok(turn.stops)
+    }
+
     /// The event of what arrived. A quiet counts.
     fn event_of<V: Service + Drop>(
         &mut self,
@@ -91,6 +135,7 @@ impl Node {
         requires { self.old.quiets < 2 ^ 64 - 1 }
         ensures event { (me : Identity V) (d : History) → Represents me replica.now d → result ≡ event_of (wants me d) self.old.quiets arrival }
         ensures counts { self.new ≡ record self.old { quiets = self.old.quiets + quiets_of arrival } }
+        ensures fits { ArrivalFits arrival → IfSome result EventFits }
     {
         match arrival {
             Arrival::Message(message) => Some(Event::Given(message)),

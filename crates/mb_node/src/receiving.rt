@@ -31,7 +31,7 @@ impl Receiver {
     ghost use Rattle.std.specs.Prelude.{◌≡◌, [], IfOk, IsErrOf};
     ghost use Rattle.mb_node.specs.Inboxes.{HasReceived};
     ghost use Rattle.mb_edge.specs.Faults.{TellsFaults};
-    ghost use Rattle.mb_node.specs.Receiving.{Gives};
+    ghost use Rattle.mb_node.specs.Receiving.{Gives, ArrivalFits};
 
     /// Nothing was received yet.
     pub(crate) fn make(alloc: Global, shape: Shape) -> Result<Receiver, NoMemory>
@@ -50,6 +50,7 @@ impl Receiver {
         link: &mut L,
     ) -> Result<Arrival, Failed>
         ensures gives { Gives self.old self.new result (L.received link.old) (L.received link.new) }
+        ensures fits { IfOk result ArrivalFits }
         ensures sent { L.sent link.new ≡ L.sent link.old }
         ensures opens { L.opens link.new ≡ L.opens link.old }
         ensures link { TellsFaults (L.never_fails link.old) (L.never_fails link.new) (L.faults link.old) (L.faults link.new) (IsErrOf result Failed.Device) }

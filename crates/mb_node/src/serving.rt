@@ -1,14 +1,17 @@
 //! The serving loop.
 
-ghost use Rattle.std.specs.Prelude.{◌≡◌, ◌≤◌, false, IsErrOf, OnOk};
+ghost use Rattle.std.specs.Prelude.{◌≡◌, ◌≤◌, false, IfErr, IsErrOf, OnOk};
 ghost use Rattle.mb_core.specs.Represents.{IsAtRest};
 ghost use Rattle.mb_edge.specs.Faults.{TellsFaults};
 ghost use Rattle.mb_node.specs.Serving.{HasServed};
+ghost use Rattle.mb_node.specs.Keeping.{HasServedKept};
+ghost use Rattle.mb_node.specs.Stops.{IsOfDisk};
 
 use crate::node::Node;
 use crate::stops::ServeStop;
 use mb_core::Replica;
-use mb_edge::{Link, Sink};
+use mb_edge::{Disk, Link, Sink};
+use mb_journal::Journal;
 use mb_service::Service;
 use std::alloc::Global;
 
@@ -18,7 +21,7 @@ use std::alloc::Global;
 /// nothing, it loses patience where it wants something, and every other quiet is a nudge. After each step the record's two lines are written to
 /// `out`, behind those of a right STOP also `end`, and then the messages are sent, the pieces of each under one number, from 0 on. `Ok` comes
 /// exactly at a right STOP; `Budget` where that many receives were made and none brought one; `LinkFault` and `SinkFault` only where that count
-/// of faults rose.
+/// of faults rose. `DiskFault` and `Full` never come.
 pub fn serve<V: Service + Drop, K: Sink, L: Link>(
     alloc: Global,
     replica: &mut Replica<V>,
@@ -30,6 +33,7 @@ pub fn serve<V: Service + Drop, K: Sink, L: Link>(
     requires rests { IsAtRest V.is_state V.after V.answer V.part_of V.restored replica.old }
     ensures serves { HasServed V.is_state V.after V.answer V.part_of V.restored replica.old replica.new events (L.received link.old) (L.received link.new)
         (record { written = K.written out.old; sent = L.sent link.old }) (record { written = K.written out.new; sent = L.sent link.new }) result }
+    ensures alone { IfErr result (λ s. ¬ IsOfDisk s) }
     ensures rests { replica.new.halted ≡ false → IsAtRest V.is_state V.after V.answer V.part_of V.restored replica.new }
     ensures opens { L.opens link.new ≡ L.opens link.old }
     ensures link { TellsFaults (L.never_fails link.old) (L.never_fails link.new) (L.faults link.old) (L.faults link.new) (IsErrOf result ServeStop.LinkFault) }
@@ -42,4 +46,38 @@ pub fn serve<V: Service + Drop, K: Sink, L: Link>(
         }
     }
     Err(ServeStop::Budget { events })
+}
+
+/// Serves as `serve` does, and keeps each event in a journal before its step. The journal has not halted.
+///
+/// Where the journal is at rest on the disk before, a crash at any moment leaves a file that says each event that was acknowledged until then, in the order
+/// in which they came; one in whose append the crash fell is there as a whole or not. What was written and sent is that of acknowledged events, and an event
+/// that was not kept was not stepped. `DiskFault` comes only where the disk's count of faults rose, and `Full` where the journal has no room for an event.
+pub fn serve_kept<V: Service + Drop, K: Sink, L: Link, D: Disk>(
+    alloc: Global,
+    replica: &mut Replica<V>,
+    journal: &mut Journal,
+    disk: &mut D,
+    link: &mut L,
+    out: &mut K,
+    receives: u64,
+) -> Result<(), ServeStop>
+    requires runs { replica.old.halted ≡ false }
+    requires rests { IsAtRest V.is_state V.after V.answer V.part_of V.restored replica.old }
+    requires keeps { journal.old.halted ≡ false }
+    ensures serves { HasServedKept V.is_state V.after V.answer V.part_of V.restored replica.old replica.new journal.old journal.new (D.moments disk.old) (D.moments disk.new) receives
+        (L.received link.old) (L.received link.new) (record { written = K.written out.old; sent = L.sent link.old }) (record { written = K.written out.new; sent = L.sent link.new }) result }
+    ensures rests { replica.new.halted ≡ false → IsAtRest V.is_state V.after V.answer V.part_of V.restored replica.new }
+    ensures opens { L.opens link.new ≡ L.opens link.old }
+    ensures link { TellsFaults (L.never_fails link.old) (L.never_fails link.new) (L.faults link.old) (L.faults link.new) (IsErrOf result ServeStop.LinkFault) }
+    ensures sink { TellsFaults (K.never_fails out.old) (K.never_fails out.new) (K.faults out.old) (K.faults out.new) (IsErrOf result ServeStop.SinkFault) }
+    ensures disk { TellsFaults (D.never_fails disk.old) (D.never_fails disk.new) (D.faults disk.old) (D.faults disk.new) (IsErrOf result ServeStop.DiskFault) }
+{
+    let mut node = Node::make(alloc, replica.shape(), replica.host())?;
+    for _ in 0..receives {
+        if node.kept_round(alloc, replica, journal, disk, link, out)? {
+            return Ok(());
+        }
+    }
+    Err(ServeStop::Budget { events: receives })
 }

@@ -15,11 +15,20 @@ pub enum ServeStop {
     /// The sink's device failed.
     #[error("the record could not be written")]
     SinkFault,
+    /// The disk's device failed.
+    #[error("the disk failed")]
+    DiskFault,
     /// So many receives were made, and none brought a STOP.
     #[error("{events} receives and no STOP")]
     Budget {
         /// How many receives were made.
         events: u64,
+    },
+    /// The journal would become longer than it may. The end of its records is told.
+    #[error("the journal ends at {length} and has no room for the next event")]
+    Full {
+        /// How many bytes the journal has.
+        length: u64,
     },
     /// Memory ran out.
     #[error("out of memory")]

@@ -1,6 +1,6 @@
 //! One event of a node: the host's step, its lines in the record, and what it sends.
 
-ghost use Rattle.std.specs.Prelude.{◌≡◌, ◌<◌, ◌%◌, ◌^◌, ◌||◌, not, ℕ, false, length, IfOk, OnOk, IsErrOf};
+ghost use Rattle.std.specs.Prelude.{◌≡◌, ◌<◌, ◌%◌, ◌^◌, ◌||◌, not, ℕ, false, length, IfOk, IfErr, OnOk, IsErrOf};
 ghost use Rattle.mb_base.specs.Shapes.{host_count};
 ghost use Rattle.mb_model.specs.Histories.{Identity, History};
 ghost use Rattle.mb_steps.proofs.StepArises.{IsWhole};
@@ -9,6 +9,7 @@ ghost use Rattle.mb_replica.specs.Represents.{Serves};
 ghost use Rattle.mb_node.specs.Events.{is_stopping, is_patience, executes_none};
 ghost use Rattle.mb_node.specs.Messages.{AreMessages};
 ghost use Rattle.mb_edge.specs.Faults.{TellsFaults};
+ghost use Rattle.mb_node.specs.Stops.{IsOfDisk};
 ghost use Rattle.mb_node.specs.Turns.{Steps, Turned};
 
 use crate::entries::lines;
@@ -85,6 +86,7 @@ pub(crate) fn take_turn<V: Service + Drop, K: Sink, L: Link>(
         → outbox.old.hosts ≡ host_count me.shape → outbox.old.host ≡ me.host → outbox.old.number ≡ n % 2 ^ 32
         → Turned me d n event (record { written = K.written out.old; sent = L.sent link.old }) (record { written = K.written out.new; sent = L.sent link.new }) replica.new outbox.new result }
     ensures unspent { (n : ℕ) → IsErrOf result (ServeStop.Budget n) → ⊥ }
+    ensures alone { IfErr result (λ s. ¬ IsOfDisk s) }
     ensures who { (outbox.new.host ≡ outbox.old.host) × (outbox.new.hosts ≡ outbox.old.hosts) }
     ensures rests { replica.new.halted ≡ false → IsAtRest V.is_state V.after V.answer V.part_of V.restored replica.new }
     ensures runs { OnOk result (replica.new.halted ≡ false) }

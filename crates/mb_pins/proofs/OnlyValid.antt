@@ -1,11 +1,10 @@
 -- What passes its tests is valid: each test says so in its own words.
-use Rattle.std.proofs.Common.{◌≡◌, ℕ, zero, suc, ◌+◌, ◌-◌, ◌≤◌, ◌<◌, ◌⊎◌, Bool, true, false, ◌&&◌, not, List, [], ◌∷◌, ◌++◌, length, refl, sym, ap, subst, inl, inr, arith, Option, Some, None, Ok, Err}
-use Rattle.std.specs.Prelude.{◌==◌, ◌%◌, nat_le, nat_lt, is_some, is_none, slice_get, unwrap_or, option_and_then, option_map, if◌then◌else◌, Result}
+use Rattle.std.proofs.Common.{◌≡◌, ℕ, zero, suc, ◌+◌, ◌-◌, ◌≤◌, ◌<◌, ◌⊎◌, Bool, true, false, ◌&&◌, not, List, [], ◌∷◌, ◌++◌, length, refl, sym, subst, inl, inr, arith, Option, Some, None, Ok, Err}
+use Rattle.std.specs.Prelude.{◌==◌, ◌%◌, nat_le, nat_lt, is_some, is_none, option_and_then, option_map, if◌then◌else◌, Result}
 use Rattle.std.specs.List.{AllByRecursion, list_all, range_with_len}
 use Rattle.std.specs.Bool.{then_some}
 use Rattle.std.proofs.lemmas.Bool.{cases_Bool, and_parts, or_cases, eqb-true, eqb-false, eq-eqb, leb-true, leb-false, le-leb, ltb-true, ltb-false}
 use Rattle.sha2.specs.Sha256.{sha256}
-use Rattle.sha2.proofs.Facts256.{length-sha256}
 use Rattle.mb_base.specs.Shapes.{Bytes, interval, span}
 use Rattle.mb_usig.specs.Tags.{same_bytes, certificate, request_tag, wish_tag}
 use Rattle.mb_usig.proofs.Laws.{same_bytes-true}
@@ -49,7 +48,7 @@ use Rattle.mb_model.specs.Execution.{state_of, state_from, pending, parts_after,
 use Rattle.mb_model.specs.Making.{expected}
 use Rattle.mb_model.specs.GateChecks.{valid}
 use Rattle.mb_model.specs.KindChecks.{is_member, member_fault, members_fault, announces, new_view_fault, opening_fault}
-use Rattle.mb_model.specs.PlainChecks.{wrong_part, is_behind_pending, is_certified_floor, is_certified_evidence, has_news_for, fault_of}
+use Rattle.mb_model.specs.PlainChecks.{is_behind_pending, is_certified_floor, is_certified_evidence, has_news_for, fault_of}
 use Rattle.mb_model.specs.Passed.{PassesGate, PassesBody, PassesVote, PassesRequest, PassesWish, PassesResend, PassesLog, PassesFetch, PassesState, Passes}
 use Rattle.mb_model.proofs.Members.{In, contained}
 use Rattle.mb_model.proofs.Options.{or_none, then_none, if_some}
@@ -62,7 +61,7 @@ use Rattle.mb_theory.specs.TakesLogs.{IsValidLog}
 use Rattle.mb_theory.specs.TakesValid.{IsCertified, IsTagged, AreTagged, IsUsable, IsMember, IsPlanned, IsPlanOf, IsNextOfSender, IsShown, IsVote, IsNewRequest, IsGreaterWish, AsksForNews, AsksForState, BringsParts, IsValid}
 use Rattle.mb_known.proofs.Cases.{not_false, some_is}
 use Rattle.mb_known.proofs.Moments.{arises_by}
-use Rattle.mb_line.proofs.StateParts.{part_digest}
+use Rattle.mb_due.proofs.Added.{parts_certified}
 use Rattle.mb_pins.specs.OnlyValid.{AcceptsOnlyValid, AcceptsOnlyValidLogs}
 use Rattle.mb_pins.proofs.ClosedGates.{IsShut, AreShut, shut_at, shut_past}
 
@@ -86,16 +85,6 @@ one_fails t a (suc n) e = elim (cases_Bool (t a)) [
       let place : (a + 1) + more.0 ≡ a + suc more.0 = omega arith in
       (suc more.0, let lt = more.1 in omega (arith, lt), subst (λ (k : ℕ). t k ≡ false) place more.2)
 ]
-
--- A string of a list that has the length of a digest stands there.
-digest_there : (o : Option Bytes) (part : Bytes) → sha256 part ≡ unwrap_or o [] → o ≡ Some (sha256 part)
-digest_there (Some x) part e = ap (λ (y : Bytes). Some y) (sym e)
-digest_there None part e = let n = ap (λ (y : Bytes). length y) e in absurd (omega (arith, n, length-sha256 part))
-
-parts_certified : (digests parts : List Bytes) (first : ℕ) → wrong_part digests first parts ≡ None → (i : ℕ) (part : Bytes) → slice_get parts i ≡ Some part → slice_get digests (first + i) ≡ Some (sha256 part)
-parts_certified digests parts first e i part at =
-    let place : i ≡ (first + i) - first = omega arith in
-    digest_there (slice_get digests (first + i)) part (part_digest digests parts first (first + i) part e (omega arith) (subst (λ (j : ℕ). slice_get parts j ≡ Some part) place at))
 
 gone : {A : Type 0} (o : Option A) → is_some o ≡ false → o ≡ None
 gone None e = refl

@@ -1,8 +1,10 @@
-//! The whole program over what the system has: standard input and standard output, sockets of this machine, and programs that it starts.
+//! The whole program over what the system has: standard input and standard output, sockets of this machine, programs that it starts, and a file.
 #![tactic(auto)]
 
 use mb_edge::{Sink, Source};
-use mb_system::{ChildSpawner, StdSink, StdSource, UdpLink, own_path, starter_of, words_of};
+use mb_system::{
+    ChildSpawner, FileDisk, StdSink, StdSource, UdpLink, own_path, starter_of, words_of,
+};
 use mb_top::minbft;
 use std::io::ErrorKind;
 use std::process;
@@ -11,8 +13,19 @@ use std::process::ExitCode;
 /// The exit status where memory ran out before the words were had.
 const NO_MEMORY: u8 = 4;
 
-/// Does what the words ask for, and answers the status. It reads from the source and writes to the sink. Nodes are started by the program's own path; one that
-/// was started so ends with the program that started it.
+/// What the nodes of the largest cluster record.
+const RECORDS: [&str; 7] = [
+    "node-0.record",
+    "node-1.record",
+    "node-2.record",
+    "node-3.record",
+    "node-4.record",
+    "node-5.record",
+    "node-6.record",
+];
+
+/// Does what the words ask for, and answers the status. It reads from the source and writes to the sink. Nodes are started by the program's own path, and
+/// only where none of their records is there yet; one that was started so ends with the program that started it.
 pub fn obey<S: Source, K: Sink>(
     rt: &HostRuntime,
     words: &[String],
@@ -21,8 +34,18 @@ pub fn obey<S: Source, K: Sink>(
 ) -> u8 {
     let mut link = UdpLink::new(rt, rt.process(), starter_of(rt));
     let own = process::id(rt.process());
-    let mut spawner = ChildSpawner::new(rt, rt.alloc(), own_path(rt), own);
-    minbft(rt.alloc(), words, source, sink, &mut link, &mut spawner)
+    let records = RECORDS;
+    let mut spawner = ChildSpawner::new(rt, rt.alloc(), own_path(rt), own, &records);
+    let mut disk = FileDisk::new(rt);
+    minbft(
+        rt.alloc(),
+        words,
+        source,
+        sink,
+        &mut link,
+        &mut spawner,
+        &mut disk,
+    )
 }
 
 /// Does what the program's own words ask for, and ends with the status that is answered.

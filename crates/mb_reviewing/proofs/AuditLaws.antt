@@ -30,7 +30,7 @@ verdict_known (Ordered last) = (0, omega arith, refl)
 
 verdict_told : (v : Verdict) → IsToldBy (verdict_status v)
 verdict_told (Double counter) = inl (omega arith)
-verdict_told (Gap missing seen) = inr (inr (inr refl))
+verdict_told (Gap missing seen) = inr (inr (inr (inl refl)))
 verdict_told (Illegal counter rule) = inr (inr (inl refl))
 verdict_told (Ordered last) = inl (omega arith)
 

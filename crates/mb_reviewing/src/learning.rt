@@ -15,14 +15,13 @@ ghost use Rattle.mb_learn.specs.Learners.{Represents};
 ghost use Rattle.mb_reviewing.specs.Learning.{machine, snapshots, state_behind, learnt_text, differs_text, LearnsAll, AnswersLearn, LearnsFrom, learn_statuses, learn_findings};
 
 use crate::given::given_in;
-use crate::slots::print_slots;
 use mb_answer::{Answer, DIFFERS, DONE, refusal, respond, tell_unread};
 use mb_base::{Digest, NoMemory, Pos};
 use mb_edge::{Sink, Source, read_all};
 use mb_kv::Kv;
 use mb_learn::{LearnStop, Learner};
 use mb_msg::Slot;
-use mb_sched::{MAX_RECORD, Record, parse_record};
+use mb_sched::{MAX_RECORD, Record, parse_record, print_slots};
 use std::alloc::Global;
 
 /// The history that was learnt: a line for each request, and the state behind them.

@@ -5,13 +5,11 @@
 //! | `given` | what the record's host was given | `specs/Given` |
 //! | `auditing` | reads a record, and writes whether a host's stamps in it are one list in order | `specs/Audits` |
 //! | `learning` | reads a record, and writes the history that it proves | `specs/Learning` |
-//! | `slots` | the lines of a history | those of a report |
 #![tactic(auto)]
 
 mod auditing;
 mod given;
 mod learning;
-mod slots;
 
 pub use auditing::audit as audit_of;
 pub use learning::learn as learn_of;

@@ -3,7 +3,7 @@
 use crate::outside::Outside;
 use crate::stop::Stop;
 use mb_base::Items;
-use mb_edge::{ByteSink, ByteSource, ListLink, ListSpawner, Start};
+use mb_edge::{ByteSink, ByteSource, ListLink, ListSpawner, MemoryDisk, Start};
 use mb_top::minbft;
 use std::alloc::Global;
 
@@ -14,6 +14,7 @@ pub struct Devices {
     sink: ByteSink,
     link: ListLink,
     spawner: ListSpawner,
+    disk: MemoryDisk,
 }
 
 impl Devices {
@@ -24,6 +25,8 @@ impl Devices {
             sink_fails,
             link_fails,
             spawner_fails,
+            disk_fails,
+            file,
             arrivals,
             ends,
             ..
@@ -33,6 +36,7 @@ impl Devices {
             sink: ByteSink::new(alloc, sink_fails)?,
             link: ListLink::new(alloc, arrivals, link_fails)?,
             spawner: ListSpawner::new(alloc, ends, spawner_fails)?,
+            disk: MemoryDisk::new(alloc, file, disk_fails)?,
         })
     }
 
@@ -50,6 +54,7 @@ impl Devices {
             &mut self.sink,
             &mut self.link,
             &mut self.spawner,
+            &mut self.disk,
         )
     }
 
@@ -58,11 +63,12 @@ impl Devices {
         self.sink.bytes()
     }
 
-    /// The lines of what came at the link and the spawner. The children were to be given `config`.
+    /// The lines of what came at the link, the spawner and the disk. The children were to be given `config`.
     pub fn came(&self, alloc: Global, config: &[u8]) -> Result<Vec<String>, Stop> {
         let mut lines = Vec::new(alloc);
         self.add_of_link(alloc, &mut lines)?;
         self.add_of_spawner(alloc, config, &mut lines)?;
+        lines.push(file_line(alloc, self.disk.bytes())?)?;
         Ok(lines)
     }
 
@@ -107,6 +113,15 @@ fn add_numbers(
 ) -> Result<(), Stop> {
     lines.push(format!(in alloc; "{word} {first} {second}")?)?;
     Ok(())
+}
+
+/// The line of the file on the disk in the end.
+fn file_line(alloc: Global, file: &[u8]) -> Result<String, Stop> {
+    if file.is_empty() {
+        return Ok(String::from_str(alloc, "keeps -")?);
+    }
+    let bytes = hex::encode(alloc, file)?;
+    Ok(format!(in alloc; "keeps {bytes}")?)
 }
 
 /// Adds bytes as text.

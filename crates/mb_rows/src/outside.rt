@@ -3,7 +3,8 @@
 //! Lines of what it does:
 //!
 //! - `input comes N times`: the bytes of the input come so often, one after the other.
-//! - `source fails N`, `sink fails N`, `link fails N`, `spawner fails N`: the N-th call of that device fails.
+//! - `source fails N`, `sink fails N`, `link fails N`, `spawner fails N`, `disk fails N`: the N-th call of that device fails.
+//! - `disk has HEX`: the bytes of the file on the disk at first, with `-` for none.
 //! - `arrives HEX`: the next datagram that arrives, with `-` for one of no bytes; `quiet`: none for a while. Behind them all is quiet.
 //! - `arrives HEX then N times HEX`: the same, with so many copies of the second bytes behind the first. `again N`: it comes N times more.
 //! - `ends STATUS`: how the next child ends. Behind these all end with 0.
@@ -15,6 +16,7 @@
 //! - `sends PEER HEX`: a datagram is sent.
 //! - `starts WORDS.. < config > FILE`: a child is started with these words. It is given the input, and its output goes to the file.
 //! - `waits CHILD STATUS`: a child's end is awaited.
+//! - `keeps HEX`: the bytes of the file on the disk in the end, with `-` for none.
 
 use crate::stop::Stop;
 use hex::FromHexError;
@@ -22,7 +24,7 @@ use mb_base::Items;
 use std::alloc::Global;
 
 /// The first words of the lines of what comes.
-const COMING: [&str; 4] = ["opens", "sends", "starts", "waits"];
+const COMING: [&str; 5] = ["opens", "sends", "starts", "waits", "keeps"];
 
 /// What the outside does in a row, and what has to come of it.
 #[derive(Drop)]
@@ -34,6 +36,9 @@ pub struct Outside {
     pub sink_fails: Vec<u64>,
     pub link_fails: Vec<u64>,
     pub spawner_fails: Vec<u64>,
+    pub disk_fails: Vec<u64>,
+    /// The bytes of the file on the disk at first.
+    pub file: Vec<u8>,
     /// What arrives, each a datagram or a quiet.
     pub arrivals: Vec<Option<Items<u8>>>,
     /// How the children end.
@@ -51,6 +56,8 @@ impl Outside {
             sink_fails: Vec::new(alloc),
             link_fails: Vec::new(alloc),
             spawner_fails: Vec::new(alloc),
+            disk_fails: Vec::new(alloc),
+            file: Vec::new(alloc),
             arrivals: Vec::new(alloc),
             ends: Vec::new(alloc),
             coming: Vec::new(alloc),
@@ -83,7 +90,10 @@ impl Outside {
             "again" => self.take_again(alloc, number_of(words.next())),
             "ends" => self.take_end(number_of(words.next())),
             "input" => Ok(self.take_times(number_of(words.nth(1)))),
-            device => self.take_fault(device, number_of(words.nth(1))),
+            device => match words.next() {
+                Some("has") => self.take_file(alloc, device, words.next()),
+                _ => self.take_fault(device, number_of(words.next())),
+            },
         }
     }
 
@@ -132,6 +142,18 @@ impl Outside {
         Ok(true)
     }
 
+    /// Takes the bytes of the file on the disk.
+    fn take_file(&mut self, alloc: Global, device: &str, word: Option<&str>) -> Result<bool, Stop> {
+        if device != "disk" {
+            return Ok(false);
+        }
+        let Some(file) = bytes_of_word(alloc, word)? else {
+            return Ok(false);
+        };
+        self.file = file;
+        Ok(true)
+    }
+
     fn take_times(&mut self, times: Option<u64>) -> bool {
         let Some(times) = times else {
             return false;
@@ -149,6 +171,7 @@ impl Outside {
             "sink" => &mut self.sink_fails,
             "link" => &mut self.link_fails,
             "spawner" => &mut self.spawner_fails,
+            "disk" => &mut self.disk_fails,
             _ => return Ok(false),
         };
         fails.push(call)?;

@@ -8,7 +8,7 @@ use crate::stop::Stop;
 use std::alloc::{AllocError, Global};
 use std::mem;
 
-/// Runs a row, and answers what is not as expected: first of all the status, then what was written, then what came at the link and the spawner.
+/// Runs a row, and answers what is not as expected: first of all the status, then what was written, then what came at the link, the spawner and the disk.
 pub fn difference(rt: &HostRuntime, row: &Row) -> Result<Option<String>, Stop> {
     let expected = bytes_of(rt, row.output)?;
     let once = bytes_of(rt, row.input)?;

@@ -44,7 +44,8 @@ pub fn print_report(alloc: Global, report: &Report) -> Result<Vec<u8>, NoMemory>
     Ok(out.into_bytes())
 }
 
-fn print_slots(alloc: Global, out: &mut String, slots: &[Slot]) -> Result<(), NoMemory>
+/// The lines of a history, as they stand in a report: one for each request of each slot. `NoMemory` comes where memory runs out, and nowhere else.
+pub fn print_slots(alloc: Global, out: &mut String, slots: &[Slot]) -> Result<(), NoMemory>
     ensures { OnOk result (string_bytes out.new ≡ string_bytes out.old ++ flat_map slot_lines slots.now) }
 {
     for slot in slots {

@@ -1,5 +1,5 @@
-//! Tests of how a service is used: what clients ask for and count, what a host executes and keeps of it, the long schedules in which both are drawn, and
-//! what is found of hosts afterwards.
+//! Tests of how a service is used: what clients ask for and count, what a host executes and keeps of it, the journal of its events, the long schedules
+//! in which both are drawn, and what is found of hosts afterwards.
 #![tactic(auto)]
 
 #[cfg(test)]
@@ -8,6 +8,8 @@ mod audit;
 mod cache;
 #[cfg(test)]
 mod client;
+#[cfg(test)]
+mod journal;
 #[cfg(test)]
 mod keeper;
 #[cfg(test)]

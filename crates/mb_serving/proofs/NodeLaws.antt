@@ -1,6 +1,7 @@
 -- What serving says of a node, and which statuses it can have.
 use Rattle.std.proofs.Common.{◌≡◌, ℕ, ◌≤◌, ◌<◌, List, [], reverse, Option, Ok, Err, refl, sym, ap, subst, ◌∙◌, arith, ◌⊎◌, inl, inr}
-use Rattle.std.specs.Prelude.{Contains, Result, IsErrOf}
+use Rattle.std.specs.Prelude.{Contains, Result, IsErrOf, IfErr}
+use Rattle.std.specs.List.{AllByRecursion}
 use Rattle.std.specs.Io.KnownBytes.{Appends}
 use Rattle.mb_answer.proofs.ConfigLaws.{same_config, lacks_none}
 use Rattle.mb_answer.specs.Clusters.{IsUnbroken}
@@ -27,15 +28,15 @@ use Rattle.mb_kv.specs.States.{IsState}
 use Rattle.mb_msg.specs.declared.event.Event.{Event}
 use Rattle.mb_node.specs.declared.stops.ServeStop.{ServeStop}
 use Rattle.mb_node.specs.declared.stops.ServeStop.TheVariants as stop
-use Rattle.mb_node.specs.Stops.{link_stop, sink_stop}
-use Rattle.mb_node.specs.Receives.{Receives}
+use Rattle.mb_node.specs.Stops.{link_stop, sink_stop, IsOfDisk}
+use Rattle.mb_node.specs.Receives.{Receives, ReceiveFits}
 use Rattle.mb_node.specs.Sends.{Sends}
 use Rattle.mb_node.specs.Outside.{Outside}
 use Rattle.mb_node.specs.Serving.{AreDone, AreCutOff, Ends}
 use Rattle.mb_node.specs.Recording.{lines_of}
 use Rattle.mb_sched.specs.declared.configs.Config.{Config}
 use Rattle.mb_sched.specs.Records.{record_head}
-use Rattle.mb_serving.specs.Nodes.{outside, served_status, Fails, Begins, HasListened, events_of, IsWhole, IsServed, IsCutShort, Serves, stopped, exhausted, cut_short, headless, unopened, HostServes, serves, no_host, Nodes, IsNodeStatus, serving_statuses, node_statuses}
+use Rattle.mb_serving.specs.Nodes.{outside, served_status, Fails, Begins, HasListened, events_of, IsWhole, IsServed, IsCutShort, IsUnbegun, headless, unopened, Serves, stopped, exhausted, cut_short, unbegun, HostServes, serves, no_host, Nodes, IsNodeStatus, serving_statuses, node_statuses}
 use Rattle.mb_serving.specs.Records.{host_of}
 
 module _ (c : Config) (host budget : ℕ) (sink sink' : Device) (link link' : LinkState) (begun : Option Bytes) (head : Appends sink.bytes begun (record_head c host)) (receives : Receives) (heard : HasListened c host link link' receives) where
@@ -50,46 +51,48 @@ module _ (c : Config) (host budget : ℕ) (sink sink' : Device) (link link' : Li
   cut r part = record { halted = r.halted; begun = begun; head = head; part = part }
 
   pub node_serves : (r : Replica Pairs) (ended : Result (Unit {0}) ServeStop) → Ends (host_of c host) [] budget behind (outside sink' link') r receives ended
-      → (IsErrOf ended stop.LinkFault → Rose link.faults link'.faults) → (IsErrOf ended stop.SinkFault → Rose sink.faults sink'.faults) → Serves c host budget (served_status ended) sink sink' link link'
-  node_serves r (Ok u) e rose_link rose_sink = stopped receives refl heard (done (events_of c host receives) e.0) e.1 e.3
-  node_serves r (Err (stop.Budget n)) e rose_link rose_sink = exhausted receives refl heard (done (events_of c host receives) e.0) e.1 e.4
-  node_serves r (Err stop.LinkFault) e rose_link rose_sink = cut_short receives (inl (inl (refl, rose_link refl))) heard (cut r e.0) e.1
-  node_serves r (Err stop.SinkFault) e rose_link rose_sink = cut_short receives (inr (inl (refl, rose_sink refl))) heard (cut r e.0) e.1
-  node_serves r (Err stop.NoMemory) e rose_link rose_sink = cut_short receives (inr (inr refl)) heard (cut r e.0) e.1
+      → (IsErrOf ended stop.LinkFault → Rose link.faults link'.faults) → (IsErrOf ended stop.SinkFault → Rose sink.faults sink'.faults) → IfErr ended (λ s. ¬ IsOfDisk s) → Serves c host budget (served_status ended) sink sink' link link'
+  node_serves r (Ok u) e rose_link rose_sink alone = stopped receives refl heard (done (events_of c host receives) e.0) e.1 e.3
+  node_serves r (Err (stop.Budget n)) e rose_link rose_sink alone = exhausted receives refl heard (done (events_of c host receives) e.0) e.1 e.4
+  node_serves r (Err stop.LinkFault) e rose_link rose_sink alone = cut_short receives (inl (inl (refl, rose_link refl))) heard (cut r e.0) e.1
+  node_serves r (Err stop.SinkFault) e rose_link rose_sink alone = cut_short receives (inr (inl (refl, rose_sink refl))) heard (cut r e.0) e.1
+  node_serves r (Err stop.DiskFault) e rose_link rose_sink alone = absurd (alone tt)
+  node_serves r (Err (stop.Full length)) e rose_link rose_sink alone = absurd (alone tt)
+  node_serves r (Err stop.NoMemory) e rose_link rose_sink alone = cut_short receives (inr (inr refl)) heard (cut r e.0) e.1
 
   -- ... where the link had sent as much before
   pub node_serves_from : (sent : Option Sends) → sent ≡ link.sent → (r : Replica Pairs) (ended : Result (Unit {0}) ServeStop) → Ends (host_of c host) [] budget (record { written = begun; sent = sent }) (outside sink' link') r receives ended
-      → (IsErrOf ended stop.LinkFault → Rose link.faults link'.faults) → (IsErrOf ended stop.SinkFault → Rose sink.faults sink'.faults) → Serves c host budget (served_status ended) sink sink' link link'
-  node_serves_from sent same r ended e rose_link rose_sink =
-      node_serves r ended (subst (λ (s : Option Sends). Ends (host_of c host) [] budget (record { written = begun; sent = s }) (outside sink' link') r receives ended) same e) rose_link rose_sink
+      → (IsErrOf ended stop.LinkFault → Rose link.faults link'.faults) → (IsErrOf ended stop.SinkFault → Rose sink.faults sink'.faults) → IfErr ended (λ s. ¬ IsOfDisk s) → Serves c host budget (served_status ended) sink sink' link link'
+  node_serves_from sent same r ended e rose_link rose_sink alone =
+      node_serves r ended (subst (λ (s : Option Sends). Ends (host_of c host) [] budget (record { written = begun; sent = s }) (outside sink' link') r receives ended) same e) rose_link rose_sink alone
 
 -- ---- beginning
 
 module _ (c : Config) (host : ℕ) (r : Result (Unit {0}) ServeStop) (e : ServeStop) (is : r ≡ Err e) where
-  as_begun : (sink sink' : Device) (before after : LinkState) → ((budget : ℕ) → Serves c host budget (served_status (Err e)) sink sink' before after) → Begins c host r sink sink' before after
+  as_begun : (sink sink' : Device) (before after : LinkState) → IsUnbegun c host (record_head c host) (served_status (Err e)) sink sink' before after → Begins c host r sink sink' before after
   as_begun sink sink' before after all = subst (λ (x : Result (Unit {0}) ServeStop). Begins c host x sink sink' before after) (sym is) all
 
   pub begins_starved : e ≡ stop.NoMemory → (sink : Device) (l : LinkState) → Begins c host r sink sink l l
-  begins_starved same sink l = as_begun sink sink l l (λ budget. rw same (unopened (inr refl) refl refl refl refl))
+  begins_starved same sink l = as_begun sink sink l l (rw same (unopened (inr refl) refl refl refl refl))
 
   pub begins_unopened : (cause : Failed) → e ≡ link_stop cause → (sink : Device) (before after : LinkState) → (cause ≡ failed.Device → Rose before.faults after.faults) → after.opens ≡ before.opens → after.received ≡ before.received
       → after.sent ≡ before.sent → Begins c host r sink sink before after
-  begins_unopened failed.Device same sink before after rose opens received sent = as_begun sink sink before after (λ budget. rw same (unopened (inl (refl, rose refl)) refl opens received sent))
-  begins_unopened failed.NoMemory same sink before after rose opens received sent = as_begun sink sink before after (λ budget. rw same (unopened (inr refl) refl opens received sent))
+  begins_unopened failed.Device same sink before after rose opens received sent = as_begun sink sink before after (rw same (unopened (inl (refl, rose refl)) refl opens received sent))
+  begins_unopened failed.NoMemory same sink before after rose opens received sent = as_begun sink sink before after (rw same (unopened (inr refl) refl opens received sent))
 
   pub begins_headless : (cause : WriteStop) → e ≡ sink_stop cause → (sink sink' : Device) (before after : LinkState) → (cause ≡ writing.Fault → Rose sink.faults sink'.faults) → HasListened c host before after [] → after.sent ≡ before.sent
       → AppendsPart (record_head c host) sink.bytes sink'.bytes → Begins c host r sink sink' before after
-  begins_headless writing.Fault same sink sink' before after rose heard sent part = as_begun sink sink' before after (λ budget. rw same (headless (inl (refl, rose refl)) heard sent part))
-  begins_headless writing.NoMemory same sink sink' before after rose heard sent part = as_begun sink sink' before after (λ budget. rw same (headless (inr refl) heard sent part))
+  begins_headless writing.Fault same sink sink' before after rose heard sent part = as_begun sink sink' before after (rw same (headless (inl (refl, rose refl)) heard sent part))
+  begins_headless writing.NoMemory same sink sink' before after rose heard sent part = as_begun sink sink' before after (rw same (headless (inr refl) heard sent part))
 
   -- Where beginning failed nothing was served.
   pub fails_to_begin : (q : Result (Unit {0}) ServeStop) → q ≡ Err e → (budget : ℕ) (sink sink' : Device) (before after : LinkState) → Begins c host r sink sink' before after → Serves c host budget (served_status q) sink sink' before after
   fails_to_begin q same budget sink sink' before after begins =
-      let begun : (b : ℕ) → Serves c host b (served_status (Err e)) sink sink' before after = subst (λ (x : Result (Unit {0}) ServeStop). Begins c host x sink sink' before after) is begins in
-      rw same (begun budget)
+      let begun : IsUnbegun c host (record_head c host) (served_status (Err e)) sink sink' before after = subst (λ (x : Result (Unit {0}) ServeStop). Begins c host x sink sink' before after) is begins in
+      rw same (unbegun begun)
 
 pub starved_node : (c : Config) (host budget : ℕ) (r : Result (Unit {0}) ServeStop) (e : ServeStop) → r ≡ Err e → e ≡ stop.NoMemory → (sink : Device) (l : LinkState) → Serves c host budget (served_status r) sink sink l l
-starved_node c host budget r e is same sink l = rw (is, same) (unopened (inr refl) refl refl refl refl)
+starved_node c host budget r e is same sink l = rw (is, same) (unbegun (unopened (inr refl) refl refl refl refl))
 
 -- a first part of the record's first lines, as they were printed
 pub part_of_head : (c : Config) (host : ℕ) (text : Bytes) (old new : Option Bytes) → text ≡ record_head c host → AppendsPart text old new → AppendsPart (record_head c host) old new
@@ -105,10 +108,11 @@ kv_serves c host = record { machine = refl; snapshots = refl; first = no_keys_is
 
 -- The link was opened before, and then these were received.
 pub heard_behind : (c : Config) (host : ℕ) (before middle after : LinkState) (receives : Receives) → HasListened c host before middle [] → after.opens ≡ middle.opens → after.received ≡ with_more middle.received (reverse receives)
-    → HasListened c host before after receives
-heard_behind c host before middle after receives heard opens received = record {
+    → AllByRecursion ReceiveFits receives → HasListened c host before after receives
+heard_behind c host before middle after receives heard opens received of_bytes = record {
   opens = opens ∙ heard.opens;
   received = received ∙ ap (λ (told : Option Receives). with_more told (reverse receives)) (heard.received ∙ with_more-nil before.received);
+  of_bytes = of_bytes;
 }
 
 -- ---- a node
@@ -125,8 +129,8 @@ serves_on : (c : Config) (host budget status : ℕ) (sink sink' : Device) (befor
 serves_on c host budget status sink sink' before after well calm (stopped receives zero heard served ends few) = inl zero
 serves_on c host budget status sink sink' before after well calm (exhausted receives nine heard served none all) = inr (inr nine)
 serves_on c host budget status sink sink' before after well calm (cut_short receives fails heard cut few) = inr (inl (either_not status before.faults after.faults sink.faults sink'.faults calm well fails))
-serves_on c host budget status sink sink' before after well calm (headless fails heard same part) = inr (inl (fails_not 6 status sink.faults sink'.faults well fails))
-serves_on c host budget status sink sink' before after well calm (unopened fails same opens received sent) = inr (inl (fails_not 7 status before.faults after.faults calm fails))
+serves_on c host budget status sink sink' before after well calm (unbegun (headless fails heard same part)) = inr (inl (fails_not 6 status sink.faults sink'.faults well fails))
+serves_on c host budget status sink sink' before after well calm (unbegun (unopened fails same opens received sent)) = inr (inl (fails_not 7 status before.faults after.faults calm fails))
 
 host_serves_on : (c d : Config) (host budget status : ℕ) (sink sink' : Device) (before after : LinkState) → d ≡ c → host < host_count c.shape → ¬ Rose sink.faults sink'.faults → ¬ Rose before.faults after.faults
     → HostServes d host budget status sink sink' before after → IsUnbroken status
@@ -143,22 +147,26 @@ node_completes text host budget status source source' sink sink' before after (u
 
 -- ---- statuses
 
-pub served_known : (ended : Result (Unit {0}) ServeStop) → IsNodeStatus (served_status ended)
-served_known (Ok done) = inl (omega arith)
-served_known (Err (stop.Budget n)) = inr (inr (inr refl))
-served_known (Err stop.LinkFault) = inr (inr (inl refl))
-served_known (Err stop.SinkFault) = inr (inl refl)
-served_known (Err stop.NoMemory) = inl (omega arith)
+pub served_known : (ended : Result (Unit {0}) ServeStop) → IfErr ended (λ s. ¬ IsOfDisk s) → IsNodeStatus (served_status ended)
+served_known (Ok done) alone = inl (omega arith)
+served_known (Err (stop.Budget n)) alone = inr (inr (inr refl))
+served_known (Err stop.LinkFault) alone = inr (inr (inl refl))
+served_known (Err stop.SinkFault) alone = inr (inl refl)
+served_known (Err stop.DiskFault) alone = absurd (alone tt)
+served_known (Err (stop.Full length)) alone = absurd (alone tt)
+served_known (Err stop.NoMemory) alone = inl (omega arith)
 
-served_in : (ended : Result (Unit {0}) ServeStop) → Contains serving_statuses (served_status ended)
-served_in (Ok done) = (0, omega arith, refl)
-served_in (Err (stop.Budget n)) = (5, omega arith, refl)
-served_in (Err stop.LinkFault) = (4, omega arith, refl)
-served_in (Err stop.SinkFault) = (3, omega arith, refl)
-served_in (Err stop.NoMemory) = (2, omega arith, refl)
+served_in : (ended : Result (Unit {0}) ServeStop) → IfErr ended (λ s. ¬ IsOfDisk s) → Contains serving_statuses (served_status ended)
+served_in (Ok done) alone = (0, omega arith, refl)
+served_in (Err (stop.Budget n)) alone = (5, omega arith, refl)
+served_in (Err stop.LinkFault) alone = (4, omega arith, refl)
+served_in (Err stop.SinkFault) alone = (3, omega arith, refl)
+served_in (Err stop.DiskFault) alone = absurd (alone tt)
+served_in (Err (stop.Full length)) alone = absurd (alone tt)
+served_in (Err stop.NoMemory) alone = (2, omega arith, refl)
 
-pub served_known_as : (ended : Result (Unit {0}) ServeStop) (status : ℕ) → status ≡ served_status ended → Contains serving_statuses status
-served_known_as ended status is = subst (Contains serving_statuses) (sym is) (served_in ended)
+pub served_known_as : (ended : Result (Unit {0}) ServeStop) (status : ℕ) → status ≡ served_status ended → IfErr ended (λ s. ¬ IsOfDisk s) → Contains serving_statuses status
+served_known_as ended status is alone = subst (Contains serving_statuses) (sym is) (served_in ended alone)
 
 pub serving_known : (status : ℕ) → Contains serving_statuses status → Contains node_statuses status
 serving_known status known =
@@ -179,6 +187,8 @@ link_served (Ok done) status is seven = absurd (omega (arith, is, seven))
 link_served (Err (stop.Budget n)) status is seven = absurd (omega (arith, is, seven))
 link_served (Err stop.LinkFault) status is seven = refl
 link_served (Err stop.SinkFault) status is seven = absurd (omega (arith, is, seven))
+link_served (Err stop.DiskFault) status is seven = absurd (omega (arith, is, seven))
+link_served (Err (stop.Full length)) status is seven = absurd (omega (arith, is, seven))
 link_served (Err stop.NoMemory) status is seven = absurd (omega (arith, is, seven))
 
 pub sink_served : (ended : Result (Unit {0}) ServeStop) (status : ℕ) → status ≡ served_status ended → status ≡ 6 → IsErrOf ended stop.SinkFault
@@ -186,6 +196,8 @@ sink_served (Ok done) status is six = absurd (omega (arith, is, six))
 sink_served (Err (stop.Budget n)) status is six = absurd (omega (arith, is, six))
 sink_served (Err stop.LinkFault) status is six = absurd (omega (arith, is, six))
 sink_served (Err stop.SinkFault) status is six = refl
+sink_served (Err stop.DiskFault) status is six = absurd (omega (arith, is, six))
+sink_served (Err (stop.Full length)) status is six = absurd (omega (arith, is, six))
 sink_served (Err stop.NoMemory) status is six = absurd (omega (arith, is, six))
 
 pub is_node_not : (status : ℕ) → IsNodeStatus status → (¬ (status ≡ 8)) × (¬ (status ≡ 18))

@@ -4,12 +4,13 @@ use Rattle.std.specs.Prelude.{◌⊎◌}
 use Rattle.std.specs.List.{AllByRecursion}
 use Rattle.std.specs.Io.KnownBytes.{Appends}
 use Rattle.std.proofs.lemmas.Bool.{cases_lt}
-use Rattle.std.proofs.lemmas.List.{length-map, take-append-drop}
+use Rattle.std.proofs.lemmas.List.{length-map, take-append-drop, drop_at}
 use Rattle.sha2.proofs.Facts256.{length-sha256}
 use Rattle.mb_base.specs.Shapes.{Bytes, host_count}
 use Rattle.mb_usig.proofs.SmallBytes.{IsBytes-sha256}
 use Rattle.mb_edge.specs.Faults.{Rose}
 use Rattle.mb_edge.proofs.PieceLemmas.{appended_both}
+use Rattle.mb_edge.proofs.ToldLemmas.{with_more-nil}
 use Rattle.mb_msg.specs.declared.event.Event.{Event}
 use Rattle.mb_model.specs.Histories.{Identity, History}
 use Rattle.mb_model.specs.HostStep.{transition}
@@ -20,11 +21,13 @@ use Rattle.mb_searches.proofs.SoundRules.{transition_sound}
 use Rattle.mb_fitting.specs.Fitting.{AreFit}
 use Rattle.mb_fitting.proofs.Fit.{begins_fit, transition_fit}
 use Rattle.mb_replica.specs.Represents.{as_sent}
+use Rattle.mb_node.specs.Receives.{Receives}
 use Rattle.mb_node.specs.Events.{left_by, has_stop}
 use Rattle.mb_node.specs.Recording.{sent_digest, entry_at, entries_of, lines_of}
 use Rattle.mb_node.specs.Retracing.{events_in, AreOwn}
 use Rattle.mb_node.specs.Serving.{AreCutOff}
 use Rattle.mb_node.proofs.Counting.{sends_few}
+use Rattle.mb_node.proofs.OfBytes.{events_of_bytes}
 use Rattle.mb_node.proofs.Runs.{lines_more}
 use Rattle.mb_sched.specs.declared.configs.Config.{Config}
 use Rattle.mb_sched.specs.declared.records.Entry.{Entry}
@@ -33,12 +36,13 @@ use Rattle.mb_sched.specs.Configs.{SettingsFit}
 use Rattle.mb_sched.specs.Records.{max_record, record_head, entries_text, EventFits, EntryFits, RecordFits}
 use Rattle.mb_sched.proofs.CutRecords.{split_front, cut_record}
 use Rattle.mb_answer.specs.Devices.{Device, LinkState, Says, said, failed, cut_short as part_said, answered, unread, starved}
-use Rattle.mb_serving.specs.Nodes.{events_of, Serves, stopped, exhausted, cut_short, headless, unopened}
+use Rattle.mb_serving.specs.Nodes.{HasListened, events_of, Serves, stopped, exhausted, cut_short, unbegun, headless, unopened}
 use Rattle.mb_answer.specs.Records.{IsRecordText, too_long, bad_line, right}
 use Rattle.mb_answer.proofs.RecordTexts.{same_record}
 use Rattle.mb_serving.specs.Records.{host_of, recorded_host, IsOwnRecord, same_text, AnswersRecord, same, differs, AnswersRecordText, Retraces}
-use Rattle.mb_serving.specs.Written.{IsOwnSoFar, WritesFront, RetracesLeft}
+use Rattle.mb_serving.specs.Written.{IsOwnSoFar, WritesFront, WritesReceived, IsLeft, LeavesParts, RetracesLeft, NodesLeaveRecords}
 use Rattle.mb_serving.proofs.RecordLaws.{events_parted, none_differs}
+use Rattle.mb_serving.proofs.ReadConfigs.{settings_fit}
 
 module _ {S : Type 0} (me : Identity S) where
   -- ---- entries of the first events
@@ -137,7 +141,7 @@ own_so_far c host es part rest settings there of_bytes is within =
 
 -- ---- what a node writes
 
-appends_none : (old : Option Bytes) → Appends old old []
+pub appends_none : (old : Option Bytes) → Appends old old []
 appends_none None = tt
 appends_none (Some xs) = sym (append-nil xs)
 
@@ -172,14 +176,70 @@ module _ (c : Config) (host : ℕ) (sink sink' : Device) where
         written = appended_both sink.bytes begun sink'.bytes (record_head c host) (lines ++ cut.text) head cut.adds.written;
       }
 
-pub writes_front : (c : Config) (host budget status : ℕ) (sink sink' : Device) (before after : LinkState) → Serves c host budget status sink sink' before after → (es : List Event) × WritesFront c host es sink.bytes sink'.bytes
-writes_front c host budget status sink sink' before after (stopped receives zero heard whole ends few) = (events_of c host receives, writes_all c host sink sink' (events_of c host receives) whole.written)
-writes_front c host budget status sink sink' before after (exhausted receives nine heard whole none all) = (events_of c host receives, writes_all c host sink sink' (events_of c host receives) whole.written)
+-- The events of what was received are of bytes.
+writes_events : (c : Config) (host : ℕ) (sink sink' : Device) (before after : LinkState) (receives : Receives) → HasListened c host before after receives → WritesFront c host (events_of c host receives) sink.bytes sink'.bytes
+    → WritesReceived c host before after sink.bytes sink'.bytes
+writes_events c host sink sink' before after receives heard writes = record {
+  receives = receives;
+  received = heard.received;
+  of_bytes = events_of_bytes (host_of c host) [] receives heard.of_bytes;
+  writes = writes;
+}
+
+pub writes_front : (c : Config) (host budget status : ℕ) (sink sink' : Device) (before after : LinkState) → Serves c host budget status sink sink' before after → WritesReceived c host before after sink.bytes sink'.bytes
+writes_front c host budget status sink sink' before after (stopped receives zero heard whole ends few) =
+    writes_events c host sink sink' before after receives heard (writes_all c host sink sink' (events_of c host receives) whole.written)
+writes_front c host budget status sink sink' before after (exhausted receives nine heard whole none all) =
+    writes_events c host sink sink' before after receives heard (writes_all c host sink sink' (events_of c host receives) whole.written)
 writes_front c host budget status sink sink' before after (cut_short receives fails heard cut few) =
-    (events_of c host receives, writes_cut c host sink sink' cut.begun before.sent after.sent cut.halted (events_of c host receives) cut.head cut.part)
-writes_front c host budget status sink sink' before after (headless fails heard kept part) = ([], writes_head c host sink sink' part.count part.appended)
-writes_front c host budget status sink sink' before after (unopened fails kept opens received sent) =
-    ([], writes_head c host sink sink' 0 (subst (λ (d : Device). Appends sink.bytes d.bytes []) kept (appends_none sink.bytes)))
+    writes_events c host sink sink' before after receives heard (writes_cut c host sink sink' cut.begun before.sent after.sent cut.halted (events_of c host receives) cut.head cut.part)
+writes_front c host budget status sink sink' before after (unbegun (headless fails heard kept part)) = writes_events c host sink sink' before after [] heard (writes_head c host sink sink' part.count part.appended)
+writes_front c host budget status sink sink' before after (unbegun (unopened fails kept opens received sent)) = record {
+  receives = [];
+  received = received ∙ sym (with_more-nil before.received);
+  of_bytes = tt;
+  writes = writes_head c host sink sink' 0 (subst (λ (d : Device). Appends sink.bytes d.bytes []) kept (appends_none sink.bytes));
+}
+
+-- ---- where it is cut off
+
+-- a first part that has the first lines
+behind_head : (head lines part rest : Bytes) → part ++ rest ≡ head ++ lines → length head ≤ length part → (more : Bytes) × (head ++ more ≡ part) × (more ++ rest ≡ lines)
+behind_head head lines part rest is long =
+    let front = split_front head lines part rest (sym is) long in
+    let more : Bytes = front.0 in
+    let joined : head ++ (more ++ rest) ≡ head ++ lines = sym (append_assoc head more rest) ∙ ap (λ (t : Bytes). t ++ rest) front.1 ∙ is in
+    (more, front.1, sym (drop_at head (more ++ rest) (length head) refl) ∙ ap (drop (length head)) joined ∙ drop_at head lines (length head) refl)
+
+front_is_left : (c : Config) (host : ℕ) (es : List Event) (written part rest : Bytes) → SettingsFit c → host < host_count c.shape → AllByRecursion EventFits es → (writes : WritesFront c host es (Some []) (Some written))
+    → part ++ rest ≡ written → length (record_head c host) ≤ length part → length part ≤ max_record → IsLeft c host es part
+front_is_left c host es written part rest settings there of_bytes writes is long within =
+    let lines = lines_of (host_of c host) [] es in
+    let whole : part ++ (rest ++ writes.rest) ≡ record_head c host ++ lines =
+    sym (append_assoc part rest writes.rest) ∙ ap (λ (t : Bytes). t ++ writes.rest) (is ∙ writes.written) ∙ writes.whole in
+    let behind = behind_head (record_head c host) lines part (rest ++ writes.rest) whole long in
+    record {
+      settings = settings;
+      there = there;
+      of_bytes = of_bytes;
+      part = behind.0;
+      rest = rest ++ writes.rest;
+      whole = behind.2;
+      text_is = sym behind.1;
+      within = within;
+    }
+
+pub parts_are_left : (c : Config) (host : ℕ) (es : List Event) (written : Bytes) (old new : Option Bytes) → SettingsFit c → host < host_count c.shape → AllByRecursion EventFits es → WritesFront c host es old new → old ≡ Some [] → new ≡ Some written
+    → LeavesParts c host es written
+parts_are_left c host es written old new settings there of_bytes writes empty all part rest joined long within =
+    let known : WritesFront c host es (Some []) (Some written) =
+    subst (λ (o : Option Bytes). WritesFront c host es o (Some written)) empty (subst (λ (o : Option Bytes). WritesFront c host es old o) all writes) in
+    front_is_left c host es written part rest settings there of_bytes known joined long within
+
+pub nodes_leave_records : NodesLeaveRecords
+nodes_leave_records text c host budget status sink sink' before after written is there serves empty all =
+    let w = writes_front c host budget status sink sink' before after serves in
+    (w.receives, w.received, parts_are_left c host (events_of c host w.receives) written sink.bytes sink'.bytes (settings_fit text c is) there w.of_bytes w.writes empty all)
 
 -- ---- what is answered to it
 

@@ -1,3 +1,4 @@
 pub mod Records
 pub mod Nodes
+pub mod Journals
 pub mod Written

@@ -1,5 +1,6 @@
 -- What a node does with a config: its link, its record, and how it ends.
 use Rattle.std.specs.Prelude.{◌≡◌, ℕ, ◌≤◌, ◌<◌, Bool, false, List, [], ◌∷◌, ◌++◌, length, reverse, Option, Result, Ok, Err, ◌⊎◌}
+use Rattle.std.specs.List.{AllByRecursion}
 use Rattle.std.specs.Io.KnownBytes.{Appends}
 use Rattle.mb_base.specs.Shapes.{Bytes, host_count}
 use Rattle.mb_edge.specs.Faults.{Rose}
@@ -8,7 +9,7 @@ use Rattle.mb_edge.specs.Told.{with_more}
 use Rattle.mb_msg.specs.declared.event.Event.{Event}
 use Rattle.mb_node.specs.declared.stops.ServeStop.{ServeStop}
 use Rattle.mb_node.specs.declared.stops.ServeStop.TheVariants as stop
-use Rattle.mb_node.specs.Receives.{Receives}
+use Rattle.mb_node.specs.Receives.{Receives, ReceiveFits}
 use Rattle.mb_node.specs.Events.{has_stop, events}
 use Rattle.mb_node.specs.Recording.{lines_of}
 use Rattle.mb_node.specs.Outside.{Outside, Adds}
@@ -31,6 +32,8 @@ served_status (Ok _) = 0
 served_status (Err (stop.Budget n)) = 9
 served_status (Err stop.LinkFault) = 7
 served_status (Err stop.SinkFault) = 6
+served_status (Err stop.DiskFault) = 14
+served_status (Err (stop.Full length)) = 15
 served_status (Err stop.NoMemory) = 4
 
 -- a device failed, or memory ran out
@@ -39,10 +42,11 @@ Fails fault status before now = ((status ≡ fault) × Rose before now) ⊎ (sta
 
 -- a host of a config
 module _ (c : Config) (host : ℕ) where
-  -- The link was opened once, at the config's port under the host's number, and then these were received.
+  -- The link was opened once, at the config's port under the host's number, and then these were received, each datagram of bytes.
   pub record HasListened (before after : LinkState) (receives : Receives) : Type 0 where
     pub opens : after.opens ≡ with_more before.opens ((c.port, host) ∷ [])
     pub received : after.received ≡ with_more before.received (reverse receives)
+    pub of_bytes : AllByRecursion ReceiveFits receives
 
   abbrev pub events_of : Receives → List Event
   events_of receives = events (host_of c host) [] receives
@@ -58,8 +62,12 @@ module _ (c : Config) (host : ℕ) where
     pub head : Appends sink.bytes begun (record_head c host)
     pub part : AreCutOff (host_of c host) [] (record { written = begun; sent = before.sent }) (outside sink' after) halted es
 
-  -- With so many receives at most, serving ends by a right STOP, or behind all receives, or on the way. It may also fail before: while the record's first lines are written, or
-  -- before the link is open.
+  -- It failed before the first receive: while these first lines of the record were written, or before the link was open.
+  pub data IsUnbegun (head : Bytes) (status : ℕ) (sink sink' : Device) (before after : LinkState) : Type 0 where
+    headless : Fails 6 status sink.faults sink'.faults → HasListened before after [] → after.sent ≡ before.sent → AppendsPart head sink.bytes sink'.bytes → IsUnbegun head status sink sink' before after
+    unopened : Fails 7 status before.faults after.faults → sink ≡ sink' → after.opens ≡ before.opens → after.received ≡ before.received → after.sent ≡ before.sent → IsUnbegun head status sink sink' before after
+
+  -- With so many receives at most, serving ends by a right STOP, or behind all receives, or on the way. It may also fail before.
   pub data Serves (budget status : ℕ) (sink sink' : Device) (before after : LinkState) : Type 0 where
     stopped : (receives : Receives) → status ≡ 0 → HasListened before after receives → IsWhole sink sink' before after (events_of receives) → EndsByStop (host_of c host) [] receives → length receives ≤ budget
         → Serves budget status sink sink' before after
@@ -67,13 +75,12 @@ module _ (c : Config) (host : ℕ) where
         → length receives ≡ budget → Serves budget status sink sink' before after
     cut_short : (receives : Receives) → Fails 7 status before.faults after.faults ⊎ Fails 6 status sink.faults sink'.faults → HasListened before after receives → IsCutShort sink sink' before after (events_of receives)
         → length receives ≤ budget → Serves budget status sink sink' before after
-    headless : Fails 6 status sink.faults sink'.faults → HasListened before after [] → after.sent ≡ before.sent → AppendsPart (record_head c host) sink.bytes sink'.bytes → Serves budget status sink sink' before after
-    unopened : Fails 7 status before.faults after.faults → sink ≡ sink' → after.opens ≡ before.opens → after.received ≡ before.received → after.sent ≡ before.sent → Serves budget status sink sink' before after
+    unbegun : IsUnbegun (record_head c host) status sink sink' before after → Serves budget status sink sink' before after
 
 -- what comes of beginning: an open link and the record's first lines, or an end before any receive
 abbrev pub Begins : Config → ℕ → Result (Unit {0}) ServeStop → Device → Device → LinkState → LinkState → Type 0
 Begins c host (Ok done) sink sink' before after = HasListened c host before after [] × (after.sent ≡ before.sent) × Appends sink.bytes sink'.bytes (record_head c host)
-Begins c host (Err e) sink sink' before after = (budget : ℕ) → Serves c host budget (served_status (Err e)) sink sink' before after
+Begins c host (Err e) sink sink' before after = IsUnbegun c host (record_head c host) (served_status (Err e)) sink sink' before after
 
 -- A host of the config's system serves, or the system has none of this number.
 pub data HostServes (c : Config) (host budget status : ℕ) (sink sink' : Device) (before after : LinkState) : Type 0 where

@@ -1,18 +1,25 @@
 -- What a node writes, also where it was cut off: a record of its host's own steps, as far as it has whole pairs of lines.
-use Rattle.std.specs.Prelude.{◌≡◌, ℕ, ◌≤◌, ◌<◌, ◌⊎◌, ◌++◌, List, [], length, Option}
+use Rattle.std.specs.Prelude.{◌≡◌, ℕ, ◌≤◌, ◌<◌, ◌⊎◌, ◌++◌, List, [], length, reverse, Option, Some}
 use Rattle.std.specs.List.{flat_map, AllByRecursion}
 use Rattle.std.specs.Io.KnownBytes.{Appends}
 use Rattle.mb_base.specs.Shapes.{Bytes, host_count}
+use Rattle.mb_edge.specs.Told.{with_more}
 use Rattle.mb_msg.specs.declared.event.Event.{Event}
+use Rattle.mb_journal.specs.Keeping.{JournalState}
+use Rattle.mb_node.specs.Receives.{Receives}
+use Rattle.mb_node.specs.Events.{events}
 use Rattle.mb_node.specs.Recording.{entries_of, lines_of}
 use Rattle.mb_sched.specs.declared.configs.Config.{Config}
 use Rattle.mb_sched.specs.declared.records.Entry.{Entry}
 use Rattle.mb_sched.specs.declared.records.Record.{Record}
 use Rattle.mb_sched.specs.Configs.{SettingsFit}
 use Rattle.mb_sched.specs.Records.{max_record, record_head, entry_text, EventFits, IsShort}
-use Rattle.mb_answer.specs.Devices.{Device}
+use Rattle.mb_answer.specs.Configs.{IsConfigText}
+use Rattle.mb_answer.specs.Devices.{Device, LinkState}
 use Rattle.mb_answer.specs.Records.{IsRecordText}
+use Rattle.mb_serving.specs.Nodes.{events_of, Serves}
 use Rattle.mb_serving.specs.Records.{host_of, IsOwnRecord, same_text}
+use Rattle.mb_serving.specs.Journals.{DiskState, start_of, ServesBehind}
 
 -- a host of a config
 module _ (c : Config) (host : ℕ) where
@@ -35,6 +42,13 @@ module _ (c : Config) (host : ℕ) where
     pub whole : part ++ rest ≡ record_head c host ++ lines_of (host_of c host) [] es
     pub written : Appends old new part
 
+  -- A first part was written of the record's first lines and the lines of what was received. All events of that are of bytes.
+  pub record WritesReceived (before after : LinkState) (old new : Option Bytes) : Type 0 where
+    pub receives : Receives
+    pub received : after.received ≡ with_more before.received (reverse receives)
+    pub of_bytes : AllByRecursion EventFits (events_of c host receives)
+    pub writes : WritesFront (events_of c host receives) old new
+
   -- The text is what the host left of these events: the record's first lines, and a first part of what stands behind them.
   pub record IsLeft (es : List Event) (text : Bytes) : Type 0 where
     pub settings : SettingsFit c
@@ -46,7 +60,23 @@ module _ (c : Config) (host : ℕ) where
     pub text_is : text ≡ record_head c host ++ part
     pub within : length text ≤ max_record
 
+  -- Each first part of what was written that has the record's first lines and at most the length of a record is what the host left of these events.
+  abbrev pub LeavesParts : List Event → Bytes → Type 0
+  LeavesParts es written = (part rest : Bytes) → part ++ rest ≡ written → length (record_head c host) ≤ length part → length part ≤ max_record → IsLeft es part
+
 -- What a node left is answered by how many of its events have whole pairs of lines, unless memory runs out or a device fails.
 abbrev pub RetracesLeft : Bytes → ℕ → Type 0 → Device → Device → Type 0
 RetracesLeft text status fault old new = (c : Config) (host : ℕ) (es : List Event) (left : IsLeft c host es text) → ¬ fault
     → (status ≡ 4) ⊎ ((status ≡ 0) × ((own : IsOwnSoFar c host es left.part) × Appends old.bytes new.bytes (same_text (length own.read.entries))))
+
+-- However a node ends, what it wrote is what its host left of the events that it received.
+abbrev pub NodesLeaveRecords : Type 0
+NodesLeaveRecords = (text : Bytes) (c : Config) (host budget status : ℕ) (sink sink' : Device) (before after : LinkState) (written : Bytes) → IsConfigText text c → host < host_count c.shape → Serves c host budget status sink sink' before after
+    → sink.bytes ≡ Some [] → sink'.bytes ≡ Some written
+    → (receives : Receives) × (after.received ≡ with_more before.received (reverse receives)) × LeavesParts c host (events_of c host receives) written
+
+-- So it is where the node has a journal: of the journal's events, where these are of bytes, and of those that it received behind them.
+abbrev pub KeptNodesLeaveRecords : Type 0
+KeptNodesLeaveRecords = (text : Bytes) (c : Config) (host budget status : ℕ) (kept : List Event) (journal : JournalState) (sink sink' : Device) (l l' : LinkState) (opened after : DiskState) (written : Bytes) → IsConfigText text c → host < host_count c.shape
+    → AllByRecursion EventFits kept → ServesBehind c host kept journal budget status sink sink' l l' opened after → sink.bytes ≡ Some [] → sink'.bytes ≡ Some written
+    → (receives : Receives) × (l'.received ≡ with_more l.received (reverse receives)) × LeavesParts c host (events (host_of c host) (start_of c host kept) receives ++ reverse kept) written

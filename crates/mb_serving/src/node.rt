@@ -1,16 +1,18 @@
 //! The word `node`: a host of a config's system that serves over a link, and the record of what it does.
 
-ghost use Rattle.std.specs.Prelude.{◌≡◌, ◌+◌, ◌<◌, Contains, IfSome, IsErrOf};
+ghost use Rattle.std.specs.Prelude.{◌≡◌, ◌+◌, ◌<◌, Contains, IfErr, IfSome, IsErrOf};
 ghost use Rattle.std.specs.Io.KnownBytes.{IsAtEnd};
 ghost use Rattle.mb_base.specs.Shapes.{host_count};
 ghost use Rattle.mb_edge.specs.Faults.{TellsFaults};
 ghost use Rattle.mb_edge.specs.Pieces.{ConsumesBetween};
 ghost use Rattle.mb_sched.specs.Configs.{max_config};
+ghost use Rattle.mb_node.specs.Stops.{IsOfDisk};
 ghost use Rattle.mb_answer.specs.Devices.{device, link_state};
 ghost use Rattle.mb_serving.specs.Nodes.{served_status, Begins, Serves, HostServes, Nodes, IsNodeStatus, serving_statuses, node_statuses};
 
 use mb_answer::{
-    BUDGET, DONE, LINK_FAULT, NO_MEMORY, SINK_FAULT, USAGE, USAGE_TEXT, config_from, say,
+    BUDGET, DISK_FAULT, DONE, JOURNAL_FULL, LINK_FAULT, NO_MEMORY, SINK_FAULT, USAGE, USAGE_TEXT,
+    config_from, say,
 };
 use mb_base::Host;
 use mb_core::Replica;
@@ -21,7 +23,7 @@ use mb_sched::{Config, print_record_head};
 use std::alloc::Global;
 
 /// The status of how serving ended.
-fn served_status(ended: Result<(), ServeStop>) -> u8
+pub(crate) fn served_status(ended: Result<(), ServeStop>) -> u8
     ensures { result ≡ served_status ended }
 {
     match ended {
@@ -29,12 +31,14 @@ fn served_status(ended: Result<(), ServeStop>) -> u8
         Err(ServeStop::Budget { .. }) => BUDGET,
         Err(ServeStop::LinkFault) => LINK_FAULT,
         Err(ServeStop::SinkFault) => SINK_FAULT,
+        Err(ServeStop::DiskFault) => DISK_FAULT,
+        Err(ServeStop::Full { .. }) => JOURNAL_FULL,
         Err(ServeStop::NoMemory) => NO_MEMORY,
     }
 }
 
 /// Opens the link, and writes what a record begins with.
-fn begin<K: Sink, L: Link>(
+pub(crate) fn begin<K: Sink, L: Link>(
     alloc: Global,
     config: &Config,
     host: Host,
@@ -43,6 +47,7 @@ fn begin<K: Sink, L: Link>(
 ) -> Result<(), ServeStop>
     ensures begins { Begins config.now host result (device (K.written sink.old) (K.faults sink.old)) (device (K.written sink.new) (K.faults sink.new))
         (link_state (L.received link.old) (L.sent link.old) (L.opens link.old) (L.faults link.old)) (link_state (L.received link.new) (L.sent link.new) (L.opens link.new) (L.faults link.new)) }
+    ensures alone { IfErr result (λ s. ¬ IsOfDisk s) }
     ensures sink { TellsFaults (K.never_fails sink.old) (K.never_fails sink.new) (K.faults sink.old) (K.faults sink.new) (IsErrOf result ServeStop.SinkFault) }
     ensures link { TellsFaults (L.never_fails link.old) (L.never_fails link.new) (L.faults link.old) (L.faults link.new) (IsErrOf result ServeStop.LinkFault) }
 {
@@ -64,6 +69,7 @@ fn run_node<K: Sink, L: Link>(
     requires { host < host_count config.now.shape }
     ensures serves { Serves config.now host events (served_status result) (device (K.written sink.old) (K.faults sink.old)) (device (K.written sink.new) (K.faults sink.new))
         (link_state (L.received link.old) (L.sent link.old) (L.opens link.old) (L.faults link.old)) (link_state (L.received link.new) (L.sent link.new) (L.opens link.new) (L.faults link.new)) }
+    ensures alone { IfErr result (λ s. ¬ IsOfDisk s) }
     ensures sink { TellsFaults (K.never_fails sink.old) (K.never_fails sink.new) (K.faults sink.old) (K.faults sink.new) (IsErrOf result ServeStop.SinkFault) }
     ensures link { TellsFaults (L.never_fails link.old) (L.never_fails link.new) (L.faults link.old) (L.faults link.new) (IsErrOf result ServeStop.LinkFault) }
 {

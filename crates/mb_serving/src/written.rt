@@ -12,21 +12,32 @@ ghost use Rattle.mb_answer.specs.Configs.{IsConfigText};
 ghost use Rattle.mb_answer.specs.Devices.{Device, LinkState};
 ghost use Rattle.mb_serving.specs.Nodes.{Serves};
 ghost use Rattle.mb_serving.specs.Records.{host_of};
-ghost use Rattle.mb_serving.specs.Written.{IsOwnSoFar, WritesFront};
+ghost use Rattle.mb_serving.specs.Written.{IsOwnSoFar, WritesReceived, NodesLeaveRecords, KeptNodesLeaveRecords};
 
 /// The config of a text keeps the limits of its lines.
 pub fn read_configs_keep_limits()
     ensures { (text : Bytes) (c : Config) → IsConfigText text c → SettingsFit c }
 {}
 
-/// However a node ends, it has written a first part of a record's first lines and the lines of some events.
+/// However a node ends, it has written a first part of a record's first lines and the lines of the events that it received, all of them of bytes.
 pub fn nodes_write_records()
     ensures { (c : Config) (host budget status : ℕ) (sink sink' : Device) (before after : LinkState) → Serves c host budget status sink sink' before after
-        → (es : List Event) × WritesFront c host es sink.bytes sink'.bytes }
+        → WritesReceived c host before after sink.bytes sink'.bytes }
 {}
 
 /// From the end of the record's first lines on, each first part of what a host writes is read as a record of its own entries.
 pub fn written_records_are_own()
     ensures { (c : Config) (host : ℕ) (es : List Event) (part rest : Bytes) → SettingsFit c → host < host_count c.shape → AllByRecursion EventFits es
         → part ++ rest ≡ lines_of (host_of c host) [] es → length (record_head c host ++ part) ≤ max_record → IsOwnSoFar c host es part }
+{}
+
+/// What a node writes by the text of a config is what its host left, wherever it is cut off behind the record's first lines: `retrace` answers it with how many
+/// of the events received have whole pairs of lines there.
+pub fn what_nodes_write_is_left()
+    ensures { NodesLeaveRecords }
+{}
+
+/// So it is of a node that was started again from its journal: `retrace` answers its record too, which begins with the journal's events.
+pub fn what_kept_nodes_write_is_left()
+    ensures { KeptNodesLeaveRecords }
 {}

@@ -26,14 +26,17 @@ const BY_SIGNAL: u8 = 255;
 /// One program, started again and again. It tells nothing of its content.
 ///
 /// A start fails where the file for the output is there already, and where the child has ended before its output began or needs more than five seconds for
-/// that. A child that has not ended five seconds after the first wait began is ended by a signal.
+/// that. The first one fails, too, where any file is there that is to be new for the children. A child that has not ended five seconds after the first wait
+/// began is ended by a signal.
 #[derive(Drop)]
-pub struct ChildSpawner<R: Processes> {
+pub struct ChildSpawner<'a, R: Processes> {
     rt: R,
     alloc: Global,
     path: String,
     /// The number of this process, by which a child knows who started it.
     own: u32,
+    /// Files of which none may be there before the first start.
+    new_files: &'a [&'a str],
     children: Vec<process::Child<R::Started>>,
     /// How often waits still look whether a child has ended by itself.
     looks: u32,
@@ -41,9 +44,16 @@ pub struct ChildSpawner<R: Processes> {
     bad_ends: u64,
 }
 
-impl<R: Processes> ChildSpawner<R> {
-    /// A spawner of the program at `path`, which has started nothing yet. The process that starts has the number `own`.
-    pub fn new(rt: R, alloc: Global, path: String, own: u32) -> ChildSpawner<R>
+impl<'a, R: Processes> ChildSpawner<'a, R> {
+    /// A spawner of the program at `path`, which has started nothing yet. The process that starts has the number `own`. Nothing is started where one of
+    /// `new_files` is there already.
+    pub fn new(
+        rt: R,
+        alloc: Global,
+        path: String,
+        own: u32,
+        new_files: &'a [&'a str],
+    ) -> ChildSpawner<'a, R>
         ensures faults { result.faults ≡ 0 }
         ensures bad_ends { result.bad_ends ≡ 0 }
     {
@@ -52,6 +62,7 @@ impl<R: Processes> ChildSpawner<R> {
             alloc,
             path,
             own,
+            new_files,
             children: Vec::new(alloc),
             looks: LOOKS,
             faults: 0,
@@ -115,12 +126,28 @@ fn command_of(alloc: Global, path: &str, words: &[String]) -> Result<Command, Al
     Ok(command)
 }
 
+/// Tells on standard error that a file is there already.
+fn tell_there<R: Eprint>(rt: &R, file: &str) -> io::Result<()> {
+    eprintln!(rt; "{file} is there already and is not overwritten")
+}
+
+/// Fails where one of these files is there already, and tells it on standard error.
+fn none_is_there<R: Files + Eprint>(rt: &R, files: &[&str]) -> io::Result<()> {
+    for file in files {
+        if fs::exists(rt, *file)? {
+            tell_there(rt, *file)?;
+            return Err(io::Error::from(ErrorKind::AlreadyExists));
+        }
+    }
+    Ok(())
+}
+
 /// The file for a child's output. One that is there already is never overwritten, and that is told on standard error.
 fn new_file<R: Files<File = File> + Eprint>(rt: &R, output: &str) -> io::Result<File> {
     let opened = rt.open_file(OpenOptions::new().write(true).create_new(true), output);
     match opened {
         Err(e) if e.kind() == ErrorKind::AlreadyExists => {
-            eprintln!(rt; "{output} is there already and is not overwritten")?;
+            tell_there(rt, output)?;
             Err(e)
         }
         opened => opened,
@@ -250,7 +277,23 @@ fn status_of(status: ExitStatus) -> u8
     }
 }
 
-impl<R: Files<File = File> + Processes + Clock + Eprint> Spawner for ChildSpawner<R> {
+impl<'a, R: Files<File = File> + Processes + Clock + Eprint> ChildSpawner<'a, R> {
+    /// Starts a child. Before the first one no file may be there that is to be new.
+    fn begin(
+        &self,
+        words: &[String],
+        input: &[u8],
+        output: &str,
+    ) -> io::Result<process::Child<R::Started>> {
+        if self.children.is_empty() {
+            none_is_there(&self.rt, self.new_files)?;
+        }
+        let command = command_by(self.alloc, &self.path, words, self.own)?;
+        started(&self.rt, command, input, output)
+    }
+}
+
+impl<'a, R: Files<File = File> + Processes + Clock + Eprint> Spawner for ChildSpawner<'a, R> {
     ghost starts = { λ _. None };
 
     ghost waits = { λ _. None };
@@ -265,11 +308,7 @@ impl<R: Files<File = File> + Processes + Clock + Eprint> Spawner for ChildSpawne
         let Ok(()) = self.children.reserve(1) else {
             return Err(Failed::NoMemory);
         };
-        let command = match command_by(self.alloc, &self.path, words, self.own) {
-            Ok(command) => command,
-            Err(error) => return Err(self.cause_of(&error)),
-        };
-        match started(&self.rt, command, input, output) {
+        match self.begin(words, input, output) {
             Ok(child) => {
                 let number = self.children.len() as u64;
                 self.children.push_reserved(child);

@@ -1,5 +1,5 @@
-use mb_edge::{Failed, Got, Link, ReadStop, Sink, Source, Spawner, read_all};
-use mb_system::{ChildSpawner, StdSink, StdSource, UdpLink};
+use mb_edge::{Disk, Failed, Got, Link, ReadStop, Sink, Source, Spawner, read_all};
+use mb_system::{ChildSpawner, FileDisk, StdSink, StdSource, UdpLink};
 use std::io::{ErrorKind, Read, Write};
 use std::os::unix::process::parent_id;
 use std::test::Fail;
@@ -159,7 +159,7 @@ fn children_get_their_words_and_input_and_tell_their_ends(rt: HostRuntime) -> Re
         ("echo $MINBFT_STARTED_BY; exec sleep 60", 255, "12345\n"),
     ];
     let path = String::from_str(rt.alloc(), "/bin/sh")?;
-    let mut spawner = ChildSpawner::new(&rt, rt.alloc(), path, 12345);
+    let mut spawner = ChildSpawner::new(&rt, rt.alloc(), path, 12345, &[]);
     for (script, status, text) in rows {
         let words = shell(&rt, script)?;
         match spawner.start(&words, b"some bytes", "child.out") {
@@ -177,7 +177,7 @@ fn children_get_their_words_and_input_and_tell_their_ends(rt: HostRuntime) -> Re
 #[test]
 fn a_child_that_does_not_come_to_work_is_a_fault(rt: HostRuntime) -> Result<(), Fail> {
     let path = String::from_str(rt.alloc(), "/bin/sh")?;
-    let mut spawner = ChildSpawner::new(&rt, rt.alloc(), path, 12345);
+    let mut spawner = ChildSpawner::new(&rt, rt.alloc(), path, 12345, &[]);
     let silent = shell(&rt, "exit 0")?;
     assert_eq!(rt;
         spawner.start(&silent, b"", "silent.out"),
@@ -193,5 +193,52 @@ fn a_child_that_does_not_come_to_work_is_a_fault(rt: HostRuntime) -> Result<(), 
     let found = fs::read_to_string(&rt, "taken.out")?;
     assert_eq!(rt; found.as_str(), "kept");
     assert_eq!(rt; spawner.wait(0), Err(Failed::Device));
+    Ok(())
+}
+
+#[test]
+fn nothing_is_started_where_a_later_file_is_there(rt: HostRuntime) -> Result<(), Fail> {
+    let path = String::from_str(rt.alloc(), "/bin/sh")?;
+    let files = ["early.out", "late.out"];
+    let mut spawner = ChildSpawner::new(&rt, rt.alloc(), path, 12345, &files);
+    let words = shell(&rt, "echo x")?;
+    fs::write(&rt, "late.out", b"kept")?;
+    assert_eq!(rt;
+        spawner.start(&words, b"", "early.out"),
+        Err(Failed::Device)
+    );
+    assert!(rt; !fs::exists(&rt, "early.out")?);
+    fs::remove_file(&rt, "late.out")?;
+    for (child, file) in [(0, "early.out"), (1, "late.out")] {
+        assert_eq!(rt; spawner.start(&words, b"", file), Ok(child));
+        assert_eq!(rt; spawner.wait(child), Ok(0));
+        fs::remove_file(&rt, file)?;
+    }
+    Ok(())
+}
+
+#[test]
+fn a_file_keeps_what_was_written_and_synced(rt: HostRuntime) -> Result<(), Fail> {
+    let _ = fs::remove_file(&rt, "disk");
+    let mut disk = FileDisk::new(&rt);
+    let mut into = [9u8; 4];
+    let counts = (disk.len(), disk.read_at(0, &mut into));
+    assert!(rt; counts == (Err(Failed::Device), Err(Failed::Device)));
+    let done = [
+        disk.write_at(0, &[1]),
+        disk.sync(),
+        disk.open("no folder/disk"),
+    ];
+    assert!(rt; done == [Err(Failed::Device); 3]);
+    disk.open("disk")?;
+    assert!(rt; disk.len() == Ok(0));
+    disk.write_at(2, &[4, 5])?;
+    disk.write_at(0, &[1])?;
+    disk.sync()?;
+    let mut again = FileDisk::new(&rt);
+    again.open("disk")?;
+    let counts = (again.len(), again.read_at(1, &mut into));
+    assert!(rt; counts == (Ok(4), Ok(3)) && into == [0, 4, 5, 9]);
+    assert!(rt; again.read_at(4, &mut into) == Ok(0));
     Ok(())
 }

@@ -1,4 +1,4 @@
-//! Tests of the devices that the system gives: streams, sockets of this machine, and child programs. These tests alone bind ports.
+//! Tests of the devices that the system gives: streams, sockets of this machine, child programs, and files. These tests alone bind ports.
 #![tactic(auto)]
 
 #[cfg(test)]

@@ -11,3 +11,5 @@ pub mod SoakLaws
 pub mod Doing
 pub mod Blamed
 pub mod Learnt
+pub mod Rerun
+pub mod NodesInWorlds

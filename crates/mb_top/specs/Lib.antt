@@ -8,3 +8,4 @@ pub mod Outcomes
 pub mod Doings
 pub mod Blames
 pub mod Histories
+pub mod Reruns

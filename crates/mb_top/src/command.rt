@@ -1,7 +1,7 @@
 //! What the words of a command ask for.
 
 ghost use Rattle.std.specs.Prelude.{◌≡◌, [], ◌∷◌, map, string_bytes, IfSome};
-ghost use Rattle.mb_top.specs.Commands.{command_of, soak_of, node_of, cluster_of, audit_of, IsWithin};
+ghost use Rattle.mb_top.specs.Commands.{command_of, soak_of, node_of, kept_node_of, journal_of, cluster_of, audit_of, with_path_of, IsWithin};
 
 use mb_sched::{is_word, number_in};
 
@@ -23,6 +23,10 @@ pub enum Command {
     Soak { seed: u64, events: u64 },
     /// A host serves, for at most so many receives.
     Node { host: u64, events: u64 },
+    /// A host serves with a journal, for at most so many receives. Its path is the last word.
+    KeptNode { host: u64, events: u64 },
+    /// The journal of a host is made. Its path is the last word.
+    Journal { host: u64 },
     /// What a host recorded is run again.
     Retrace,
     /// A client program asks hosts that it starts, with at most so many receives for each operation.
@@ -95,6 +99,23 @@ fn node_of(host: &[u8], events: &[u8]) -> Option<Command>
     Some(Command::Node { host, events })
 }
 
+fn kept_node_of(host: &[u8], events: &[u8]) -> Option<Command>
+    ensures command { result ≡ kept_node_of host.now events.now }
+    ensures within { IfSome result IsWithin }
+{
+    let host = number_in(0, u64::MAX, host)?;
+    let events = number_in(1, MAX_BUDGET, events)?;
+    Some(Command::KeptNode { host, events })
+}
+
+fn journal_of(host: &[u8]) -> Option<Command>
+    ensures command { result ≡ journal_of host.now }
+    ensures within { IfSome result IsWithin }
+{
+    let host = number_in(0, u64::MAX, host)?;
+    Some(Command::Journal { host })
+}
+
 fn three_words(name: &[u8], first: &[u8], second: &[u8]) -> Option<Command>
     ensures command { result ≡ command_of (name.now ∷ first.now ∷ second.now ∷ []) }
     ensures within { IfSome result IsWithin }
@@ -103,6 +124,20 @@ fn three_words(name: &[u8], first: &[u8], second: &[u8]) -> Option<Command>
         soak_of(first, second)
     } else if is_word(name, b"node") {
         node_of(first, second)
+    } else if is_word(name, b"journal") {
+        journal_of(first)
+    } else {
+        None
+    }
+}
+
+/// Four words, of which the last, the path of a journal, may be any.
+fn four_words(name: &[u8], host: &[u8], events: &[u8]) -> Option<Command>
+    ensures command { result ≡ with_path_of name.now host.now events.now }
+    ensures within { IfSome result IsWithin }
+{
+    if is_word(name, b"node") {
+        kept_node_of(host, events)
     } else {
         None
     }
@@ -119,6 +154,17 @@ pub(crate) fn command_in(words: &[String]) -> Option<Command>
         [name, first, second] => {
             three_words(name.as_bytes(), first.as_bytes(), second.as_bytes())
         }
+        [name, host, events, _] => {
+            four_words(name.as_bytes(), host.as_bytes(), events.as_bytes())
+        }
         _ => None,
+    }
+}
+
+/// The path of a journal: the last word.
+pub(crate) fn path_in(words: &[String]) -> &str {
+    match words.last() {
+        Some(path) => path.as_str(),
+        None => "",
     }
 }

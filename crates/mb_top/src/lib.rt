@@ -6,12 +6,15 @@
 //! | `replay` | runs a schedule in the world of hosts that keep the key-value service |
 //! | `soak` | runs drawn events in such a world, and sums them up |
 //! | `top` | the call that `main` makes, with all that is promised of it |
+//! | `worlds` | holds no code: the host of a node with a journal in a world |
 #![tactic(auto)]
 
 mod command;
 mod replay;
 mod soak;
 mod top;
+mod worlds;
 
 pub use command::Command;
 pub use top::minbft;
+pub use worlds::nodes_are_hosts_of_worlds;

@@ -1,4 +1,4 @@
-//! The call that `main` makes: the whole program, over any source, sink, link and spawner.
+//! The call that `main` makes: the whole program, over any source, sink, link, spawner and disk.
 
 ghost use Rattle.std.specs.Prelude.{◌≡◌, ℕ, ◌≤◌, ◌<◌, ◌⊎◌, true, length, map, string_bytes, Option, Some, None, Contains, IfSome};
 ghost use Rattle.std.specs.Io.KnownBytes.{IsAtEnd};
@@ -22,6 +22,7 @@ ghost use Rattle.mb_serving.specs.Written.{RetracesLeft};
 ghost use Rattle.mb_serving.specs.Records.{Retraces, IsRetraced};
 ghost use Rattle.mb_top.specs.Soaks.{soak_of};
 ghost use Rattle.mb_serving.specs.Nodes.{Nodes, IsServed};
+ghost use Rattle.mb_serving.specs.Journals.{disk_state, MakesBy, KeptNodes, IsServedKept};
 ghost use Rattle.mb_reviewing.specs.Audits.{Audits, IsAudited, audit_findings};
 ghost use Rattle.mb_reviewing.specs.Learning.{LearnsFrom, IsLearntFrom, learn_findings};
 ghost use Rattle.mb_cluster.specs.Nodes.{spawned};
@@ -29,25 +30,28 @@ ghost use Rattle.mb_answer.specs.Clusters.{Clusters, TellsToStop, AwaitsStarted,
 ghost use Rattle.mb_top.specs.Outcomes.{ReportsOn, TellsForged, IsComplete};
 ghost use Rattle.mb_top.specs.Blames.{ConvictsRightly, TellsDisorder};
 ghost use Rattle.mb_top.specs.Histories.{LearnsTheLine};
-ghost use Rattle.mb_top.specs.Doings.{Does, IsIdle, most_read, statuses};
+ghost use Rattle.mb_top.specs.Reruns.{Reruns};
+ghost use Rattle.mb_top.specs.Doings.{Does, DoesAtDisk, IsIdle, IsDiskIdle, most_read, statuses};
 
-use crate::command::{Command, command_in};
+use crate::command::{Command, command_in, path_in};
 use crate::replay::replay;
 use crate::soak::soak;
 use mb_answer::{USAGE, USAGE_TEXT, cluster, say};
-use mb_edge::{Link, Sink, Source, Spawner};
+use mb_edge::{Disk, Link, Sink, Source, Spawner};
 use mb_reviewing::{audit_of, learn_of};
-use mb_serving::{node_of, retrace};
+use mb_serving::{kept_node, make_journal, node_of, retrace};
 use std::alloc::Global;
 
 /// Does what a command asks for, or tells how the program is used.
-fn run<S: Source, K: Sink, L: Link, P: Spawner>(
+fn run<S: Source, K: Sink, L: Link, P: Spawner, D: Disk>(
     alloc: Global,
     command: Option<Command>,
+    path: &str,
     source: &mut S,
     sink: &mut K,
     link: &mut L,
     spawner: &mut P,
+    disk: &mut D,
 ) -> u8
     requires { IfSome command IsWithin }
     ensures does { Does command result
@@ -55,7 +59,14 @@ fn run<S: Source, K: Sink, L: Link, P: Spawner>(
         (spawner_state (P.starts spawner.old) (P.waits spawner.old) (P.faults spawner.old) (P.bad_ends spawner.old)))
         (devices (device (S.left source.new) (S.faults source.new)) (device (K.written sink.new) (K.faults sink.new)) (link_state (L.received link.new) (L.sent link.new) (L.opens link.new) (L.faults link.new))
         (spawner_state (P.starts spawner.new) (P.waits spawner.new) (P.faults spawner.new) (P.bad_ends spawner.new))) }
+    ensures at_disk { DoesAtDisk command result
+        (devices (device (S.left source.old) (S.faults source.old)) (device (K.written sink.old) (K.faults sink.old)) (link_state (L.received link.old) (L.sent link.old) (L.opens link.old) (L.faults link.old))
+        (spawner_state (P.starts spawner.old) (P.waits spawner.old) (P.faults spawner.old) (P.bad_ends spawner.old)))
+        (devices (device (S.left source.new) (S.faults source.new)) (device (K.written sink.new) (K.faults sink.new)) (link_state (L.received link.new) (L.sent link.new) (L.opens link.new) (L.faults link.new))
+        (spawner_state (P.starts spawner.new) (P.waits spawner.new) (P.faults spawner.new) (P.bad_ends spawner.new)))
+        (disk_state (D.moments disk.old) (D.faults disk.old)) (disk_state (D.moments disk.new) (D.faults disk.new)) }
     ensures statuses { Contains (statuses command) result }
+    ensures disk { TellsFaults (D.never_fails disk.old) (D.never_fails disk.new) (D.faults disk.old) (D.faults disk.new) (result ≡ 14) }
     ensures limit { ConsumesBetween 0 (most_read command) (S.left source.old) (S.left source.new) }
     ensures source { TellsFaults (S.never_fails source.old) (S.never_fails source.new) (S.faults source.old) (S.faults source.new) (result ≡ 5) }
     ensures sink { TellsFaults (K.never_fails sink.old) (K.never_fails sink.new) (K.faults sink.old) (K.faults sink.new) (result ≡ 6) }
@@ -71,6 +82,10 @@ fn run<S: Source, K: Sink, L: Link, P: Spawner>(
         Some(Command::Replay) => replay(alloc, source, sink),
         Some(Command::Soak { seed, events }) => soak(alloc, seed, events, sink),
         Some(Command::Node { host, events }) => node_of(alloc, host, events, source, sink, link),
+        Some(Command::KeptNode { host, events }) => {
+            kept_node(alloc, host, events, path, source, sink, link, disk)
+        }
+        Some(Command::Journal { host }) => make_journal(alloc, host, path, source, sink, disk),
         Some(Command::Retrace) => retrace(alloc, source, sink),
         Some(Command::Cluster { turns }) => cluster(alloc, turns, source, sink, link, spawner),
         Some(Command::Audit { host }) => audit_of(alloc, host, source, sink),
@@ -79,21 +94,23 @@ fn run<S: Source, K: Sink, L: Link, P: Spawner>(
     }
 }
 
-/// The whole program: what the words ask for, over a source, a sink, a link and a spawner. The answer is the exit status.
+/// The whole program: what the words ask for, over a source, a sink, a link, a spawner and a disk. The answer is the exit status.
 ///
 /// With the word `replay` it reads a schedule from the source, runs it, and writes the report to the sink. With `soak`, a seed and a number it
 /// runs so many drawn events, and writes one line. With `retrace` it reads a record, takes the steps of its host again, and writes `same` and how many
 /// they are, or where they first differ. With `node`, a host and a number it reads a config, serves as that host over the link for so many receives, and
-/// writes its record. With `cluster` and a number it reads a config, starts a node for each host, asks them the config's operations over the link,
-/// with so many receives for each, and writes the results. With `audit` and a host's number it reads a record, and writes what its host was given shows of
-/// that host. With `learn` it reads a record, and writes the history that it proves.
-pub fn minbft<S: Source, K: Sink, L: Link, P: Spawner>(
+/// writes its record; with the path of a journal too it goes on behind the events that the journal has, and keeps each event there before it acts on it.
+/// With `journal`, a host and a path it reads a config, and makes a journal without events. With `cluster` and a number it reads a config, starts a node
+/// for each host, asks them the config's operations over the link, with so many receives for each, and writes the results. With `audit` and a host's
+/// number it reads a record, and writes what its host was given shows of that host. With `learn` it reads a record, and writes the history that it proves.
+pub fn minbft<S: Source, K: Sink, L: Link, P: Spawner, D: Disk>(
     alloc: Global,
     words: &[String],
     source: &mut S,
     sink: &mut K,
     link: &mut L,
     spawner: &mut P,
+    disk: &mut D,
 ) -> u8
     // At status 0 the source was read to its end, its bytes are the text of a schedule, nothing stood in the way of any of its events, and the
     // report after all of them was written.
@@ -150,6 +167,30 @@ pub fn minbft<S: Source, K: Sink, L: Link, P: Spawner>(
         (link_state (L.received link.old) (L.sent link.old) (L.opens link.old) (L.faults link.old)) (link_state (L.received link.new) (L.sent link.new) (L.opens link.new) (L.faults link.new))) }
     ensures node_complete { (host n : ℕ) → command_of (map string_bytes words.now) ≡ Some (Command.Node host n)
         → IfSome (S.left source.old) (λ text. IsServed text host result (Rose (S.faults source.old) (S.faults source.new) ⊎ (Rose (K.faults sink.old) (K.faults sink.new) ⊎ Rose (L.faults link.old) (L.faults link.new)))) }
+    // With the word `journal`, a host and a path: a journal of that host of the config's system is made in a file without bytes.
+    ensures journal { (host : ℕ) → command_of (map string_bytes words.now) ≡ Some (Command.Journal host)
+        → IfSome (S.left source.old) (λ text. MakesBy text host result (device (S.left source.old) (S.faults source.old)) (device (S.left source.new) (S.faults source.new))
+        (device (K.written sink.old) (K.faults sink.old)) (device (K.written sink.new) (K.faults sink.new))
+        (disk_state (D.moments disk.old) (D.faults disk.old)) (disk_state (D.moments disk.new) (D.faults disk.new))) }
+    // With the word `node`, a host, a number and the path of its journal: that host goes on where the events of the journal lead, whose entries its record
+    // begins with. Each event that follows is kept in the journal before it is acted on, so that a crash at any moment leaves a journal of the acknowledged
+    // ones in their order, with the next one or without it.
+    ensures kept_node { (host n : ℕ) → command_of (map string_bytes words.now) ≡ Some (Command.KeptNode host n)
+        → IfSome (S.left source.old) (λ text. KeptNodes text host n result (device (S.left source.old) (S.faults source.old)) (device (S.left source.new) (S.faults source.new))
+        (device (K.written sink.old) (K.faults sink.old)) (device (K.written sink.new) (K.faults sink.new))
+        (link_state (L.received link.old) (L.sent link.old) (L.opens link.old) (L.faults link.old)) (link_state (L.received link.new) (L.sent link.new) (L.opens link.new) (L.faults link.new))
+        (disk_state (D.moments disk.old) (D.faults disk.old)) (disk_state (D.moments disk.new) (D.faults disk.new))) }
+    ensures kept_node_complete { (host n : ℕ) → command_of (map string_bytes words.now) ≡ Some (Command.KeptNode host n)
+        → IfSome (S.left source.old) (λ text. IsServedKept text host result (disk_state (D.moments disk.old) (D.faults disk.old)) (Rose (S.faults source.old) (S.faults source.new)
+        ⊎ (Rose (K.faults sink.old) (K.faults sink.new) ⊎ (Rose (L.faults link.old) (L.faults link.new) ⊎ Rose (D.faults disk.old) (D.faults disk.new))))) }
+    // Where the disk tells what stands on it, that was a run of the host behind the events that the file said, with those of what was received. Whatever a
+    // crash leaves of the file, in the end or at a moment before, says the acknowledged events in their order, and behind them none but the one whose append
+    // had begun; and what was sent is a first part of what acknowledged events send. Or nothing was sent, and the file kept its events. What follows of all
+    // runs together, `mb_restart` says, and of the host in a world `nodes_are_hosts_of_worlds`.
+    ensures kept_node_runs { (host n : ℕ) → command_of (map string_bytes words.now) ≡ Some (Command.KeptNode host n)
+        → IfSome (S.left source.old) (λ text. Reruns text host
+        (link_state (L.received link.old) (L.sent link.old) (L.opens link.old) (L.faults link.old)) (link_state (L.received link.new) (L.sent link.new) (L.opens link.new) (L.faults link.new))
+        (disk_state (D.moments disk.old) (D.faults disk.old)) (disk_state (D.moments disk.new) (D.faults disk.new))) }
     // With the word `cluster` and a number: a node of each host is started, and then each operation is asked, with at most so many receives. Each
     // result that is written rests on the replies of f+1 different hosts.
     ensures cluster { (n : ℕ) → command_of (map string_bytes words.now) ≡ Some (Command.Cluster n)
@@ -205,6 +246,8 @@ pub fn minbft<S: Source, K: Sink, L: Link, P: Spawner>(
         (spawner_state (P.starts spawner.old) (P.waits spawner.old) (P.faults spawner.old) (P.bad_ends spawner.old)))
         (devices (device (S.left source.new) (S.faults source.new)) (device (K.written sink.new) (K.faults sink.new)) (link_state (L.received link.new) (L.sent link.new) (L.opens link.new) (L.faults link.new))
         (spawner_state (P.starts spawner.new) (P.waits spawner.new) (P.faults spawner.new) (P.bad_ends spawner.new))) }
+    // Only a node with a journal and the making of one use the disk.
+    ensures disk_idle { IsDiskIdle (command_of (map string_bytes words.now)) (disk_state (D.moments disk.old) (D.faults disk.old)) (disk_state (D.moments disk.new) (D.faults disk.new)) }
     // At most the bytes of the longest text and one more are taken from the source.
     ensures limit { ConsumesBetween 0 (most_read (command_of (map string_bytes words.now))) (S.left source.old) (S.left source.new) }
     // A device's status comes only where its count of faults rose, and never where the device is known not to fail.
@@ -212,8 +255,18 @@ pub fn minbft<S: Source, K: Sink, L: Link, P: Spawner>(
     ensures sink_faults { TellsFaults (K.never_fails sink.old) (K.never_fails sink.new) (K.faults sink.old) (K.faults sink.new) (result ≡ 6) }
     ensures link_faults { TellsFaults (L.never_fails link.old) (L.never_fails link.new) (L.faults link.old) (L.faults link.new) (result ≡ 7) }
     ensures spawner_faults { TellsFaults (P.never_fails spawner.old) (P.never_fails spawner.new) (P.faults spawner.old) (P.faults spawner.new) (result ≡ 8) }
+    ensures disk_faults { TellsFaults (D.never_fails disk.old) (D.never_fails disk.new) (D.faults disk.old) (D.faults disk.new) (result ≡ 14) }
     // Status 18 comes only where a node that was started ended with another status than 0.
     ensures bad_ends { TellsBadEnds (P.all_end_well spawner.old) (P.bad_ends spawner.old) (P.bad_ends spawner.new) (result ≡ 18) }
 {
-    run(alloc, command_in(words), source, sink, link, spawner)
+    run(
+        alloc,
+        command_in(words),
+        path_in(words),
+        source,
+        sink,
+        link,
+        spawner,
+        disk,
+    )
 }

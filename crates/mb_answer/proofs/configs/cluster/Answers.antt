@@ -14,7 +14,7 @@ pub returns-in-Ok-clause-told : goal.returns-in-Ok-clause-told
 returns-in-Ok-clause-told g c =
     IfSome_then (g.S.Source.left c.args.source.now) c.in-Ok.ensures.told (λ text found.
     let run = c.run_cluster-ended.ensures in
-    used c.in-Ok.config found.0 (runs_cluster c.in-Ok.config c.args.turns _ c.run_cluster-ended.result _ _ _ found.1 c.run_status.ensures run.asks run.opens run.nodes
+    used c.in-Ok.config found.0 (runs_cluster c.in-Ok.config c.args.turns _ c.run_cluster-ended.result _ _ _ found.1 c.run_status.ensures run.asks run.opens run.nodes run.order
     (cause_of c.run_cluster-ended.result _ _ run.link_faults.rose run.spawner_faults.rose (tells_both _ _ _ c.in-Ok.ensures.sink run.sink_faults (λ told. inr told)).rose run.bad_ends) run.bad_ends))
 
 pub returns-in-Ok-clause-source : goal.returns-in-Ok-clause-source

@@ -1,11 +1,12 @@
-use Rattle.std.proofs.Common.{ℕ, List, Option, subst}
+use Rattle.std.proofs.Common.{ℕ, List, Option, ◌∙◌, inl, subst}
 use Rattle.std.proofs.lemmas.Result.{err_from_is_err_and}
 use Rattle.mb_base.specs.Shapes.{Bytes}
 use Rattle.mb_cluster.specs.Hearing.{Receive, no_hearing}
 use Rattle.mb_cluster.specs.Runs.{wire}
 use Rattle.mb_cluster.specs.Steps.{AsksOps}
 use Rattle.mb_edge.proofs.FaultLemmas.{tells_as}
-use Rattle.mb_cluster.proofs.PlayLemmas.{plays_unopened, plays_unstarted, plays_asked, no_spawn_fault}
+use Rattle.mb_cluster.specs.Nodes.{AreStarted}
+use Rattle.mb_cluster.proofs.PlayLemmas.{plays_unopened, plays_unstarted, plays_asked, plays_in_no_order, plays_unasked, no_spawn_fault}
 use Rattle.mb_cluster.proofs.cluster.play.Goals as goal
 
 pub returns-in-Err-clause-plays : goal.returns-in-Err-clause-plays
@@ -40,6 +41,30 @@ returns-clause-plays g c =
     let of_received = subst (λ (r : Option (List Receive)). AsksOps config.shape config.secret config.ops c.ask_all.result (no_hearing config.shape) before after (wire r (link.sent c.open.new.self)) new w0 w1) c.open.ensures.received of_ops in
     let of_sent = subst (λ (x : Option (List (ℕ × Bytes))). AsksOps config.shape config.secret config.ops c.ask_all.result (no_hearing config.shape) before after (wire (link.received c.args.link.now) x) new w0 w1) c.open.ensures.sent of_received in
     plays_asked config c.ask_all.result before after (wire (link.received c.args.link.now) (link.sent c.args.link.now)) new w0 w1 of_sent
+
+-- ---- the order
+
+pub returns-in-Err-clause-order : goal.returns-in-Err-clause-order
+returns-in-Err-clause-order g c =
+    let link = g.L.Link in
+    plays_in_no_order c.args.config.now c.args.program.now (link.opens c.args.link.now) (link.opens c.open.new.self) (wire (link.received c.args.link.now) (link.sent c.args.link.now)) (wire (link.received c.open.new.self) (link.sent c.open.new.self))
+    (g.K.Sink.written c.args.sink.now) c.args.children.now.items (g.P.Spawner.starts c.args.spawner.now) c.open.ensures.received c.open.ensures.sent c.in-Err.ensures.opens
+
+pub returns-in_err-start_nodes-clause-order : goal.returns-in_err-start_nodes-clause-order
+returns-in_err-start_nodes-clause-order g c =
+    let link = g.L.Link in
+    plays_unasked c.args.config.now c.args.program.now (link.opens c.args.link.now) (link.opens c.open.new.self) (wire (link.received c.args.link.now) (link.sent c.args.link.now)) (wire (link.received c.open.new.self) (link.sent c.open.new.self))
+    (g.K.Sink.written c.args.sink.now) c.start_nodes.new.children.items (g.P.Spawner.starts c.args.spawner.now) (g.P.Spawner.starts c.start_nodes.new.spawner) c.open.ensures.received c.open.ensures.sent c.in-Ok.ensures.opens
+
+pub returns-clause-order : goal.returns-clause-order
+returns-clause-order g c =
+    let spawner = g.P.Spawner in
+    let config = c.args.config.now in
+    let children = c.start_nodes.new.children.items in
+    record {
+      opened = inl (c.ask_all.ensures.opens ∙ c.in-Ok.ensures.opens);
+      started = inl (subst (λ (n : ℕ). AreStarted config n children (spawner.starts c.args.spawner.now) (spawner.starts c.start_nodes.new.spawner)) c.in_ok-start_nodes.ensures.all c.start_nodes.ensures.started);
+    }
 
 pub returns-clause-spawner_faults : goal.returns-clause-spawner_faults
 returns-clause-spawner_faults g c =

@@ -2,7 +2,7 @@ use Rattle.std.proofs.Common.{refl, inl, inr, arith}
 use Rattle.std.proofs.lemmas.Result.{err_from_is_err_and}
 use Rattle.mb_cluster.specs.Runs.{wire}
 use Rattle.mb_cluster.proofs.EndLemmas.{none_awaited}
-use Rattle.mb_cluster.proofs.PlayLemmas.{cut_at_once, asks_stopped, asks_ended, asks_unstopped, ends_by_stops, nodes_at_once, nodes_ended, nodes_unstopped, nodes_stopped, waits_each}
+use Rattle.mb_cluster.proofs.PlayLemmas.{cut_at_once, in_order_at_once, stays_in_order, asks_stopped, asks_ended, asks_unstopped, ends_by_stops, nodes_at_once, nodes_ended, nodes_unstopped, nodes_stopped, waits_each}
 use Rattle.mb_cluster.proofs.cluster.run_cluster.Goals as goal
 
 -- ---- nothing was begun
@@ -200,3 +200,65 @@ returns-clause-waits g c = λ never.
     c.await_nodes-awaited.ensures.starts c.play-played.ensures.waits c.play-played.ensures.few (rw c.deref.ensures.value at c.await_nodes-awaited.ensures.some)
     (spawner.faults c.args.spawner.now) (spawner.faults c.play-played.new.spawner) (spawner.faults c.await_nodes-awaited.new.spawner) c.play-played.ensures.spawner_faults.later c.play-played.ensures.first
     (rw c.deref.ensures.value at (c.await_nodes-awaited.ensures.few never))
+
+-- ---- the order
+
+pub returns-in_err-program-clause-order : goal.returns-in_err-program-clause-order
+returns-in_err-program-clause-order g c =
+    let link = g.L.Link in
+    in_order_at_once c.args.config.now c.args.turns (link.opens c.args.link.now) (wire (link.received c.args.link.now) (link.sent c.args.link.now)) (g.K.Sink.written c.args.sink.now) (g.P.Spawner.starts c.args.spawner.now) (g.P.Spawner.waits c.args.spawner.now)
+
+pub returns-in_err-stop-clause-order : goal.returns-in_err-stop-clause-order
+returns-in_err-stop-clause-order g c =
+    let link = g.L.Link in
+    in_order_at_once c.args.config.now c.args.turns (link.opens c.args.link.now) (wire (link.received c.args.link.now) (link.sent c.args.link.now)) (g.K.Sink.written c.args.sink.now) (g.P.Spawner.starts c.args.spawner.now) (g.P.Spawner.waits c.args.spawner.now)
+
+pub returns-in_err-children-clause-order : goal.returns-in_err-children-clause-order
+returns-in_err-children-clause-order g c =
+    let link = g.L.Link in
+    in_order_at_once c.args.config.now c.args.turns (link.opens c.args.link.now) (wire (link.received c.args.link.now) (link.sent c.args.link.now)) (g.K.Sink.written c.args.sink.now) (g.P.Spawner.starts c.args.spawner.now) (g.P.Spawner.waits c.args.spawner.now)
+
+pub returns-in_err-played-clause-order : goal.returns-in_err-played-clause-order
+returns-in_err-played-clause-order g c =
+    let link = g.L.Link in
+    let sink = g.K.Sink in
+    let spawner = g.P.Spawner in
+    stays_in_order c.args.config.now c.args.turns c.in_ok-program.program c.play-played.new.program
+    (wire (link.received c.args.link.now) (link.sent c.args.link.now)) (wire (link.received c.play-played.new.link) (link.sent c.play-played.new.link)) (wire (link.received c.send-stopped.new.link) (link.sent c.send-stopped.new.link))
+    (sink.written c.args.sink.now) (sink.written c.play-played.new.sink)
+    c.in_ok-program.ensures.turns c.in_ok-program.ensures.hosts c.play-played.ensures.hosts c.in_ok-program.ensures.first c.send-stopped.ensures.received
+    (link.opens c.args.link.now) (link.opens c.play-played.new.link) (link.opens c.send-stopped.new.link) c.play-played.new.children.items
+    (spawner.starts c.args.spawner.now) (spawner.starts c.play-played.new.spawner) (spawner.starts c.await_nodes-awaited.new.spawner)
+    (spawner.waits c.args.spawner.now) (spawner.waits c.play-played.new.spawner) (spawner.waits c.await_nodes-awaited.new.spawner)
+    c.send-stopped.result c.send-stopped.ensures.opens c.await_nodes-awaited.ensures.starts c.play-played.ensures.waits (rw c.deref.ensures.value at c.await_nodes-awaited.ensures.some)
+    (c.send-stopped.ensures.sent c.args.config.now.secret c.in_ok-stop.ensures.stop) c.play-played.ensures.order
+
+pub returns-in-Ok-clause-order : goal.returns-in-Ok-clause-order
+returns-in-Ok-clause-order g c =
+    let link = g.L.Link in
+    let sink = g.K.Sink in
+    let spawner = g.P.Spawner in
+    stays_in_order c.args.config.now c.args.turns c.in_ok-program.program c.play-played.new.program
+    (wire (link.received c.args.link.now) (link.sent c.args.link.now)) (wire (link.received c.play-played.new.link) (link.sent c.play-played.new.link)) (wire (link.received c.send-stopped.new.link) (link.sent c.send-stopped.new.link))
+    (sink.written c.args.sink.now) (sink.written c.play-played.new.sink)
+    c.in_ok-program.ensures.turns c.in_ok-program.ensures.hosts c.play-played.ensures.hosts c.in_ok-program.ensures.first c.send-stopped.ensures.received
+    (link.opens c.args.link.now) (link.opens c.play-played.new.link) (link.opens c.send-stopped.new.link) c.play-played.new.children.items
+    (spawner.starts c.args.spawner.now) (spawner.starts c.play-played.new.spawner) (spawner.starts c.await_nodes-awaited.new.spawner)
+    (spawner.waits c.args.spawner.now) (spawner.waits c.play-played.new.spawner) (spawner.waits c.await_nodes-awaited.new.spawner)
+    c.send-stopped.result c.send-stopped.ensures.opens c.await_nodes-awaited.ensures.starts c.play-played.ensures.waits (rw c.deref.ensures.value at c.await_nodes-awaited.ensures.some)
+    (c.send-stopped.ensures.sent c.args.config.now.secret c.in_ok-stop.ensures.stop) c.play-played.ensures.order
+
+pub returns-clause-order : goal.returns-clause-order
+returns-clause-order g c =
+    let link = g.L.Link in
+    let sink = g.K.Sink in
+    let spawner = g.P.Spawner in
+    stays_in_order c.args.config.now c.args.turns c.in_ok-program.program c.play-played.new.program
+    (wire (link.received c.args.link.now) (link.sent c.args.link.now)) (wire (link.received c.play-played.new.link) (link.sent c.play-played.new.link)) (wire (link.received c.send-stopped.new.link) (link.sent c.send-stopped.new.link))
+    (sink.written c.args.sink.now) (sink.written c.play-played.new.sink)
+    c.in_ok-program.ensures.turns c.in_ok-program.ensures.hosts c.play-played.ensures.hosts c.in_ok-program.ensures.first c.send-stopped.ensures.received
+    (link.opens c.args.link.now) (link.opens c.play-played.new.link) (link.opens c.send-stopped.new.link) c.play-played.new.children.items
+    (spawner.starts c.args.spawner.now) (spawner.starts c.play-played.new.spawner) (spawner.starts c.await_nodes-awaited.new.spawner)
+    (spawner.waits c.args.spawner.now) (spawner.waits c.play-played.new.spawner) (spawner.waits c.await_nodes-awaited.new.spawner)
+    c.send-stopped.result c.send-stopped.ensures.opens c.await_nodes-awaited.ensures.starts c.play-played.ensures.waits (rw c.deref.ensures.value at c.await_nodes-awaited.ensures.some)
+    (c.send-stopped.ensures.sent c.args.config.now.secret c.in_ok-stop.ensures.stop) c.play-played.ensures.order

@@ -69,3 +69,13 @@ returns-clause-serves g c =
     ends_by_budget _ _ _ _ _ c.args.replica.now _ _ c.loop.replica _ _ c.loop.node c.args.events
     (subst (λ (n : ℕ). SoFar v.is_state v.after v.answer v.part_of v.restored c.args.replica.now (g.L.Link.received c.args.link.now) (record { written = g.K.Sink.written c.args.out.now; sent = g.L.Link.sent c.args.link.now })
     c.loop.replica (g.L.Link.received c.loop.link) (record { written = g.K.Sink.written c.loop.out; sent = g.L.Link.sent c.loop.link }) c.loop.node n) all c.loop.invariant.so_far)
+
+pub returns-in_err-node-clause-alone : goal.returns-in_err-node-clause-alone
+returns-in_err-node-clause-alone g c =
+    let p = err_from_is_err_and c.from_residual.result c.from_residual.ensures.1 in
+    rw (p.1, p.2) (λ of. of)
+
+pub returns-in_err-round-clause-alone : goal.returns-in_err-round-clause-alone
+returns-in_err-round-clause-alone g c =
+    let p = err_from_is_err_and c.from_residual-in_err-round.result c.from_residual-in_err-round.ensures.1 in
+    rw (p.1, p.2) (c.in_err-round.ensures.alone)

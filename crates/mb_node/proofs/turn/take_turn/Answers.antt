@@ -8,7 +8,7 @@ use Rattle.mb_edge.specs.Told.{with_more}
 use Rattle.mb_node.specs.Recording.{entry_with, lines_with, lines_at}
 use Rattle.mb_node.specs.Sends.{numbered}
 use Rattle.mb_node.specs.Outside.{SendsPart}
-use Rattle.mb_node.proofs.Faults.{link_no_budget, sink_no_budget}
+use Rattle.mb_node.proofs.Faults.{link_no_budget, sink_no_budget, link_alone, sink_alone}
 use Rattle.mb_node.proofs.Turning.{cut_none, turned_err, lines_are, sends_are, settling_is, turned, cut_sending, cut_writing}
 use Rattle.mb_node.proofs.turn.take_turn.Goals as goal
 
@@ -66,3 +66,23 @@ returns-clause-stands g c = λ me d n serves rep whole hosts host number.
     let want = c.wants.ensures me (transition me d e).left.history steps.represents in
     turned me d e s r steps n outbox.hosts outbox.host _ _ text lines (sends_are me d e s r steps outbox.hosts outbox.host n hosts host) c.send_all.new.self _ c.in_ok-write_all.ensures.all sent count c.is_stopping.ensures
     (settling_is me d e s r steps c.wants.result c.settles.result want c.settles.ensures)
+
+pub returns-in_err-step-clause-alone : goal.returns-in_err-step-clause-alone
+returns-in_err-step-clause-alone g c =
+    let p = err_from_is_err_and c.from_residual.result c.from_residual.ensures.1 in
+    rw (p.1, p.2) (λ of. of)
+
+pub returns-in_err-lines-clause-alone : goal.returns-in_err-lines-clause-alone
+returns-in_err-lines-clause-alone g c =
+    let p = err_from_is_err_and c.from_residual-in_err-lines.result c.from_residual-in_err-lines.ensures.1 in
+    rw (p.1, p.2) (λ of. of)
+
+pub returns-in_err-write_all-clause-alone : goal.returns-in_err-write_all-clause-alone
+returns-in_err-write_all-clause-alone g c =
+    let p = err_from_is_err_and c.from_residual-in_err-write_all.result c.from_residual-in_err-write_all.ensures.1 in
+    rw (p.1, p.2) (sink_alone c.in_err-write_all.field-0.0)
+
+pub returns-in_err-send_all-clause-alone : goal.returns-in_err-send_all-clause-alone
+returns-in_err-send_all-clause-alone g c =
+    let p = err_from_is_err_and c.from_residual-in_err-send_all.result c.from_residual-in_err-send_all.ensures.1 in
+    rw (p.1, p.2) (link_alone c.in_err-send_all.field-0.0)

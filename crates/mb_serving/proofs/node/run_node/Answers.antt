@@ -22,9 +22,9 @@ returns-clause-serves g c =
     let serves = kv_serves c.args.config.now c.args.host in
     let begun = c.in_ok-begin.ensures.begins in
     let is = c.serve.ensures.serves in
-    node_serves_from c.args.config.now c.args.host c.args.events _ _ _ _ _ begun.2 is.receives (heard_behind c.args.config.now c.args.host _ _ _ is.receives begun.0 c.serve.ensures.opens is.told) _ begun.1 _ c.serve.result
+    node_serves_from c.args.config.now c.args.host c.args.events _ _ _ _ _ begun.2 is.receives (heard_behind c.args.config.now c.args.host _ _ _ is.receives begun.0 c.serve.ensures.opens is.told is.of_bytes) _ begun.1 _ c.serve.result
     (is.ends me [] serves (made.stands me serves (sym c.new.ensures) (record { shape = sym made.host.0; host = sym made.host.1; secret = sym made.host.2 })) tt)
-    (λ told. (tells_both _ _ _ c.in_ok-begin.ensures.link c.serve.ensures.link (λ t. inr t)).rose told) (λ told. (tells_both _ _ _ c.in_ok-begin.ensures.sink c.serve.ensures.sink (λ t. inr t)).rose told)
+    (λ told. (tells_both _ _ _ c.in_ok-begin.ensures.link c.serve.ensures.link (λ t. inr t)).rose told) (λ told. (tells_both _ _ _ c.in_ok-begin.ensures.sink c.serve.ensures.sink (λ t. inr t)).rose told) c.serve.ensures.alone
 
 pub returns-in_err-begin-clause-sink : goal.returns-in_err-begin-clause-sink
 returns-in_err-begin-clause-sink g c =
@@ -41,3 +41,13 @@ returns-clause-sink g c = tells_both _ _ _ c.in_ok-begin.ensures.sink c.serve.en
 
 pub returns-clause-link : goal.returns-clause-link
 returns-clause-link g c = tells_both _ _ _ c.in_ok-begin.ensures.link c.serve.ensures.link (λ told. inr told)
+
+pub returns-in_err-replica-clause-alone : goal.returns-in_err-replica-clause-alone
+returns-in_err-replica-clause-alone g c =
+    let p = err_from_is_err_and c.from_residual.result c.from_residual.ensures.1 in
+    rw (p.1, p.2) (λ of. of)
+
+pub returns-in_err-begin-clause-alone : goal.returns-in_err-begin-clause-alone
+returns-in_err-begin-clause-alone g c =
+    let p = err_from_is_err_and c.from_residual-in_err-begin.result c.from_residual-in_err-begin.ensures.1 in
+    rw (p.1, p.2) (c.in_err-begin.ensures.alone)

@@ -1,9 +1,9 @@
-use Rattle.std.proofs.Common.{◌<◌, refl, arith}
+use Rattle.std.proofs.Common.{◌<◌, refl, sym, subst, arith}
 use Rattle.std.specs.Prelude.{Contains}
 use Rattle.mb_base.specs.Shapes.{host_count}
-use Rattle.mb_serving.specs.Nodes.{serves, serving_statuses}
+use Rattle.mb_serving.specs.Nodes.{serves, IsNodeStatus, serving_statuses}
 use Rattle.mb_answer.proofs.Statuses.{said_is}
-use Rattle.mb_serving.proofs.NodeLaws.{serves_as, served_known_as}
+use Rattle.mb_serving.proofs.NodeLaws.{serves_as, served_known, served_known_as}
 use Rattle.mb_serving.proofs.node.serve_as.Goals as goal
 
 pub returns-clause-serves : goal.returns-clause-serves
@@ -15,4 +15,7 @@ pub returns-then-host-from-clause-statuses : goal.returns-then-host-from-clause-
 returns-then-host-from-clause-statuses g c = said_is (Contains serving_statuses) (2, omega arith, refl) (3, omega arith, refl) _ _ _ _ _ (1, omega arith, refl) c.say.ensures.says
 
 pub returns-clause-statuses : goal.returns-clause-statuses
-returns-clause-statuses g c = served_known_as c.run_node.result _ c.served_status.ensures
+returns-clause-statuses g c = served_known_as c.run_node.result _ c.served_status.ensures c.run_node.ensures.alone
+
+pub returns-clause-known : goal.returns-clause-known
+returns-clause-known g c = subst IsNodeStatus (sym c.served_status.ensures) (served_known c.run_node.result c.run_node.ensures.alone)

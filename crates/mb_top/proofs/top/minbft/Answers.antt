@@ -10,9 +10,11 @@ use Rattle.mb_answer.proofs.ConfigLaws.{cluster_completes}
 use Rattle.mb_serving.proofs.NodeLaws.{node_completes}
 use Rattle.mb_reviewing.proofs.AuditLaws.{audit_completes}
 use Rattle.mb_reviewing.proofs.LearnLaws.{learn_completes}
+use Rattle.mb_top.specs.declared.command.Command.TheVariants.{KeptNode, Journal}
 use Rattle.mb_top.proofs.Blamed.{audits_convict, audit_tells}
 use Rattle.mb_top.proofs.Learnt.{learns_the_line}
-use Rattle.mb_top.proofs.Doing.{reads_all, is_idle, replays, replay_ends, soaks, soaks_few, nodes, retraces, clusters, audits, audit_ends, learns, learn_ends, tells_usage}
+use Rattle.mb_top.proofs.Rerun.{kept_nodes_run}
+use Rattle.mb_top.proofs.Doing.{reads_all, is_idle, replays, replay_ends, soaks, soaks_few, nodes, retraces, clusters, audits, audit_ends, learns, learn_ends, tells_usage, disk_idle, at_disk_as}
 use Rattle.mb_top.proofs.top.minbft.Goals as goal
 
 pub run-requires : goal.run-requires
@@ -125,3 +127,21 @@ returns-clause-limit g c = rw (← c.command_in.ensures.command) c.run.ensures.l
 
 pub returns-clause-statuses : goal.returns-clause-statuses
 returns-clause-statuses g c = rw (← c.command_in.ensures.command) c.run.ensures.statuses
+
+pub returns-clause-journal : goal.returns-clause-journal
+returns-clause-journal g c = λ host asked. at_disk_as _ (Some (Journal host)) _ _ _ _ _ (c.command_in.ensures.command ∙ asked) c.run.ensures.at_disk
+
+pub returns-clause-kept_node : goal.returns-clause-kept_node
+returns-clause-kept_node g c = λ host n asked.
+    IfSome_then (g.S.Source.left c.args.source.now) (at_disk_as _ (Some (KeptNode host n)) _ _ _ _ _ (c.command_in.ensures.command ∙ asked) c.run.ensures.at_disk) (λ text does. does.0)
+
+pub returns-clause-kept_node_complete : goal.returns-clause-kept_node_complete
+returns-clause-kept_node_complete g c = λ host n asked.
+    IfSome_then (g.S.Source.left c.args.source.now) (at_disk_as _ (Some (KeptNode host n)) _ _ _ _ _ (c.command_in.ensures.command ∙ asked) c.run.ensures.at_disk) (λ text does. does.1)
+
+pub returns-clause-kept_node_runs : goal.returns-clause-kept_node_runs
+returns-clause-kept_node_runs g c = λ host n asked.
+    IfSome_then (g.S.Source.left c.args.source.now) (at_disk_as _ (Some (KeptNode host n)) _ _ _ _ _ (c.command_in.ensures.command ∙ asked) c.run.ensures.at_disk) (λ text does. kept_nodes_run text host n _ _ _ _ _ _ _ _ _ does.0)
+
+pub returns-clause-disk_idle : goal.returns-clause-disk_idle
+returns-clause-disk_idle g c = rw (← c.command_in.ensures.command) (disk_idle _ _ _ _ _ _ c.run.ensures.at_disk)

@@ -5,7 +5,7 @@ use Rattle.mb_node.specs.declared.node.Node.{Node}
 use Rattle.mb_node.specs.declared.outbox.Outbox.{Outbox}
 use Rattle.mb_node.specs.Receives.{Receives}
 use Rattle.mb_node.specs.Receiving.{GivesOne}
-use Rattle.mb_node.proofs.Faults.{link_no_budget, calm_of, counts_none, counts_after, counts_as}
+use Rattle.mb_node.proofs.Faults.{link_no_budget, link_alone, calm_of, counts_none, counts_after, counts_as}
 use Rattle.mb_node.proofs.Runs.{none_counts, stopped_round, turn_stopped}
 use Rattle.mb_node.proofs.Rounding.{round_lost, round_quietly, round_cut, round_turned}
 use Rattle.mb_node.proofs.node.Node.round.Goals as goal
@@ -69,3 +69,13 @@ returns-else-turn-clause-rounds g c =
     c.in-Some.event c.in-Some.is c.take_turn.new.replica _ _ c.in_ok-turn.turn c.in_ok-turn.turn.stops refl c.in_ok-turn.ensures.runs (ap (λ (n : Node). n.receiver) counts) (rw c.if-turn.false (ap (λ (n : Node). n.quiets) counts))
     (c.in_ok-turn.ensures.who.1 ∙ ap (λ (b : Outbox). b.hosts) same) (c.in_ok-turn.ensures.who.0 ∙ ap (λ (b : Outbox). b.host) same)
     (λ me d n serves rep whole hosts host number. c.in_ok-turn.ensures.stands me d n serves rep whole (ap (λ (b : Outbox). b.hosts) same ∙ hosts) (ap (λ (b : Outbox). b.host) same ∙ host) (ap (λ (b : Outbox). b.number) same ∙ number))
+
+pub returns-in_err-arrival-clause-alone : goal.returns-in_err-arrival-clause-alone
+returns-in_err-arrival-clause-alone g c =
+    let p = err_from_is_err_and c.from_residual.result c.from_residual.ensures.1 in
+    rw (p.1, p.2) (link_alone c.in_err-arrival.field-0.0)
+
+pub returns-in_err-turn-clause-alone : goal.returns-in_err-turn-clause-alone
+returns-in_err-turn-clause-alone g c =
+    let p = err_from_is_err_and c.from_residual-in_err-turn.result c.from_residual-in_err-turn.ensures.1 in
+    rw (p.1, p.2) (c.in_err-turn.ensures.alone)

@@ -1,0 +1,4 @@
+pub mod Runs
+pub mod Restarts
+pub mod Servings
+pub mod Orders

@@ -1,0 +1,36 @@
+use Rattle.std.proofs.Common.{◌⊎◌, ◌∙◌, ap, arith}
+use Rattle.std.proofs.lemmas.Result.{err_from_is_err_and, IfOk-weaker}
+use Rattle.mb_edge.specs.Disks.{IsImage}
+use Rattle.mb_edge.proofs.FaultLemmas.{tells_as, tells_call}
+use Rattle.mb_journal.specs.Headers.{header_text}
+use Rattle.mb_journal.specs.Keeping.{JournalState}
+use Rattle.mb_journal.specs.Opening.{StaysWhole}
+use Rattle.mb_journal.proofs.Crashes.{leaves_same}
+use Rattle.mb_node.proofs.Faults.{call_calm, counts_after}
+use Rattle.mb_serving.specs.Journals.{disk_state}
+use Rattle.mb_serving.proofs.JournalLaws.{not_opened, opened_of, opening_fault}
+use Rattle.mb_serving.proofs.journals.open_in.Goals as goal
+
+pub returns-in_err-open-clause-opened : goal.returns-in_err-open-clause-opened
+returns-in_err-open-clause-opened g c =
+    let p = err_from_is_err_and c.from_residual.result c.from_residual.ensures.1 in
+    not_opened c.args.config.now c.args.host _ _ c.from_residual.result p.0 c.in_err-open.field-0.0 p.1 p.2
+    (λ old is. leaves_same (λ image. IsImage old.now image ⊎ StaysWhole (header_text c.args.config.now c.args.host) old.now.reads image) old _ (c.in_err-open.ensures.same ∙ is))
+
+pub returns-in_err-open-clause-disk : goal.returns-in_err-open-clause-disk
+returns-in_err-open-clause-disk g c =
+    let p = err_from_is_err_and c.from_residual.result c.from_residual.ensures.1 in
+    tells_as _ _ (tells_call _ _ _ c.in_err-open.ensures.cause c.in_err-open.ensures.sound c.in_err-open.ensures.quiet) (λ told. opening_fault c.in_err-open.field-0.0 p.0 c.from_residual.result p.1 p.2 told)
+
+pub returns-clause-opened : goal.returns-clause-opened
+returns-clause-opened g c =
+    let cause = c.in_ok-open.ensures.cause in
+    opened_of c.args.config.now c.args.host (disk_state (g.D.Disk.moments c.args.disk.now) (g.D.Disk.faults c.args.disk.now)) (disk_state (g.D.Disk.moments c.open-2.new.disk) (g.D.Disk.faults c.open-2.new.disk)) (g.D.Disk.moments c.open.new.self) c.open-2.result
+    c.in_ok-open.ensures.same (omega (arith, cause.later, c.open-2.ensures.faults.later)) c.open-2.ensures.journal c.open-2.ensures.events c.open-2.ensures.bad c.open-2.ensures.rests
+    (λ old is. c.open-2.ensures.any_moment old (c.in_ok-open.ensures.same ∙ is))
+
+pub returns-clause-runs : goal.returns-clause-runs
+returns-clause-runs g c = IfOk-weaker c.open-2.result _ _ (λ o is. ap (λ (j : JournalState). j.halted) is) c.open-2.ensures.journal
+
+pub returns-clause-disk : goal.returns-clause-disk
+returns-clause-disk g c = counts_after _ _ _ _ _ _ _ (call_calm _ _ _ _ _ c.in_ok-open.ensures.cause c.in_ok-open.ensures.sound c.in_ok-open.ensures.quiet) c.open-2.ensures.faults

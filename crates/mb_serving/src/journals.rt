@@ -1,0 +1,222 @@
+//! The word `journal`, and the word `node` with the path of a journal: a host that keeps each event on a disk before it acts on it.
+
+ghost use Rattle.std.specs.Prelude.{◌≡◌, ◌+◌, ◌<◌, ◌⊎◌, Contains, OnOk, IfOk, IfErr, IfSome, IsErrOf, false};
+ghost use Rattle.std.specs.List.{flat_map};
+ghost use Rattle.std.specs.Io.KnownBytes.{IsAtEnd, Appends};
+ghost use Rattle.mb_base.specs.Shapes.{host_count};
+ghost use Rattle.mb_edge.specs.Faults.{TellsFaults, Rose};
+ghost use Rattle.mb_edge.specs.Pieces.{ConsumesBetween, AppendsPart};
+ghost use Rattle.mb_sched.specs.Configs.{max_config};
+ghost use Rattle.mb_sched.specs.Records.{entry_text};
+ghost use Rattle.mb_answer.specs.Devices.{device, link_state};
+ghost use Rattle.mb_serving.specs.Nodes.{served_status};
+ghost use Rattle.mb_serving.specs.Journals.{disk_state, IsMade, SparesFile, IsOpened, Makes, MakesBy, ServesBehind, ServesKept, KeptNodes, IsOfWriting, IsServedKept, making_statuses, kept_node_statuses};
+
+use crate::node::{begin, served_status};
+use mb_answer::{
+    DISK_FAULT, DONE, NO_MEMORY, USAGE, USAGE_TEXT, bad_journal, config_from, journal_exists,
+    respond, say,
+};
+use mb_base::Host;
+use mb_core::Replica;
+use mb_edge::{Disk, Link, Sink, Source, write_all};
+use mb_journal::{Journal, MakeStop, OpenStop, Opened};
+use mb_kv::Kv;
+use mb_node::{ServeStop, replay, serve_kept};
+use mb_sched::{Config, Entry, print_entry};
+use std::alloc::Global;
+
+/// The most bytes that a node's journal may have.
+pub const JOURNAL_LIMIT: u64 = 268_435_456;
+
+/// Makes the journal of a host in the file of a path.
+fn make_in<D: Disk>(
+    alloc: Global,
+    config: &Config,
+    host: Host,
+    path: &str,
+    disk: &mut D,
+) -> Result<(), MakeStop>
+    requires { host < host_count config.now.shape }
+    ensures made { IsMade config.now host result (disk_state (D.moments disk.old) (D.faults disk.old)) (disk_state (D.moments disk.new) (D.faults disk.new)) }
+    ensures crash { SparesFile config.now host (disk_state (D.moments disk.old) (D.faults disk.old)) (disk_state (D.moments disk.new) (D.faults disk.new)) }
+    ensures disk { TellsFaults (D.never_fails disk.old) (D.never_fails disk.new) (D.faults disk.old) (D.faults disk.new) (IsErrOf result MakeStop.DiskFault) }
+{
+    disk.open(path)?;
+    Journal::make(alloc, disk, config, host)
+}
+
+/// Makes the journal of a host of a config's system, where it has one of this number.
+fn make_as<K: Sink, D: Disk>(
+    alloc: Global,
+    config: &Config,
+    host: u64,
+    path: &str,
+    sink: &mut K,
+    disk: &mut D,
+) -> u8
+    ensures makes { Makes config.now host result (device (K.written sink.old) (K.faults sink.old)) (device (K.written sink.new) (K.faults sink.new)) (disk_state (D.moments disk.old) (D.faults disk.old)) (disk_state (D.moments disk.new) (D.faults disk.new)) }
+    ensures statuses { Contains making_statuses result }
+    ensures unread { ¬ (result ≡ 5) }
+    ensures sink { TellsFaults (K.never_fails sink.old) (K.never_fails sink.new) (K.faults sink.old) (K.faults sink.new) (result ≡ 6) }
+    ensures disk { TellsFaults (D.never_fails disk.old) (D.never_fails disk.new) (D.faults disk.old) (D.faults disk.new) (result ≡ 14) }
+{
+    if host >= u64::from(config.shape.n()) {
+        return say(sink, USAGE_TEXT, USAGE);
+    }
+    match make_in(alloc, config, host as u8, path, disk) {
+        Ok(()) => DONE,
+        Err(MakeStop::Exists { length }) => respond(sink, journal_exists(alloc, length)),
+        Err(MakeStop::DiskFault) => DISK_FAULT,
+        Err(MakeStop::NoMemory) => NO_MEMORY,
+    }
+}
+
+/// Reads a config, and makes the journal of a host of its system.
+pub fn make_journal<S: Source, K: Sink, D: Disk>(
+    alloc: Global,
+    host: u64,
+    path: &str,
+    source: &mut S,
+    sink: &mut K,
+    disk: &mut D,
+) -> u8
+    ensures told { IfSome (S.left source.old) (λ text. MakesBy text host result (device (S.left source.old) (S.faults source.old)) (device (S.left source.new) (S.faults source.new))
+        (device (K.written sink.old) (K.faults sink.old)) (device (K.written sink.new) (K.faults sink.new)) (disk_state (D.moments disk.old) (D.faults disk.old)) (disk_state (D.moments disk.new) (D.faults disk.new))) }
+    ensures ended { result ≡ 0 → IsAtEnd (S.left source.new) }
+    ensures limit { ConsumesBetween 0 (max_config + 1) (S.left source.old) (S.left source.new) }
+    ensures statuses { Contains making_statuses result }
+    ensures source { TellsFaults (S.never_fails source.old) (S.never_fails source.new) (S.faults source.old) (S.faults source.new) (result ≡ 5) }
+    ensures sink { TellsFaults (K.never_fails sink.old) (K.never_fails sink.new) (K.faults sink.old) (K.faults sink.new) (result ≡ 6) }
+    ensures disk { TellsFaults (D.never_fails disk.old) (D.never_fails disk.new) (D.faults disk.old) (D.faults disk.new) (result ≡ 14) }
+{
+    match config_from(alloc, source, sink) {
+        Ok(config) => make_as(alloc, &config, host, path, sink, disk),
+        Err(status) => status,
+    }
+}
+
+/// Opens the journal of a host in the file of a path.
+fn open_in<D: Disk>(
+    alloc: Global,
+    config: &Config,
+    host: Host,
+    path: &str,
+    disk: &mut D,
+) -> Result<Opened, OpenStop>
+    requires { host < host_count config.now.shape }
+    ensures opened { IsOpened config.now host result (disk_state (D.moments disk.old) (D.faults disk.old)) (disk_state (D.moments disk.new) (D.faults disk.new)) }
+    ensures runs { IfOk result (λ opened. opened.journal.halted ≡ false) }
+    ensures disk { TellsFaults (D.never_fails disk.old) (D.never_fails disk.new) (D.faults disk.old) (D.faults disk.new) (IsErrOf result OpenStop.DiskFault) }
+{
+    disk.open(path)?;
+    Journal::open(alloc, disk, config, host, JOURNAL_LIMIT)
+}
+
+/// Writes entries.
+fn write_entries<K: Sink>(alloc: Global, entries: &[Entry], sink: &mut K) -> Result<(), ServeStop>
+    ensures all { OnOk result (Appends (K.written sink.old) (K.written sink.new) (flat_map entry_text entries.now)) }
+    ensures part { IfErr result (λ _. AppendsPart (flat_map entry_text entries.now) (K.written sink.old) (K.written sink.new)) }
+    ensures sink { TellsFaults (K.never_fails sink.old) (K.never_fails sink.new) (K.faults sink.old) (K.faults sink.new) (IsErrOf result ServeStop.SinkFault) }
+    ensures causes { IfErr result IsOfWriting }
+{
+    for entry in entries {
+        let text = print_entry(alloc, entry)?;
+        write_all(sink, text.as_slice())?;
+    }
+    Ok(())
+}
+
+/// Takes the steps of the events that a journal had at a host to which nothing has happened, and then serves as that host. Each event is kept in
+/// the journal before its step.
+fn run_kept<K: Sink, L: Link, D: Disk>(
+    alloc: Global,
+    config: &Config,
+    host: Host,
+    events: u64,
+    opened: Opened,
+    sink: &mut K,
+    link: &mut L,
+    disk: &mut D,
+) -> Result<(), ServeStop>
+    requires host { host < host_count config.now.shape }
+    requires runs { opened.journal.halted ≡ false }
+    ensures serves { ServesBehind config.now host opened.events.items opened.journal events (served_status result) (device (K.written sink.old) (K.faults sink.old)) (device (K.written sink.new) (K.faults sink.new))
+        (link_state (L.received link.old) (L.sent link.old) (L.opens link.old) (L.faults link.old)) (link_state (L.received link.new) (L.sent link.new) (L.opens link.new) (L.faults link.new)) (disk_state (D.moments disk.old) (D.faults disk.old)) (disk_state (D.moments disk.new) (D.faults disk.new)) }
+    ensures sink { TellsFaults (K.never_fails sink.old) (K.never_fails sink.new) (K.faults sink.old) (K.faults sink.new) (IsErrOf result ServeStop.SinkFault) }
+    ensures link { TellsFaults (L.never_fails link.old) (L.never_fails link.new) (L.faults link.old) (L.faults link.new) (IsErrOf result ServeStop.LinkFault) }
+    ensures disk { TellsFaults (D.never_fails disk.old) (D.never_fails disk.new) (D.faults disk.old) (D.faults disk.new) (IsErrOf result ServeStop.DiskFault) }
+{
+    let Opened {
+        mut journal,
+        events: kept,
+    } = opened;
+    let mut replica = Replica::make(alloc, config.shape, host, &config.secret, Kv::new(alloc))?;
+    let entries = replay(alloc, &mut replica, kept)?;
+    begin(alloc, config, host, sink, link)?;
+    write_entries(alloc, &entries, sink)?;
+    serve_kept(alloc, &mut replica, &mut journal, disk, link, sink, events)
+}
+
+/// Serves with a journal as a host of a config's system, where it has one of this number.
+fn serve_as<K: Sink, L: Link, D: Disk>(
+    alloc: Global,
+    config: &Config,
+    host: u64,
+    events: u64,
+    path: &str,
+    sink: &mut K,
+    link: &mut L,
+    disk: &mut D,
+) -> u8
+    ensures serves { ServesKept config.now host events result (device (K.written sink.old) (K.faults sink.old)) (device (K.written sink.new) (K.faults sink.new))
+        (link_state (L.received link.old) (L.sent link.old) (L.opens link.old) (L.faults link.old)) (link_state (L.received link.new) (L.sent link.new) (L.opens link.new) (L.faults link.new)) (disk_state (D.moments disk.old) (D.faults disk.old)) (disk_state (D.moments disk.new) (D.faults disk.new)) }
+    ensures statuses { Contains kept_node_statuses result }
+    ensures unread { ¬ (result ≡ 5) }
+    ensures sink { TellsFaults (K.never_fails sink.old) (K.never_fails sink.new) (K.faults sink.old) (K.faults sink.new) (result ≡ 6) }
+    ensures link { TellsFaults (L.never_fails link.old) (L.never_fails link.new) (L.faults link.old) (L.faults link.new) (result ≡ 7) }
+    ensures disk { TellsFaults (D.never_fails disk.old) (D.never_fails disk.new) (D.faults disk.old) (D.faults disk.new) (result ≡ 14) }
+{
+    if host >= u64::from(config.shape.n()) {
+        return say(sink, USAGE_TEXT, USAGE);
+    }
+    let host = host as u8;
+    match open_in(alloc, config, host, path, disk) {
+        Ok(opened) => served_status(run_kept(
+            alloc, config, host, events, opened, sink, link, disk,
+        )),
+        Err(OpenStop::BadJournal { at }) => respond(sink, bad_journal(alloc, at)),
+        Err(OpenStop::DiskFault) => DISK_FAULT,
+        Err(OpenStop::NoMemory) => NO_MEMORY,
+    }
+}
+
+/// Reads a config, and serves with a journal as a host of its system.
+pub fn kept_node<S: Source, K: Sink, L: Link, D: Disk>(
+    alloc: Global,
+    host: u64,
+    events: u64,
+    path: &str,
+    source: &mut S,
+    sink: &mut K,
+    link: &mut L,
+    disk: &mut D,
+) -> u8
+    ensures told { IfSome (S.left source.old) (λ text. KeptNodes text host events result (device (S.left source.old) (S.faults source.old)) (device (S.left source.new) (S.faults source.new))
+        (device (K.written sink.old) (K.faults sink.old)) (device (K.written sink.new) (K.faults sink.new))
+        (link_state (L.received link.old) (L.sent link.old) (L.opens link.old) (L.faults link.old)) (link_state (L.received link.new) (L.sent link.new) (L.opens link.new) (L.faults link.new)) (disk_state (D.moments disk.old) (D.faults disk.old)) (disk_state (D.moments disk.new) (D.faults disk.new))) }
+    ensures complete { IfSome (S.left source.old) (λ text. IsServedKept text host result (disk_state (D.moments disk.old) (D.faults disk.old)) (Rose (S.faults source.old) (S.faults source.new)
+        ⊎ (Rose (K.faults sink.old) (K.faults sink.new) ⊎ (Rose (L.faults link.old) (L.faults link.new) ⊎ Rose (D.faults disk.old) (D.faults disk.new))))) }
+    ensures ended { result ≡ 0 → IsAtEnd (S.left source.new) }
+    ensures limit { ConsumesBetween 0 (max_config + 1) (S.left source.old) (S.left source.new) }
+    ensures statuses { Contains kept_node_statuses result }
+    ensures source { TellsFaults (S.never_fails source.old) (S.never_fails source.new) (S.faults source.old) (S.faults source.new) (result ≡ 5) }
+    ensures sink { TellsFaults (K.never_fails sink.old) (K.never_fails sink.new) (K.faults sink.old) (K.faults sink.new) (result ≡ 6) }
+    ensures link { TellsFaults (L.never_fails link.old) (L.never_fails link.new) (L.faults link.old) (L.faults link.new) (result ≡ 7) }
+    ensures disk { TellsFaults (D.never_fails disk.old) (D.never_fails disk.new) (D.faults disk.old) (D.faults disk.new) (result ≡ 14) }
+{
+    match config_from(alloc, source, sink) {
+        Ok(config) => serve_as(alloc, &config, host, events, path, sink, link, disk),
+        Err(status) => status,
+    }
+}
