@@ -28,7 +28,7 @@ use Rattle.mb_node.specs.Keeping.{IsAppended, AreAppended, HasAll, LacksOne, End
 use Rattle.mb_node.proofs.Told.{part_whole, part_behind}
 use Rattle.mb_node.proofs.Runs.{sends_more}
 use Rattle.mb_restart.specs.Runs.{sent_behind, IsLeft}
-use Rattle.mb_restart.specs.Servings.{IsRunOf, IsRunMeanwhile, EndsRun, ServingsAreRuns}
+use Rattle.mb_restart.specs.Servings.{IsWholeEnd, IsRunOf, IsRunMeanwhile, EndsRun, ServingsAreRuns}
 use Rattle.mb_restart.proofs.Reopened.{resting_files_are_left}
 
 -- ---- what is left
@@ -127,78 +127,80 @@ module _ {V : Type 0} (me : Identity V) (kept : List Event) (journal journal' : 
   abbrev start : History
   start = after me (reverse kept)
 
-  abbrev IsOne : List Event → Bytes → Type 0
-  IsOne es image = IsRunOf me journal.header kept es before.sent now.sent image
+  module _ (ended : Result (Unit {0}) ServeStop) where
+    abbrev IsOne : List Event → Bytes → Type 0
+    IsOne es image = IsRunOf me journal.header kept es ended before.sent now.sent image
 
-  run_of : (acknowledged es : List Event) (begun : Option Event) (image : Bytes) → IsSent me start before now acknowledged → IsBeginning (onto begun acknowledged) es → length es ≤ length acknowledged + 1
-      → IsLeft journal.header (kept ++ reverse acknowledged) begun image → IsOne es image
-  run_of acknowledged es begun image sent earlier few left = record {
-    run = record { kept = kept; acknowledged = acknowledged; begun = begun; sent = sent_behind me (reverse kept) acknowledged; left = image };
-    kept_is = refl;
-    left_is = refl;
-    is = record { unsent = []; sends = append-nil (sent_behind me (reverse kept) acknowledged); leaves = left };
-    earlier = earlier;
-    few = few;
-    sends = subst (λ (l : List Sent). SendsPart (numbered (host_count me.shape) me.host 0 l) before.sent now.sent) (sent_is me (reverse kept) acknowledged) sent;
-  }
+    run_of : (acknowledged es : List Event) (begun : Option Event) (image : Bytes) → IsSent me start before now acknowledged → IsBeginning (onto begun acknowledged) es → length es ≤ length acknowledged + 1
+        → (IsWholeEnd ended → (acknowledged ≡ es) × (begun ≡ None)) → IsLeft journal.header (kept ++ reverse acknowledged) begun image → IsOne es image
+    run_of acknowledged es begun image sent earlier few all left = record {
+      run = record { kept = kept; acknowledged = acknowledged; begun = begun; sent = sent_behind me (reverse kept) acknowledged; left = image };
+      kept_is = refl;
+      left_is = refl;
+      is = record { unsent = []; sends = append-nil (sent_behind me (reverse kept) acknowledged); leaves = left };
+      earlier = earlier;
+      few = few;
+      all = all;
+      sends = subst (λ (l : List Sent). SendsPart (numbered (host_count me.shape) me.host 0 l) before.sent now.sent) (sent_is me (reverse kept) acknowledged) sent;
+    }
 
-  -- all events were acknowledged
-  run_all : (es : List Event) (image : Bytes) → IsSent me start before now es → IsLeft journal.header (kept ++ reverse es) None image → IsOne es image
-  run_all es image sent left = run_of es es None image sent (record { later = []; is = refl }) (omega arith) left
+    -- all events were acknowledged
+    run_all : (es : List Event) (image : Bytes) → IsSent me start before now es → IsLeft journal.header (kept ++ reverse es) None image → IsOne es image
+    run_all es image sent left = run_of es es None image sent (record { later = []; is = refl }) (omega arith) (λ whole. (refl, refl)) left
 
-  -- all but the last one
-  begins_then : (e : Event) (es : List Event) (begun : Option Event) → (begun ≡ None) ⊎ (begun ≡ Some e) → IsBeginning (onto begun es) (e ∷ es)
-  begins_then e es begun (inl none) = record { later = e ∷ []; is = ap (λ (o : Option Event). e ∷ onto o es) none }
-  begins_then e es begun (inr some) = record { later = []; is = ap (λ (o : Option Event). onto o es) some }
+    -- all but the last one, where serving stopped on the way
+    begins_then : (e : Event) (es : List Event) (begun : Option Event) → (begun ≡ None) ⊎ (begun ≡ Some e) → IsBeginning (onto begun es) (e ∷ es)
+    begins_then e es begun (inl none) = record { later = e ∷ []; is = ap (λ (o : Option Event). e ∷ onto o es) none }
+    begins_then e es begun (inr some) = record { later = []; is = ap (λ (o : Option Event). onto o es) some }
 
-  run_but_last : (e : Event) (es : List Event) (image : Bytes) → IsSent me start before now es → IsLeftThen journal.header (kept ++ reverse es) e image → IsOne (e ∷ es) image
-  run_but_last e es image sent so = run_of es (e ∷ es) so.begun image sent (begins_then e es so.begun so.only) (omega arith) so.left
+    run_but_last : (e : Event) (es : List Event) (image : Bytes) → ¬ IsWholeEnd ended → IsSent me start before now es → IsLeftThen journal.header (kept ++ reverse es) e image → IsOne (e ∷ es) image
+    run_but_last e es image partly sent so = run_of es (e ∷ es) so.begun image sent (begins_then e es so.begun so.only) (omega arith) (λ whole. absurd (partly whole)) so.left
 
-  abbrev EndsSo : List Event → Type 0
-  EndsSo es = EndsRun me journal.header kept es m before.sent now.sent told
+    abbrev EndsSo : List Event → Type 0
+    EndsSo es = EndsRun me journal.header kept es ended m before.sent now.sent told
 
-  all_moments : (es : List Event) (later : Moments) → told ≡ Some later → AreAppended journal.header kept es m later → LeavesOnly (IsRunMeanwhile me journal.header kept es) m told
-  all_moments es later is appended =
-      subst (λ (o : Option Moments). LeavesOnly (IsRunMeanwhile me journal.header kept es) m o) (sym is) (runs_meanwhile me journal.header kept es m later appended)
+    all_moments : (es : List Event) (later : Moments) → told ≡ Some later → AreAppended journal.header kept es m later → LeavesOnly (IsRunMeanwhile me journal.header kept es) m told
+    all_moments es later is appended =
+        subst (λ (o : Option Moments). LeavesOnly (IsRunMeanwhile me journal.header kept es) m o) (sym is) (runs_meanwhile me journal.header kept es m later appended)
 
-  ends_all : (es : List Event) → IsSent me start before now es → HasAll journal journal' (Some m) told es → EndsSo es
-  ends_all es sent has =
-      let x = has.keeps.keeps m refl kept rests in
-      record {
-        later = x.later;
-        told_is = x.told_is;
-        appended = x.appended;
-        each = λ image at. run_all es image sent
-            (subst (λ (h : Bytes). IsLeft h (kept ++ reverse es) None image) has.keeps.goes_on.header (resting_files_are_left journal'.header journal'.end (kept ++ reverse es) x.later.now image (x.rests has.runs) at));
-        meanwhile = all_moments es x.later x.told_is x.appended;
-      }
+    ends_all : (es : List Event) → IsSent me start before now es → HasAll journal journal' (Some m) told es → EndsSo es
+    ends_all es sent has =
+        let x = has.keeps.keeps m refl kept rests in
+        record {
+          later = x.later;
+          told_is = x.told_is;
+          appended = x.appended;
+          each = λ image at. run_all es image sent
+              (subst (λ (h : Bytes). IsLeft h (kept ++ reverse es) None image) has.keeps.goes_on.header (resting_files_are_left journal'.header journal'.end (kept ++ reverse es) x.later.now image (x.rests has.runs) at));
+          meanwhile = all_moments es x.later x.told_is x.appended;
+        }
 
-  ends_lacking : (new : Replica V) (s : ServeStop) (all : List Event) → LacksOne me start before now new s journal journal' (Some m) told all → EndsSo all
-  ends_lacking new s all lacks =
-      let x = lacks.keeps.keeps m refl kept rests in
-      subst EndsSo (sym lacks.events_are) (record {
-        later = x.later;
-        told_is = x.told_is;
-        appended = x.appended;
-        each = λ image at. run_but_last lacks.last lacks.es image (sent_done me start before now lacks.es lacks.unsent)
-            (left_by_append journal.header (kept ++ reverse lacks.es) lacks.last x.appended.0 x.later image x.appended.2 at);
-        meanwhile = all_moments (lacks.last ∷ lacks.es) x.later x.told_is x.appended;
-      })
+    ends_lacking : (new : Replica V) (s : ServeStop) (all : List Event) → ¬ IsWholeEnd ended → LacksOne me start before now new s journal journal' (Some m) told all → EndsSo all
+    ends_lacking new s all partly lacks =
+        let x = lacks.keeps.keeps m refl kept rests in
+        subst EndsSo (sym lacks.events_are) (record {
+          later = x.later;
+          told_is = x.told_is;
+          appended = x.appended;
+          each = λ image at. run_but_last lacks.last lacks.es image partly (sent_done me start before now lacks.es lacks.unsent)
+              (left_by_append journal.header (kept ++ reverse lacks.es) lacks.last x.appended.0 x.later image x.appended.2 at);
+          meanwhile = all_moments (lacks.last ∷ lacks.es) x.later x.told_is x.appended;
+        })
 
-  by_stop : (s : ServeStop) (new : Replica V) (es : List Event) → AreCutOff me start before now new.halted es
-      → (HasAll journal journal' (Some m) told es × ¬ IsOfDisk s) ⊎ LacksOne me start before now new s journal journal' (Some m) told es → EndsSo es
-  by_stop s new es cut (inl all) = ends_all es (sent_cut me start before now new.halted es cut) all.0
-  by_stop s new es cut (inr lacks) = ends_lacking new s es lacks
+    by_stop : (s : ServeStop) (new : Replica V) (es : List Event) → ¬ IsWholeEnd ended → AreCutOff me start before now new.halted es
+        → (HasAll journal journal' (Some m) told es × ¬ IsOfDisk s) ⊎ LacksOne me start before now new s journal journal' (Some m) told es → EndsSo es
+    by_stop s new es partly cut (inl all) = ends_all es (sent_cut me start before now new.halted es cut) all.0
+    by_stop s new es partly cut (inr lacks) = ends_lacking new s es partly lacks
 
   pub ends_run : (budget : ℕ) (new : Replica V) (receives : Receives) (ended : Result (Unit {0}) ServeStop) → Ends me start budget before now new receives ended
-      → EndsKept me start before now new journal journal' (Some m) told (events me start receives) ended → EndsSo (events me start receives)
-  ends_run budget new receives (Ok done) ends keeps = ends_all (events me start receives) (sent_done me start before now (events me start receives) ends.0) keeps
-  ends_run budget new receives (Err (stop.Budget n)) ends keeps = ends_all (events me start receives) (sent_done me start before now (events me start receives) ends.0) keeps
-  ends_run budget new receives (Err stop.LinkFault) ends keeps = by_stop stop.LinkFault new (events me start receives) ends.0 keeps
-  ends_run budget new receives (Err stop.SinkFault) ends keeps = by_stop stop.SinkFault new (events me start receives) ends.0 keeps
-  ends_run budget new receives (Err stop.DiskFault) ends keeps = by_stop stop.DiskFault new (events me start receives) ends.0 keeps
-  ends_run budget new receives (Err (stop.Full n)) ends keeps = by_stop (stop.Full n) new (events me start receives) ends.0 keeps
-  ends_run budget new receives (Err stop.NoMemory) ends keeps = by_stop stop.NoMemory new (events me start receives) ends.0 keeps
+      → EndsKept me start before now new journal journal' (Some m) told (events me start receives) ended → EndsSo ended (events me start receives)
+  ends_run budget new receives (Ok done) ends keeps = ends_all (Ok done) (events me start receives) (sent_done me start before now (events me start receives) ends.0) keeps
+  ends_run budget new receives (Err (stop.Budget n)) ends keeps = ends_all (Err (stop.Budget n)) (events me start receives) (sent_done me start before now (events me start receives) ends.0) keeps
+  ends_run budget new receives (Err stop.LinkFault) ends keeps = by_stop (Err stop.LinkFault) stop.LinkFault new (events me start receives) (λ whole. whole) ends.0 keeps
+  ends_run budget new receives (Err stop.SinkFault) ends keeps = by_stop (Err stop.SinkFault) stop.SinkFault new (events me start receives) (λ whole. whole) ends.0 keeps
+  ends_run budget new receives (Err stop.DiskFault) ends keeps = by_stop (Err stop.DiskFault) stop.DiskFault new (events me start receives) (λ whole. whole) ends.0 keeps
+  ends_run budget new receives (Err (stop.Full n)) ends keeps = by_stop (Err (stop.Full n)) (stop.Full n) new (events me start receives) (λ whole. whole) ends.0 keeps
+  ends_run budget new receives (Err stop.NoMemory) ends keeps = by_stop (Err stop.NoMemory) stop.NoMemory new (events me start receives) (λ whole. whole) ends.0 keeps
 
 pub servings_are_runs : {V : Type 0} (is_state : V → Type 0) (next : V → Bytes → V) (result : V → Bytes → Bytes) (part : V → ℕ → Bytes) (restored : List Bytes → Result V (ℕ × ℕ)) → ServingsAreRuns is_state next result part restored
 servings_are_runs is_state next result part restored me kept old new journal journal' m told budget told_before told_now before now ended serves rep whole rests served =

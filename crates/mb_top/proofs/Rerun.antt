@@ -21,7 +21,7 @@ use Rattle.mb_sched.specs.declared.configs.Config.{Config}
 use Rattle.mb_answer.specs.Configs.{used, unused}
 use Rattle.mb_answer.specs.Devices.{Device, LinkState}
 use Rattle.mb_answer.proofs.ConfigLaws.{same_config}
-use Rattle.mb_serving.specs.Nodes.{outside, IsUnbegun, headless, unopened}
+use Rattle.mb_serving.specs.Nodes.{outside, served_status, IsUnbegun, headless, unopened}
 use Rattle.mb_serving.specs.Records.{host_of}
 use Rattle.mb_serving.specs.Journals.{DiskState, IsOpen, ServesOn, ServesBehind, served, unbegun, ServesKept, opened, bad, unread, no_host, KeptNodes}
 use Rattle.mb_top.specs.Reruns.{KeepsFile, IsRerun, IsUnsent, Reruns}
@@ -38,9 +38,9 @@ module _ (c : Config) (host : ℕ) where
   unbegun_sends head status sink sink' l l' (unopened fails same opens received sent) = sent
 
   module _ (l l' : LinkState) (before after' : DiskState) (old : Moments) (told : before.moments ≡ Some old) where
-    is_rerun : (kept : List Event) (journal journal' : JournalState) (budget : ℕ) (ended : Result (Unit {0}) ServeStop) (sink sink' : Device) (between : DiskState) → IsOpen c host kept journal before between
-        → ServesOn c host kept journal journal' budget ended sink sink' l l' between after' → IsRerun c host l l' old after'
-    is_rerun kept journal journal' budget ended sink sink' between is_open on =
+    is_rerun : (kept : List Event) (journal journal' : JournalState) (budget status : ℕ) (ended : Result (Unit {0}) ServeStop) → status ≡ served_status ended → (sink sink' : Device) (between : DiskState) → IsOpen c host kept journal before between
+        → ServesOn c host kept journal journal' budget ended sink sink' l l' between after' → IsRerun c host status l l' old after'
+    is_rerun kept journal journal' budget status ended status_is sink sink' between is_open on =
         let me = host_of c host in
         let opens = is_open.opens old told in
         let open_now : Moments = next_all old opens.since in
@@ -59,23 +59,25 @@ module _ (c : Config) (host : ℕ) where
           opens = record { since = opens.since; is = refl; each = opens.each };
           receives = on.receives;
           heard = on.heard;
-          ends = subst (λ (d : History). EndsRun me (header_text c host) kept (events me d on.receives) open_now l.sent l'.sent after'.moments) (sym there)
-              (subst (λ (h : Bytes). EndsRun me h kept es open_now l.sent l'.sent after'.moments) header
+          ended = ended;
+          status_is = status_is;
+          ends = subst (λ (d : History). EndsRun me (header_text c host) kept (events me d on.receives) ended open_now l.sent l'.sent after'.moments) (sym there)
+              (subst (λ (h : Bytes). EndsRun me h kept es ended open_now l.sent l'.sent after'.moments) header
               (ends_run me kept journal journal' open_now after'.moments begun (outside sink' l') (is_open.rests old told open_now opens.is) budget on.replica on.receives ended ends keeps_so));
         }
 
     behind : (kept : List Event) (journal : JournalState) (budget status : ℕ) (sink sink' : Device) (between : DiskState) → IsOpen c host kept journal before between
-        → ServesBehind c host kept journal budget status sink sink' l l' between after' → IsRerun c host l l' old after' ⊎ IsUnsent c host l l' old after'
-    behind kept journal budget status sink sink' between is_open (served journal' ended is on) = inl (is_rerun kept journal journal' budget ended sink sink' between is_open on)
+        → ServesBehind c host kept journal budget status sink sink' l l' between after' → IsRerun c host status l l' old after' ⊎ IsUnsent c host l l' old after'
+    behind kept journal budget status sink sink' between is_open (served journal' ended is on) = inl (is_rerun kept journal journal' budget status ended is sink sink' between is_open on)
     behind kept journal budget status sink sink' between is_open (unbegun is same) = inr (record {
       unsent = unbegun_sends _ status sink sink' l l' is;
       opens = subst (λ (d : DiskState). KeepsFile c host old d.moments) same (is_open.opens old told);
     })
 
 by_host : (c d : Config) (host budget status : ℕ) (sink sink' : Device) (l l' : LinkState) (before after' : DiskState) (old : Moments) → d ≡ c → host < host_count c.shape → before.moments ≡ Some old
-    → ServesKept d host budget status sink sink' l l' before after' → IsRerun c host l l' old after' ⊎ IsUnsent c host l l' old after'
+    → ServesKept d host budget status sink sink' l l' before after' → IsRerun c host status l l' old after' ⊎ IsUnsent c host l l' old after'
 by_host c d host budget status sink sink' l l' before after' old same has told (opened kept journal between below is_open serves) =
-    subst (λ (x : Config). IsRerun x host l l' old after' ⊎ IsUnsent x host l l' old after') same (behind d host l l' before after' old told kept journal budget status sink sink' between is_open serves)
+    subst (λ (x : Config). IsRerun x host status l l' old after' ⊎ IsUnsent x host l l' old after') same (behind d host l l' before after' old told kept journal budget status sink sink' between is_open serves)
 by_host c d host budget status sink sink' l l' before after' old same has told (bad at below says is idle) =
     inr (record { unsent = ap (λ (x : LinkState). x.sent) (sym idle); opens = subst (λ (x : Config). KeepsFile x host old after'.moments) same (is.opens old told) })
 by_host c d host budget status sink sink' l l' before after' old same has told (unread below fails opens same_sink idle) =
@@ -84,7 +86,7 @@ by_host c d host budget status sink sink' l l' before after' old same has told (
     let far : host_count c.shape ≤ host = subst (λ (x : Config). host_count x.shape ≤ host) same beyond in absurd (omega (arith, far, has))
 
 pub kept_nodes_run : (text : Bytes) (host budget status : ℕ) (source source' sink sink' : Device) (l l' : LinkState) (before after' : DiskState) → KeptNodes text host budget status source source' sink sink' l l' before after'
-    → Reruns text host l l' before after'
+    → Reruns text host status l l' before after'
 kept_nodes_run text host budget status source source' sink sink' l l' before after' (used d is serves) c reads has old told =
     by_host c d host budget status sink sink' l l' before after' old (same_config text d c is reads) has told serves
 kept_nodes_run text host budget status source source' sink sink' l l' before after' (unused lacks idle) c reads has old told =

@@ -1,11 +1,12 @@
 -- That what a node with a journal does is a run of its host, as `mb_restart` has them, and its host one of a world.
-use Rattle.std.specs.Prelude.{◌≡◌, ◌⊎◌, ℕ, ◌<◌, List, ◌∷◌, Option, Some}
+use Rattle.std.specs.Prelude.{◌≡◌, ◌⊎◌, ℕ, ◌<◌, List, ◌∷◌, Option, Some, Result}
 use Rattle.mb_base.specs.Shapes.{Bytes, host_count}
 use Rattle.mb_msg.specs.declared.event.Event.{Event}
 use Rattle.mb_edge.specs.Disks.{Moments, IsImage, WhereTold, LeavesOnly}
 use Rattle.mb_journal.specs.Files.{Holds}
 use Rattle.mb_journal.specs.Headers.{header_text}
 use Rattle.mb_journal.specs.Opening.{StaysWhole}
+use Rattle.mb_node.specs.declared.stops.ServeStop.{ServeStop}
 use Rattle.mb_node.specs.Receives.{Receives}
 use Rattle.mb_node.specs.Events.{events}
 use Rattle.mb_sched.specs.declared.configs.Config.{Config}
@@ -14,7 +15,7 @@ use Rattle.mb_theory.specs.World.{self_of}
 use Rattle.mb_theory.specs.WorldEvents.{IsCorrect}
 use Rattle.mb_answer.specs.Configs.{IsConfigText}
 use Rattle.mb_answer.specs.Devices.{LinkState}
-use Rattle.mb_serving.specs.Nodes.{HasListened}
+use Rattle.mb_serving.specs.Nodes.{served_status, HasListened}
 use Rattle.mb_serving.specs.Records.{host_of}
 use Rattle.mb_serving.specs.Journals.{DiskState, start_of}
 use Rattle.mb_restart.specs.Runs.{Run, events_of, AreRuns}
@@ -27,15 +28,18 @@ abbrev pub KeepsFile : Config → ℕ → Moments → Option Moments → Type 0
 KeepsFile c host old new = LeavesOnly (λ image. IsImage old.now image ⊎ StaysWhole (header_text c host) old.now.reads image) old new
 
 -- The file said these events, and kept them while it was opened. What followed was a run behind them with the events of what was received: whatever a crash
--- leaves of the file, in the end or at a moment before, is what a run leaves, and what was sent is a first part of what a run sends.
-pub record IsRerun (c : Config) (host : ℕ) (l l' : LinkState) (old : Moments) (after : DiskState) : Type 0 where
+-- leaves of the file, in the end or at a moment before, is what a run leaves, and what was sent is a first part of what a run sends. The status tells how it
+-- ended.
+pub record IsRerun (c : Config) (host status : ℕ) (l l' : LinkState) (old : Moments) (after : DiskState) : Type 0 where
   pub kept : List Event
   pub says : Holds (header_text c host) kept old.now.reads
   pub opened : Moments
   pub opens : KeepsFile c host old (Some opened)
   pub receives : Receives
   pub heard : HasListened c host l l' receives
-  pub ends : EndsRun (host_of c host) (header_text c host) kept (events (host_of c host) (start_of c host kept) receives) opened l.sent l'.sent after.moments
+  pub ended : Result (Unit {0}) ServeStop
+  pub status_is : status ≡ served_status ended
+  pub ends : EndsRun (host_of c host) (header_text c host) kept (events (host_of c host) (start_of c host kept) receives) ended opened l.sent l'.sent after.moments
 
 -- Nothing was sent, and the file kept its events.
 pub record IsUnsent (c : Config) (host : ℕ) (l l' : LinkState) (old : Moments) (after : DiskState) : Type 0 where
@@ -43,8 +47,8 @@ pub record IsUnsent (c : Config) (host : ℕ) (l l' : LinkState) (old : Moments)
   pub opens : KeepsFile c host old after.moments
 
 -- what a node with a journal did with the text of a config that has its host, where the disk tells what stands on it
-abbrev pub Reruns : Bytes → ℕ → LinkState → LinkState → DiskState → DiskState → Type 0
-Reruns text host l l' before after = (c : Config) → IsConfigText text c → host < host_count c.shape → WhereTold before.moments (λ old. IsRerun c host l l' old after ⊎ IsUnsent c host l l' old after)
+abbrev pub Reruns : Bytes → ℕ → ℕ → LinkState → LinkState → DiskState → DiskState → Type 0
+Reruns text host status l l' before after = (c : Config) → IsConfigText text c → host < host_count c.shape → WhereTold before.moments (λ old. IsRerun c host status l l' old after ⊎ IsUnsent c host l l' old after)
 
 -- ---- in a world
 

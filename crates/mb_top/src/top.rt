@@ -185,10 +185,11 @@ pub fn minbft<S: Source, K: Sink, L: Link, P: Spawner, D: Disk>(
         ⊎ (Rose (K.faults sink.old) (K.faults sink.new) ⊎ (Rose (L.faults link.old) (L.faults link.new) ⊎ Rose (D.faults disk.old) (D.faults disk.new))))) }
     // Where the disk tells what stands on it, that was a run of the host behind the events that the file said, with those of what was received. Whatever a
     // crash leaves of the file, in the end or at a moment before, says the acknowledged events in their order, and behind them none but the one whose append
-    // had begun; and what was sent is a first part of what acknowledged events send. Or nothing was sent, and the file kept its events. What follows of all
-    // runs together, `mb_restart` says, and of the host in a world `nodes_are_hosts_of_worlds`.
+    // had begun: at statuses 0 and 9 all in the end, and else all but perhaps the last one. What was sent is a first part of what acknowledged events send.
+    // Or nothing was sent, and the file kept its events. What follows of all runs together, `mb_restart` says, and of the host in a world
+    // `nodes_are_hosts_of_worlds`.
     ensures kept_node_runs { (host n : ℕ) → command_of (map string_bytes words.now) ≡ Some (Command.KeptNode host n)
-        → IfSome (S.left source.old) (λ text. Reruns text host
+        → IfSome (S.left source.old) (λ text. Reruns text host result
         (link_state (L.received link.old) (L.sent link.old) (L.opens link.old) (L.faults link.old)) (link_state (L.received link.new) (L.sent link.new) (L.opens link.new) (L.faults link.new))
         (disk_state (D.moments disk.old) (D.faults disk.old)) (disk_state (D.moments disk.new) (D.faults disk.new))) }
     // With the word `cluster` and a number: a node of each host is started, and then each operation is asked, with at most so many receives. Each
