@@ -16,7 +16,8 @@ import time
 from wire import CLIENT_PEER, CLIENT_PORT, Config, Joiner, expected_lines, pieces, read_reply, request, stop
 
 LONGEST = 32778
-WAIT = 0.05
+WAIT = 0.2
+"""Seconds until a request is sent again: several quiets of a host, so that a primary which orders nothing soon loses its view."""
 TURNS = 2000
 EVENTS = "1000000"
 
@@ -66,10 +67,11 @@ class Client:
         return None
 
 
-def start(program, host, config, folder):
+def start(program, host, config, folder, said=None):
+    """A node that has begun its record, which is node-H.record in a folder. What it says on standard error goes to a file, where one is given."""
     output = os.path.join(folder, f"node-{host}.record")
     with open(output, "wb") as record:
-        node = subprocess.Popen([*program.split(" "), "node", str(host), EVENTS], stdin=subprocess.PIPE, stdout=record)
+        node = subprocess.Popen([*program.split(" "), "node", str(host), EVENTS], stdin=subprocess.PIPE, stdout=record, stderr=said)
     try:
         node.stdin.write(config.text.encode())
         node.stdin.close()

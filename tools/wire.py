@@ -23,7 +23,7 @@ class Config:
         self.text = text
         rows = [line.split(" ") for line in text.splitlines()]
         words = {row[0]: row[1] for row in rows if row[0] != "op"}
-        self.faults, self.port = int(words["f"]), int(words["port"])
+        self.faults, self.interval, self.port = (int(words[name]) for name in ("f", "k", "port"))
         self.hosts = 2 * self.faults + 1
         self.secret = bytes.fromhex(words["secret"])
         self.operations = [bytes.fromhex(row[1].replace("-", "")) for row in rows if row[0] == "op"]

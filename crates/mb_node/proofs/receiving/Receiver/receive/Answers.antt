@@ -7,6 +7,7 @@ unfolding held_of
 returns-in-Quiet-clause-gives g c = record {
   one = None;
   told = c.in-Quiet.ensures.received;
+  of_bytes = tt;
   is = λ s before has. refl;
   has = λ s before has. record { hosts = has.hosts; client = has.client };
 }

@@ -22,10 +22,10 @@ returns-clause-stands g c = λ y is shape secret hosts clients services.
         clients = c.in_ok-from_slice-2.ensures.items ∙ sym clients;
         askers = c.in_ok-askers.ensures.stands s shape secret;
         ledger = nothing_kept s ledger (subst (λ (z : Shape). Keeps z ledger (λ h. []) [] []) (sym shape) c.in_ok-make.ensures);
-        pool = c.new-2.ensures.items;
-        marks = none_marked s nothing_happened _ c.new-3.ensures.items;
-        line = c.new-4.ensures.items;
-        refused = c.new-5.ensures.items;
+        pool = c.new-3.ensures.items;
+        marks = none_marked s nothing_happened _ c.new-4.ensures.items;
+        line = c.new-5.ensures.items;
+        refused = c.new-6.ensures.items;
         events = refl;
       };
     }
