@@ -12,4 +12,3 @@ pub mod Kept
 pub mod KeptRounds
 pub mod Replayed
 pub mod OfBytes
-pub mod OfBytes
