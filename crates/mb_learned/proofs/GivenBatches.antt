@@ -1,8 +1,8 @@
 -- What stands whole in what a correct host was given: its values, the strings of its batches, which are hashed, and the plans that it shows.
-use Rattle.std.proofs.Common.{◌≡◌, ℕ, zero, suc, ◌<◌, ◌⊎◌, ◌^◌, Bool, true, List, [], ◌∷◌, ◌++◌, length, map, find, cond, Option, Some, None, refl, sym, ap, subst, ◌∙◌, inl, inr, arith}
-use Rattle.std.specs.Prelude.{◌==◌, Contains}
-use Rattle.std.specs.List.{flat_map, AllByRecursion}
-use Rattle.std.proofs.lemmas.Bool.{cases_Bool, and_parts, eqb-true}
+use Rattle.std.proofs.Common.{◌≡◌, ℕ, zero, suc, true, List, [], ◌∷◌, ◌++◌, length, map, find, Option, Some, None, refl, sym, ap, subst, ◌∙◌, inl, inr, arith}
+use Rattle.std.specs.Prelude.{◌==◌}
+use Rattle.std.specs.List.{flat_map}
+use Rattle.std.proofs.lemmas.Bool.{and_parts, eqb-true}
 use Rattle.sha2.specs.Sha256.{sha256}
 use Rattle.mb_base.specs.Shapes.{Bytes}
 use Rattle.mb_base.specs.declared.shape.Shape.{Shape}
@@ -10,7 +10,6 @@ use Rattle.mb_usig.specs.Tags.{same_bytes}
 use Rattle.mb_usig.proofs.Laws.{same_bytes-true}
 use Rattle.mb_parts.specs.declared.batch.Batch.{Batch}
 use Rattle.mb_parts.specs.declared.certificates.StableMember.{StableMember}
-use Rattle.mb_parts.specs.declared.certificates.StableCert.{StableCert}
 use Rattle.mb_parts.specs.Bares.{bare_bytes, batch_digest}
 use Rattle.mb_parts.specs.Fits.{IsDigest, FitsHeld, FitsStable, FitsBatch}
 use Rattle.mb_parts.specs.Certificates.{is_stable}
@@ -20,7 +19,6 @@ use Rattle.mb_msg.specs.declared.change.NewViewBody.{NewViewBody}
 use Rattle.mb_msg.specs.declared.change.Open.{Open}
 use Rattle.mb_msg.specs.declared.change.OpenBody.{OpenBody}
 use Rattle.mb_msg.specs.declared.change.Plan.{Plan}
-use Rattle.mb_msg.specs.declared.change.ViewChange.{ViewChange}
 use Rattle.mb_msg.specs.declared.message.Body.{Body}
 use Rattle.mb_msg.specs.declared.message.Body.TheVariants.{Whole, Bare as Short}
 use Rattle.mb_msg.specs.declared.message.Message.{Message}

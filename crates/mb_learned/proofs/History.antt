@@ -2,12 +2,12 @@
 --
 -- A learnt batch and one that a correct host executed at its position are both committed, so they are one batch. So are their marks, and by induction the
 -- lists. Of f+1 hosts that say a state's digest one is correct, and had the state behind the line's slots.
-use Rattle.std.proofs.Common.{◌≡◌, ℕ, zero, suc, ◌+◌, ◌<◌, ◌≤◌, ◌⊎◌, Bool, true, false, not, List, [], ◌∷◌, ◌++◌, length, map, take, take_all, drop, slice_get, Option, Some, None, refl, sym, ap, subst, ◌∙◌, inl, inr, arith, take-append-drop, add-one}
+use Rattle.std.proofs.Common.{◌≡◌, ℕ, zero, suc, ◌+◌, ◌<◌, ◌≤◌, ◌⊎◌, Bool, true, false, not, List, [], ◌∷◌, ◌++◌, length, map, take, take_all, drop, slice_get, Some, refl, sym, ap, subst, ◌∙◌, inl, inr, arith, take-append-drop}
 use Rattle.std.specs.Prelude.{◌==◌, ◌&&◌}
 use Rattle.std.specs.List.{range_with_len}
 use Rattle.std.proofs.lemmas.Bool.{and_parts, eqb-true, cases_lt}
 use Rattle.std.proofs.lemmas.Option.{none-some, same_Some}
-use Rattle.mb_base.specs.Shapes.{Bytes, host_count, client_count}
+use Rattle.mb_base.specs.Shapes.{Bytes, client_count}
 use Rattle.mb_usig.specs.Tags.{same_bytes}
 use Rattle.mb_usig.proofs.Laws.{same_bytes-true, true-same_bytes}
 use Rattle.mb_parts.specs.declared.request.Request.{Request}
@@ -49,7 +49,7 @@ use Rattle.mb_line.proofs.Line.{LineStands}
 use Rattle.mb_line.proofs.OneExecuted.{executed_batch}
 use Rattle.mb_line.proofs.WholeBatches.{IsWholeAll}
 use Rattle.mb_audit.specs.Stamps.{claims_among}
-use Rattle.mb_learn.specs.Proved.{behind, IsLearnt, DiffersAt, digest_behind, is_checkpoint, says_state}
+use Rattle.mb_learn.specs.Proved.{behind, DiffersAt, digest_behind, is_checkpoint, says_state}
 use Rattle.mb_learn.proofs.Tests.{true_false}
 use Rattle.mb_learned.specs.Learned.{BeginsWith, strings, WereGiven, Learns}
 use Rattle.mb_learned.proofs.Beginnings.{claim_issued}

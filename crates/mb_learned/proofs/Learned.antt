@@ -1,7 +1,6 @@
 -- What is learnt is the history, in each world that nothing stopped.
 use Rattle.std.proofs.Common.{ℕ}
 use Rattle.mb_model.proofs.Members.{in_contained, contained, in_left}
-use Rattle.mb_schedule.specs.Limits.{IsSchedule}
 use Rattle.mb_base.specs.Shapes.{Bytes}
 use Rattle.std.specs.Prelude.{List, ◌++◌}
 use Rattle.mb_theory.specs.Hashed.{HashesApart}

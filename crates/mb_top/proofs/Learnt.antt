@@ -1,13 +1,12 @@
 -- What is learnt of what a correct host was given is the line of the world.
-use Rattle.std.proofs.Common.{◌≡◌, ℕ, List, [], ◌∷◌, ◌++◌, length, sym, subst, ◌∙◌, arith, ◌⊎◌, inl, inr}
+use Rattle.std.proofs.Common.{◌≡◌, ℕ, List, [], ◌∷◌, ◌++◌, sym, subst, ◌∙◌, arith, inl, inr}
 use Rattle.std.specs.Prelude.{Contains}
 use Rattle.std.specs.Io.KnownBytes.{Appends}
 use Rattle.mb_base.specs.Shapes.{Bytes}
 use Rattle.mb_base.specs.declared.shape.Shape.{Shape}
 use Rattle.mb_kv.specs.Pairs.{Pairs}
 use Rattle.mb_msg.specs.declared.event.Slot.{Slot}
-use Rattle.mb_model.proofs.Members.{In, in_contained, contained, in_left, in_right}
-use Rattle.mb_audited.specs.Blame.{given_to}
+use Rattle.mb_model.proofs.Members.{In, in_contained, contained}
 use Rattle.mb_schedule.specs.declared.schedule.Schedule.{Schedule}
 use Rattle.mb_sched.specs.declared.records.Record.{Record}
 use Rattle.mb_theory.specs.World.{World}

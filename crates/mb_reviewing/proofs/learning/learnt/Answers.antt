@@ -1,10 +1,9 @@
-use Rattle.std.proofs.Common.{rules, ◌≡◌, List, [], ◌++◌, length, refl, sym, ap, subst, ◌∙◌}
+use Rattle.std.proofs.Common.{rules, ◌≡◌, [], ◌++◌, length, refl, sym, ap, subst, ◌∙◌}
 use Rattle.std.specs.Prelude.{codes, string_bytes}
 use Rattle.std.specs.List.{flat_map}
 use Rattle.std.specs.Fmt.{decimal}
 use Rattle.hex.specs.Hex.{encode_lower}
 use Rattle.mb_kv.specs.Pairs.{Pairs}
-use Rattle.mb_msg.specs.declared.event.Slot.{Slot}
 use Rattle.mb_sched.specs.Report.{slot_lines}
 use Rattle.mb_learn.specs.declared.learner.Learner.{Learner}
 use Rattle.mb_learn.specs.Learners.{Represents}
