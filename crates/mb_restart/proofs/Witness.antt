@@ -49,9 +49,11 @@ module _ {S : Type 0} (self : Identity S) (header : Bytes) where
   both_run = (
     record { file = cut_off; keeps = λ events one fit fits cut. cut; says = one_kept },
     record { unsent = []; sends = refl; leaves = ((tt, tt), record { tail = []; file_is = refl }) },
-    record { file = empty; keeps = λ events one fit fits cut. cut; says = shut_holds header [] empty tt (record { tail = []; file_is = refl }) },
-    record { unsent = []; sends = append-nil (sent_behind self [] nudge); leaves = record { fit = (tt, tt); fits = tt; cut = inr stands_whole } },
-    (tt, record { tail = []; file_is = refl }),
+    (
+      record { file = empty; keeps = λ events one fit fits cut. cut; says = shut_holds header [] empty tt (record { tail = []; file_is = refl }) },
+      record { unsent = []; sends = append-nil (sent_behind self [] nudge); leaves = record { fit = (tt, tt); fits = tt; cut = inr stands_whole } },
+      (tt, record { tail = []; file_is = refl }),
+    ),
   )
 
 came_so : {S : Type 0} (system : System S) (h : ℕ) → system.schedule.events ≡ happens.Nudge h ∷ [] → came system h 1 ≡ nudge
