@@ -22,7 +22,7 @@ use Rattle.mb_fitting.specs.Fitting.{AreFit}
 use Rattle.mb_fitting.proofs.Fit.{begins_fit, transition_fit}
 use Rattle.mb_replica.specs.Represents.{as_sent}
 use Rattle.mb_node.specs.Receives.{Receives}
-use Rattle.mb_node.specs.Events.{left_by, has_stop}
+use Rattle.mb_node.specs.Events.{events, left_by, has_stop}
 use Rattle.mb_node.specs.Recording.{sent_digest, entry_at, entries_of, lines_of}
 use Rattle.mb_node.specs.Retracing.{events_in, AreOwn}
 use Rattle.mb_node.specs.Serving.{AreCutOff}
@@ -187,6 +187,7 @@ writes_events c host sink sink' before after receives heard writes = record {
 }
 
 pub writes_front : (c : Config) (host budget status : ℕ) (sink sink' : Device) (before after : LinkState) → Serves c host budget status sink sink' before after → WritesReceived c host before after sink.bytes sink'.bytes
+unfolding events
 writes_front c host budget status sink sink' before after (stopped receives zero heard whole ends few) =
     writes_events c host sink sink' before after receives heard (writes_all c host sink sink' (events_of c host receives) whole.written)
 writes_front c host budget status sink sink' before after (exhausted receives nine heard whole none all) =
