@@ -22,7 +22,7 @@ use Rattle.mb_fitting.specs.Fitting.{AreFit}
 use Rattle.mb_fitting.proofs.Fit.{begins_fit, transition_fit}
 use Rattle.mb_replica.specs.Represents.{as_sent}
 use Rattle.mb_node.specs.Receives.{Receives}
-use Rattle.mb_node.specs.Events.{left_by, has_stop, events}
+use Rattle.mb_node.specs.Events.{events, left_by, has_stop}
 use Rattle.mb_node.specs.Recording.{sent_digest, entry_at, entries_of, lines_of}
 use Rattle.mb_node.specs.Retracing.{events_in, AreOwn}
 use Rattle.mb_node.specs.Serving.{AreCutOff}
