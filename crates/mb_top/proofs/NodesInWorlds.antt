@@ -1,5 +1,5 @@
 -- The hosts of a config's system in the worlds of schedules with its shape and secret.
-use Rattle.std.proofs.Common.{◌≡◌, ℕ, List, ◌∷◌, subst}
+use Rattle.std.proofs.Common.{◌≡◌, ℕ, List, [], ◌∷◌, subst}
 use Rattle.mb_base.specs.Shapes.{Bytes}
 use Rattle.mb_journal.specs.Headers.{header_text}
 use Rattle.mb_kv.specs.Pairs.{Pairs}

@@ -1,4 +1,4 @@
-use Rattle.std.proofs.Common.{◌∙◌}
+use Rattle.std.proofs.Common.{Some, ◌∙◌}
 use Rattle.std.proofs.lemmas.Option.{IfSome_then}
 use Rattle.mb_sched.proofs.EventLimits.{schedule_fits}
 use Rattle.mb_top.proofs.Answered.{reports, reported_is_unstopped, tells_forged, completes}

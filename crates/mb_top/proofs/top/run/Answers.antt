@@ -206,6 +206,12 @@ returns-in-Some-Audit-clause-stops g c = λ never. inl refl
 pub returns-in-Some-Audit-clause-waits : goal.returns-in-Some-Audit-clause-waits
 returns-in-Some-Audit-clause-waits g c = λ never. none_started (g.S.Source.left c.args.source.now) (g.P.Spawner.faults c.args.spawner.now) (g.P.Spawner.starts c.args.spawner.now) (g.P.Spawner.waits c.args.spawner.now)
 
+pub returns-in-Some-Learn-clause-stops : goal.returns-in-Some-Learn-clause-stops
+returns-in-Some-Learn-clause-stops g c = λ never. inl refl
+
+pub returns-in-Some-Learn-clause-waits : goal.returns-in-Some-Learn-clause-waits
+returns-in-Some-Learn-clause-waits g c = λ never. none_started (g.S.Source.left c.args.source.now) (g.P.Spawner.faults c.args.spawner.now) (g.P.Spawner.starts c.args.spawner.now) (g.P.Spawner.waits c.args.spawner.now)
+
 pub returns-in-None-clause-stops : goal.returns-in-None-clause-stops
 returns-in-None-clause-stops g c = λ never. inl refl
 
