@@ -14,7 +14,7 @@ use Rattle.mb_model.specs.OwnLog.{has_room}
 use Rattle.mb_model.specs.Making.{checkpoint}
 use Rattle.mb_model.specs.Sending.{Progress, note, stamp}
 use Rattle.mb_model.specs.CarriedOut.{slot_for, close_slot, with_checkpoint, at_interval, state_strings}
-use Rattle.mb_steps.proofs.StepArises.{Adds}
+use Rattle.mb_steps.specs.Arises.{Adds}
 use Rattle.mb_searches.specs.Sound.{IsSound}
 use Rattle.mb_searches.proofs.Framing.{low_stays}
 use Rattle.mb_searches.proofs.Executing.{served_ends}

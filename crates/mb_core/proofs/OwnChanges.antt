@@ -20,7 +20,7 @@ use Rattle.mb_model.specs.Making.{enter, join, join_evidence}
 use Rattle.mb_model.specs.Sending.{signed, next_ui}
 use Rattle.mb_model.specs.Stable.{stable_of}
 use Rattle.mb_model.proofs.Options.{if_some, map_some}
-use Rattle.mb_steps.proofs.StepArises.{Makes}
+use Rattle.mb_steps.specs.Arises.{Makes}
 use Rattle.mb_normal.specs.declared.normal.Normal.{Normal}
 use Rattle.mb_change.specs.Searches.{with_enter}
 use Rattle.mb_change.specs.Represents.{SameHost, StandsWith}

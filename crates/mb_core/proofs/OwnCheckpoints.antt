@@ -21,7 +21,7 @@ use Rattle.mb_model.specs.Positions.{exec_of}
 use Rattle.mb_model.specs.Sending.{Progress, signed, next_ui, to_all, stamp, send, write}
 use Rattle.mb_model.specs.Stable.{low_of}
 use Rattle.mb_model.specs.UsableLogs.{normal_limit}
-use Rattle.mb_steps.proofs.StepArises.{Adds, Arises, JustExecuted}
+use Rattle.mb_steps.specs.Arises.{Adds, Arises, JustExecuted}
 use Rattle.mb_log.specs.Logs.{Log, has_room_for, appended}
 use Rattle.mb_gate.specs.declared.gate.Gate.{Gate}
 use Rattle.mb_fitting.specs.Fitting.{AreFit}

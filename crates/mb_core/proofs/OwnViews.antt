@@ -28,7 +28,7 @@ use Rattle.mb_model.specs.Sending.{signed, next_ui}
 use Rattle.mb_model.specs.Stable.{stable_of, further, plan_base}
 use Rattle.mb_model.specs.UsableLogs.{is_whole}
 use Rattle.mb_model.proofs.Options.{if_some, map_some}
-use Rattle.mb_steps.proofs.StepArises.{Makes}
+use Rattle.mb_steps.specs.Arises.{Makes}
 use Rattle.mb_fetch.specs.Fetched.{Fetched}
 use Rattle.mb_fetch.specs.Snapshots.{Snapshot}
 use Rattle.mb_plan.specs.Planned.{are_quorum}

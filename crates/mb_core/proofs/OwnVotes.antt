@@ -23,7 +23,7 @@ use Rattle.mb_model.specs.Making.{prepare, commit}
 use Rattle.mb_model.specs.Positions.{slot_at}
 use Rattle.mb_model.specs.Sending.{signed, next_ui}
 use Rattle.mb_model.proofs.Options.{if_some, map_some}
-use Rattle.mb_steps.proofs.StepArises.{Makes}
+use Rattle.mb_steps.specs.Arises.{Makes}
 use Rattle.mb_normal.proofs.InHistories.{unordered_is}
 use Rattle.mb_known.proofs.Cases.{some_is}
 use Rattle.mb_normal.specs.declared.normal.Normal.{Normal}

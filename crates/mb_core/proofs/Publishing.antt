@@ -25,7 +25,7 @@ use Rattle.mb_model.specs.UsableLogs.{normal_limit, other_limit}
 use Rattle.mb_model.specs.Sending.{Progress, begin, write, send, note, to_all, signed, next_ui}
 use Rattle.mb_model.specs.Histories.{stamped as all_stamped}
 use Rattle.mb_model.proofs.ShapesFit.{shape_fits}
-use Rattle.mb_steps.proofs.StepArises.{Adds, IsWhole}
+use Rattle.mb_steps.specs.Arises.{Adds, IsWhole}
 use Rattle.mb_theory.proofs.RoomForRules.{room_for}
 use Rattle.mb_log.specs.Logs.{Log, has_room_for, appended}
 use Rattle.mb_normal.specs.declared.normal.Normal.{Normal}

@@ -16,10 +16,11 @@ use Rattle.mb_model.specs.PlainChecks.{last_seq}
 use Rattle.mb_model.specs.Sending.{Progress, write, send, to_client}
 use Rattle.mb_model.specs.Given.{stored_reply}
 use Rattle.mb_model.specs.CarriedOut.{placed_in, with_reply, serve, serve_all}
-use Rattle.mb_steps.proofs.StepArises.{Adds}
+use Rattle.mb_steps.specs.Arises.{Adds}
 use Rattle.mb_searches.proofs.Framing.{low_stays}
 use Rattle.mb_searches.proofs.Executing.{served_more, state_served}
-use Rattle.mb_searches.proofs.SoundRules.{IsServing, serving_goes_on}
+use Rattle.mb_searches.specs.Sound.{IsServing}
+use Rattle.mb_searches.proofs.SoundRules.{serving_goes_on}
 use Rattle.mb_fitting.specs.Fitting.{AreFit}
 use Rattle.mb_fitting.proofs.Fit.{served_fit}
 use Rattle.mb_cache.specs.Represents.{StandsServed}

@@ -4,7 +4,7 @@ use Rattle.mb_parts.specs.declared.floor.Mark.{Mark}
 use Rattle.mb_msg.specs.declared.stamped.Stamped.{Stamped as StampedMessage}
 use Rattle.mb_msg.specs.Stamps.{mark_of}
 use Rattle.mb_model.specs.Histories.{Stamped, History, Identity}
-use Rattle.mb_steps.proofs.StepArises.{Adds}
+use Rattle.mb_steps.specs.Arises.{Adds}
 use Rattle.mb_gate.specs.declared.gate.Gate.{Gate}
 use Rattle.mb_searches.specs.Sound.{IsSound}
 use Rattle.mb_standing.specs.GateCalls.{Marks}

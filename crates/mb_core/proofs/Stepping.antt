@@ -11,7 +11,8 @@ use Rattle.mb_model.specs.EnabledRules.{Rule, next_rule}
 use Rattle.mb_model.specs.CarriedOut.{carry_out}
 use Rattle.mb_model.specs.Given.{Answer}
 use Rattle.mb_model.specs.HostStep.{transition}
-use Rattle.mb_steps.proofs.StepArises.{IsWhole, none_served}
+use Rattle.mb_steps.specs.Arises.{IsWhole}
+use Rattle.mb_steps.proofs.StepArises.{none_served}
 use Rattle.mb_searches.proofs.SoundRules.{transition_sound}
 use Rattle.mb_standing.specs.Tables.{Tables}
 use Rattle.mb_standing.specs.Stands.{Stand}

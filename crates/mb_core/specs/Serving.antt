@@ -6,8 +6,8 @@ use Rattle.mb_parts.specs.declared.batch.Batch.{Batch}
 use Rattle.mb_msg.specs.declared.event.Placed.{Placed}
 use Rattle.mb_model.specs.Histories.{Identity}
 use Rattle.mb_model.specs.Sending.{Progress}
-use Rattle.mb_steps.proofs.StepArises.{JustExecuted}
-use Rattle.mb_searches.proofs.SoundRules.{IsServing}
+use Rattle.mb_steps.specs.Arises.{JustExecuted}
+use Rattle.mb_searches.specs.Sound.{IsServing}
 use Rattle.mb_fetch.specs.Snapshots.{Snapshot, StandsWith}
 use Rattle.mb_replica.specs.declared.state.ReplicaState.{ReplicaState}
 use Rattle.mb_replica.specs.declared.sending.Done.{Done}

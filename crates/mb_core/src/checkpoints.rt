@@ -8,7 +8,7 @@ ghost use Rattle.mb_model.specs.Making.{floors_under, if_covered, present_parts,
 ghost use Rattle.mb_model.specs.States.{state_digest};
 ghost use Rattle.mb_model.specs.OwnLog.{has_room};
 ghost use Rattle.mb_model.specs.Sending.{Progress, stamp};
-ghost use Rattle.mb_steps.proofs.StepArises.{JustExecuted};
+ghost use Rattle.mb_steps.specs.Arises.{JustExecuted};
 ghost use Rattle.mb_replica.specs.Represents.{Represents, StandsAt};
 
 use crate::stamping::{NO_UI, publish, sign};

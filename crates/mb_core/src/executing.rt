@@ -11,7 +11,7 @@ ghost use Rattle.mb_model.specs.EnabledRules.{next_rule, Execute};
 ghost use Rattle.mb_model.specs.Sending.{Progress};
 ghost use Rattle.mb_model.specs.PlainChecks.{last_seq};
 ghost use Rattle.mb_model.specs.CarriedOut.{serve_all, serve, with_reply, close_slot, at_interval, with_checkpoint, carry_out};
-ghost use Rattle.mb_steps.proofs.StepArises.{JustExecuted};
+ghost use Rattle.mb_steps.specs.Arises.{JustExecuted};
 ghost use Rattle.mb_normal.specs.Tables.{batch_of};
 ghost use Rattle.mb_core.specs.declared.rules.Due.TheVariants as due;
 ghost use Rattle.mb_core.specs.Due.{IsDue};

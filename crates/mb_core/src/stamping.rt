@@ -10,7 +10,7 @@ ghost use Rattle.mb_msg.specs.Spelling.{stamped_kind};
 ghost use Rattle.mb_msg.specs.AsStamped.{stamped_digest};
 ghost use Rattle.mb_log.specs.Logs.{has_room_for, appended};
 ghost use Rattle.mb_model.specs.Sending.{signed, to_all};
-ghost use Rattle.mb_steps.proofs.StepArises.{Adds};
+ghost use Rattle.mb_steps.specs.Arises.{Adds};
 ghost use Rattle.mb_searches.specs.Sound.{IsSound};
 ghost use Rattle.mb_standing.specs.Stands.{GatesStand};
 ghost use Rattle.mb_replica.specs.Represents.{IsHost, Represents};

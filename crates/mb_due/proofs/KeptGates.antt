@@ -25,7 +25,7 @@ use Rattle.mb_model.specs.Histories.{Entry, Accepted, Stamped, Jumped, History, 
 use Rattle.mb_model.specs.GateChecks.{valid}
 use Rattle.mb_model.specs.Passed.{Passes, PassesGate}
 use Rattle.mb_steps.specs.OwnLists.{inner}
-use Rattle.mb_steps.proofs.StepArises.{Arises, Makes}
+use Rattle.mb_steps.specs.Arises.{Arises, Makes}
 use Rattle.mb_steps.proofs.StepOwnList.{stands_here, own_passed}
 use Rattle.mb_steps.proofs.StepOwnStamped.{steady}
 use Rattle.mb_theory.specs.KeepsTables.{NoneIs}

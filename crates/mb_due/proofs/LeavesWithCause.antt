@@ -16,7 +16,7 @@ use Rattle.mb_model.specs.Sending.{next_ui}
 use Rattle.mb_model.specs.Making.{view_change}
 use Rattle.mb_model.specs.EnabledRules.{ChangeView, new_view_number, target, change_enabled}
 use Rattle.mb_model.proofs.Options.{if_some}
-use Rattle.mb_steps.proofs.StepArises.{Arises, Makes}
+use Rattle.mb_steps.specs.Arises.{Arises, Makes}
 use Rattle.mb_theory.specs.World.{System, self_of}
 use Rattle.mb_theory.specs.WorldSteps.{world}
 use Rattle.mb_theory.specs.NothingLeft.{IsWished, IsAnnounced, IsEvident}

@@ -35,7 +35,7 @@ use Rattle.mb_model.specs.Held.{opened_by, is_current, plan_from, plan_in_new_vi
 use Rattle.mb_model.specs.Stable.{low_of}
 use Rattle.mb_model.specs.Positions.{batch_from, vote_by, counts_opens, open_vote, counts_at, vote_of}
 use Rattle.mb_model.proofs.Options.{if_some, map_some}
-use Rattle.mb_steps.proofs.StepArises.{Arises}
+use Rattle.mb_steps.specs.Arises.{Arises}
 use Rattle.mb_steps.proofs.StepOwnList.{own_passed}
 use Rattle.mb_steps.proofs.StepOwnStamped.{steady}
 use Rattle.mb_steps.proofs.StepPotential.{grown_low}

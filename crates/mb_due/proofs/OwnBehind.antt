@@ -29,7 +29,7 @@ use Rattle.mb_model.specs.Positions.{batch_from, slot_by, vote_by, counts_opens,
 use Rattle.mb_model.specs.Passed.{PassesGate}
 use Rattle.mb_model.proofs.Options.{or_some, if_some}
 use Rattle.mb_steps.specs.OwnLists.{inner}
-use Rattle.mb_steps.proofs.StepArises.{Arises}
+use Rattle.mb_steps.specs.Arises.{Arises}
 use Rattle.mb_steps.proofs.StepHeldEvidence.{prepare_by_primary}
 use Rattle.mb_steps.proofs.StepOwnList.{own_passed}
 use Rattle.mb_steps.proofs.StepOwnStamped.{steady}

@@ -23,7 +23,7 @@ use Rattle.mb_model.specs.Making.{view_change, new_view, enter}
 use Rattle.mb_model.specs.EnabledRules.{Enter, enter_enabled}
 use Rattle.mb_model.proofs.Options.{if_some, map_some}
 use Rattle.mb_model.proofs.Members.{In, in_contained, contained, all_in}
-use Rattle.mb_steps.proofs.StepArises.{Arises, Makes}
+use Rattle.mb_steps.specs.Arises.{Arises, Makes}
 use Rattle.mb_steps.proofs.StepHeldEvidence.{announce_seen}
 use Rattle.mb_steps.proofs.StepPlanBases.{all_filter, all_append}
 use Rattle.mb_theory.specs.World.{System, self_of}

@@ -30,7 +30,7 @@ use Rattle.mb_model.specs.Sending.{signed}
 use Rattle.mb_model.specs.Making.{prepare, commit, opening}
 use Rattle.mb_model.specs.OwnLog.{has_room, has_other_room}
 use Rattle.mb_model.proofs.Options.{if_some, map_some}
-use Rattle.mb_steps.proofs.StepArises.{Arises}
+use Rattle.mb_steps.specs.Arises.{Arises}
 use Rattle.mb_steps.proofs.StepHeldEvidence.{open_seen, shows_checked, evidence_checks}
 use Rattle.mb_steps.proofs.StepPotential.{grown_low, order_parts}
 use Rattle.mb_theory.specs.World.{System, self_of}

@@ -19,7 +19,8 @@ use Rattle.mb_model.specs.EnabledRules.{Rule, rule_where, with_batch, next_posit
 use Rattle.mb_model.specs.EnabledRules as rule
 use Rattle.mb_model.specs.CarriedOut.{execute, serve_all, carry_out, run_rules}
 use Rattle.mb_model.proofs.Options.{option_cases, or_some, or_none, if_some, map_some}
-use Rattle.mb_steps.proofs.StepArises.{Arises, Arisen, Executes}
+use Rattle.mb_steps.specs.Arises.{Arises, Executes}
+use Rattle.mb_steps.proofs.StepArises.{Arisen}
 use Rattle.mb_steps.proofs.StepRulesArise.{run_arises}
 use Rattle.mb_steps.proofs.StepPotential.{served_keeps, execution_leaves}
 use Rattle.mb_steps.proofs.StepUnchanged.{served_enabled}

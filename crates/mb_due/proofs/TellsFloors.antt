@@ -21,7 +21,7 @@ use Rattle.mb_model.specs.States.{state_digest}
 use Rattle.mb_model.specs.Histories.{Entry, Accepted, Stamped, Jumped, History, Identity, floors_with, gate, gate_floors, floor_below}
 use Rattle.mb_model.specs.Sending.{next_ui}
 use Rattle.mb_model.specs.Making.{if_covered, floors_under, present_parts, checkpoint}
-use Rattle.mb_steps.proofs.StepArises.{Arises, Makes}
+use Rattle.mb_steps.specs.Arises.{Arises, Makes}
 use Rattle.mb_theory.specs.World.{System, self_of}
 use Rattle.mb_theory.specs.WorldSteps.{world}
 use Rattle.mb_theory.specs.KeepsTables.{NoneIs}

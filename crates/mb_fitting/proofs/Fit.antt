@@ -21,7 +21,7 @@ use Rattle.mb_model.specs.OwnLog.{has_room}
 use Rattle.mb_model.specs.Sending.{Progress, signed}
 use Rattle.mb_model.proofs.ShapesFit.{shape_fits}
 use Rattle.mb_model.proofs.Options.{option_cases}
-use Rattle.mb_steps.proofs.StepArises.{JustExecuted, Makes, IsWhole, Adds, Arises}
+use Rattle.mb_steps.specs.Arises.{JustExecuted, Makes, IsWhole, Adds, Arises}
 use Rattle.mb_steps.proofs.StepGivenArise.{give_arises}
 use Rattle.mb_theory.proofs.KeptByEvents.{event_keeps}
 use Rattle.mb_theory.proofs.RoomForRules.{HasRoomFor, room_for}
@@ -32,8 +32,8 @@ use Rattle.mb_known.proofs.RestsEvents.{given_rests, patience_event, nudge_event
 use Rattle.mb_known.proofs.RestsGiven.{HashedIn, SentIn, Rested, give_rests}
 use Rattle.mb_known.proofs.RestsRules.{run_rests}
 use Rattle.mb_searches.specs.Speaks.{is_stamp}
-use Rattle.mb_searches.specs.Sound.{IsSound}
-use Rattle.mb_searches.proofs.SoundRules.{rule_sound, rules_sound, IsServing, serving_goes_on, serving_ends, transition_sound}
+use Rattle.mb_searches.specs.Sound.{IsSound, IsServing}
+use Rattle.mb_searches.proofs.SoundRules.{rule_sound, rules_sound, serving_goes_on, serving_ends, transition_sound}
 use Rattle.mb_fitting.specs.Fitting.{HasValues, ComesOfRead, HasRoom, AreFit}
 use Rattle.mb_fitting.proofs.ReadKnown.{AllKnown, all_known}
 use Rattle.mb_fitting.proofs.Room.{KeepsRoom, room_now, more_room, room_kept}

@@ -35,7 +35,7 @@ use Rattle.mb_model.specs.Positions.{exec_of}
 use Rattle.mb_model.specs.Sending.{next_ui}
 use Rattle.mb_model.specs.Stable.{stable_of, low_of, log_floor, checkpoint_in, checkpoint_by, checkpoint_of}
 use Rattle.mb_model.proofs.Options.{or_some, or_none, then_none, if_some, map_some}
-use Rattle.mb_steps.proofs.StepArises.{Arises}
+use Rattle.mb_steps.specs.Arises.{Arises}
 use Rattle.mb_known.proofs.Cases.{not_false, some_is, whole_is}
 use Rattle.mb_known.proofs.HeldFloors.{floor_good}
 use Rattle.mb_known.proofs.HeldStable.{stable_good}

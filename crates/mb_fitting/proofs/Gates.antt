@@ -16,7 +16,7 @@ use Rattle.mb_msg.specs.Stamps.{ui_of, as_stamped}
 use Rattle.mb_msg.proofs.Injective.{bare_fits}
 use Rattle.mb_model.specs.Histories.{Entry, Accepted, Stamped, Jumped, History, Identity, onto, by_host, stamped_in, origin, taken_of, gate}
 use Rattle.mb_model.specs.Passed.{Passes}
-use Rattle.mb_steps.proofs.StepArises.{Arises}
+use Rattle.mb_steps.specs.Arises.{Arises}
 use Rattle.mb_steps.proofs.StepOwnStamped.{steady}
 use Rattle.mb_known.proofs.Cases.{some_is}
 use Rattle.mb_known.proofs.FloorsReached.{IsPlaced, placed, leads_low}

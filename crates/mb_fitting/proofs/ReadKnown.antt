@@ -20,7 +20,7 @@ use Rattle.mb_model.specs.GateChecks.{valid}
 use Rattle.mb_model.specs.Histories.{Accepted, Stamped, Jumped, Closed, Served, Executed, Installed, DroppedParts, LostPatience, Nudged, History, Identity, view_of, counter_of, stamped as all_stamped}
 use Rattle.mb_model.specs.Positions.{slot_in, in_window}
 use Rattle.mb_model.proofs.Options.{if_some}
-use Rattle.mb_steps.proofs.StepArises.{Arises}
+use Rattle.mb_steps.specs.Arises.{Arises}
 use Rattle.mb_known.proofs.Rests.{Each}
 use Rattle.mb_known.proofs.Parts.{part_fits}
 use Rattle.mb_known.proofs.OwnKnown.{KnownMessage, Known}

@@ -29,7 +29,7 @@ use Rattle.mb_model.specs.Histories.{Entry, Stamped, History, Identity, view_of,
 use Rattle.mb_model.specs.Making.{view_change, new_view}
 use Rattle.mb_model.specs.OwnLog.{is_normal, behind, behind_opening, behind_change, kept_forms, as_shown, log_start, log_kept, proof_of}
 use Rattle.mb_model.specs.Sending.{next_ui}
-use Rattle.mb_steps.proofs.StepArises.{Makes, Arises}
+use Rattle.mb_steps.specs.Arises.{Makes, Arises}
 use Rattle.mb_steps.proofs.StepHeldEvidence.{announce_seen}
 use Rattle.mb_steps.proofs.StepHeldStable.{changes_usable}
 use Rattle.mb_steps.proofs.StepPlanBases.{IsUsable}

@@ -34,7 +34,7 @@ use Rattle.mb_model.specs.OwnLog.{has_room, has_other_room, proof_of}
 use Rattle.mb_model.specs.Positions.{slot_in, slot_at, in_window}
 use Rattle.mb_model.specs.Sending.{signed, next_ui}
 use Rattle.mb_model.proofs.Options.{if_some, map_some}
-use Rattle.mb_steps.proofs.StepArises.{Makes, Serves, Adds}
+use Rattle.mb_steps.specs.Arises.{Makes, Serves, Adds}
 use Rattle.mb_steps.proofs.StepHeldEvidence.{announce_seen, open_seen}
 use Rattle.mb_known.proofs.Cases.{all_right, some_is}
 use Rattle.mb_known.proofs.Executing.{MayExecute, may_execute}

@@ -12,7 +12,7 @@ use Rattle.mb_steps.specs.OwnLists.{AreNumbered}
 use Rattle.mb_model.specs.HostStep.{after as after_events}
 use Rattle.mb_model.proofs.ShapesFit.{shape_fits}
 use Rattle.mb_steps.proofs.OwnListsOrdered.{own_lists}
-use Rattle.mb_steps.proofs.StepArises.{Arises, IsWhole}
+use Rattle.mb_steps.specs.Arises.{Arises, IsWhole}
 use Rattle.mb_steps.proofs.StepEventsArise.{after_arises}
 use Rattle.mb_theory.specs.WorldEvents.{IsCorrect}
 use Rattle.mb_theory.specs.World.{World, System, self_of, if_read}

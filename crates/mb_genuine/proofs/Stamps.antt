@@ -39,7 +39,7 @@ use Rattle.mb_model.specs.Positions.{slot_in, slot_at, in_window}
 use Rattle.mb_model.specs.Sending.{signed, next_ui}
 use Rattle.mb_model.specs.Stable.{stable_of, log_floor}
 use Rattle.mb_model.proofs.Options.{if_some, map_some}
-use Rattle.mb_steps.proofs.StepArises.{Arises, Makes}
+use Rattle.mb_steps.specs.Arises.{Arises, Makes}
 use Rattle.mb_steps.proofs.StepHeldEvidence.{announce_seen}
 use Rattle.mb_steps.proofs.StepPlanBases.{all_append}
 use Rattle.mb_theory.specs.Inside.{open_body_claims, change_claims, member_claims, new_view_claims, shown_claims, stamped_claims, claims_in, batch_requests, open_requests, shown_requests, change_requests, stamped_requests, requests_in}

@@ -18,7 +18,7 @@ use Rattle.mb_steps.specs.OwnLists.{AreNumbered}
 use Rattle.mb_model.specs.Positions.{in_window, slot_in, slot_vote, vote_of, matching, vote_at}
 use Rattle.mb_model.proofs.Members.{in_contained}
 use Rattle.mb_model.proofs.Options.{if_some}
-use Rattle.mb_steps.proofs.StepArises.{Arises}
+use Rattle.mb_steps.specs.Arises.{Arises}
 use Rattle.mb_agreement.proofs.Stays.{is_vote_is}
 use Rattle.mb_steps.proofs.StepOwnFloor.{open_from}
 use Rattle.mb_steps.proofs.StepOwnList.{stands_here}

@@ -21,7 +21,7 @@ use Rattle.mb_model.specs.Making.{checkpoint, present_parts, floors_under}
 use Rattle.mb_model.specs.States.{state_digest}
 use Rattle.mb_msg.specs.declared.message.Body.TheVariants.{Whole}
 use Rattle.mb_model.proofs.Options.{or_some, if_some}
-use Rattle.mb_steps.proofs.StepArises.{Adds, JustExecuted}
+use Rattle.mb_steps.specs.Arises.{Adds, JustExecuted}
 use Rattle.mb_steps.proofs.StepHeldEvidence.{some_is, then_some_of}
 use Rattle.mb_theory.specs.WorldEvents.{IsCorrect}
 use Rattle.mb_theory.specs.World.{World, System, self_of}

@@ -20,7 +20,7 @@ use Rattle.mb_msg.specs.declared.stamped.Stamped.TheVariants as stamped
 use Rattle.mb_model.specs.Histories.{Entry, Accepted, Stamped, History, Identity, counter_of}
 use Rattle.mb_model.specs.Stable.{checkpoint_in, checkpoint_by, checkpoint_of, first_agreed, same_state, stable_cert, agreed_at, agreed_above, floor_at, floor_from, is_kept, stable_of, low_of, learnt_in, further, cut_by, log_floor, floor_counter}
 use Rattle.mb_model.proofs.Options.{or_some, option_cases}
-use Rattle.mb_steps.proofs.StepArises.{Arises, Adds}
+use Rattle.mb_steps.specs.Arises.{Arises, Adds}
 use Rattle.mb_steps.proofs.StepHeldEvidence.{some_is}
 use Rattle.mb_steps.proofs.StepPotential.{further_both, grown_low}
 use Rattle.mb_theory.specs.WorldEvents.{IsCorrect}

@@ -25,7 +25,7 @@ use Rattle.mb_model.specs.Histories.{Stamped, History, Identity, said, stamped a
 use Rattle.mb_model.specs.Stable.{low_of}
 use Rattle.mb_model.proofs.Members.{In, all_in, in_map}
 use Rattle.mb_model.proofs.Options.{or_some, map_some, if_some}
-use Rattle.mb_steps.proofs.StepArises.{Arises, Makes}
+use Rattle.mb_steps.specs.Arises.{Arises, Makes}
 use Rattle.mb_theory.specs.WorldEvents.{IsCorrect}
 use Rattle.mb_theory.specs.World.{World, System, self_of}
 use Rattle.mb_theory.specs.WorldRecord.{plans}

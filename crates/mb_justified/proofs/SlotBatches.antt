@@ -26,7 +26,7 @@ use Rattle.mb_model.specs.Positions.{batch_from, slot_of_prepare, slot_of_plan, 
 use Rattle.mb_model.specs.Execution.{pending, state_of}
 use Rattle.mb_model.specs.EnabledRules.{unordered, greatest_in_slots, window, unordered_of}
 use Rattle.mb_model.proofs.Options.{or_some, map_some, if_some}
-use Rattle.mb_steps.proofs.StepArises.{Arises}
+use Rattle.mb_steps.specs.Arises.{Arises}
 use Rattle.mb_steps.proofs.StepOwnList.{own_passed}
 use Rattle.mb_steps.proofs.StepOwnStamped.{steady}
 use Rattle.mb_theory.specs.WorldEvents.{IsCorrect}

@@ -19,7 +19,7 @@ use Rattle.mb_model.specs.Histories.{Stamped, History, Identity, stamped as all_
 use Rattle.mb_model.specs.GateChecks.{valid, stamp_claim}
 use Rattle.mb_model.specs.Stable.{low_of}
 use Rattle.mb_model.specs.Making.{prepare, commit, view_change, new_view, enter, opening, join, checkpoint}
-use Rattle.mb_steps.proofs.StepArises.{Arises, Makes}
+use Rattle.mb_steps.specs.Arises.{Arises, Makes}
 use Rattle.mb_steps.proofs.StepHeldEvidence.{own_claim}
 use Rattle.mb_theory.specs.WorldEvents.{IsCorrect}
 use Rattle.mb_theory.specs.World.{World, System, self_of}

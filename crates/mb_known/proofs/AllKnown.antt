@@ -38,7 +38,7 @@ use Rattle.mb_model.specs.Positions.{slot_in, in_window}
 use Rattle.mb_model.specs.Verified.{verifies}
 use Rattle.mb_model.proofs.Members.{In}
 use Rattle.mb_model.proofs.Options.{if_some}
-use Rattle.mb_steps.proofs.StepArises.{Arises}
+use Rattle.mb_steps.specs.Arises.{Arises}
 use Rattle.mb_theory.specs.Inside.{strings_in}
 use Rattle.mb_theory.specs.Inside.{bodies_in}
 use Rattle.mb_theory.specs.WorldEvents.{IsCorrect}

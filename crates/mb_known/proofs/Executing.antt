@@ -12,7 +12,7 @@ use Rattle.mb_model.specs.Stable.{low_of}
 use Rattle.mb_model.specs.Positions.{exec_of, slot_at}
 use Rattle.mb_model.specs.EnabledRules.{Execute, execute_enabled, if_committed, is_committed}
 use Rattle.mb_model.proofs.Options.{if_some, map_some}
-use Rattle.mb_steps.proofs.StepArises.{Executes}
+use Rattle.mb_steps.specs.Arises.{Executes}
 
 module _ {S : Type 0} (self : Identity S) where
   -- a batch at a position that may be executed

@@ -22,7 +22,7 @@ use Rattle.mb_model.specs.CarriedLogs.{log_claims}
 use Rattle.mb_model.specs.Verified.{verifies}
 use Rattle.mb_model.specs.Histories.{said, stamped}
 use Rattle.mb_steps.specs.OwnLists.{AreNumbered}
-use Rattle.mb_steps.proofs.StepArises.{Arises}
+use Rattle.mb_steps.specs.Arises.{Arises}
 use Rattle.mb_theory.specs.Hashed.{HashesApart}
 use Rattle.mb_theory.specs.Inside.{floor_bodies}
 use Rattle.mb_schedule.specs.declared.schedule.Schedule.{Schedule}

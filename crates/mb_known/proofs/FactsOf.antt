@@ -10,7 +10,7 @@ use Rattle.mb_model.specs.Histories.{History, stamped}
 use Rattle.mb_steps.specs.OwnLists.{AreNumbered}
 use Rattle.mb_model.specs.HostStep.{transition, after as after_events}
 use Rattle.mb_model.proofs.ShapesFit.{shape_fits}
-use Rattle.mb_steps.proofs.StepArises.{Arises}
+use Rattle.mb_steps.specs.Arises.{Arises}
 use Rattle.mb_steps.proofs.StepEventsArise.{after_arises}
 use Rattle.mb_steps.proofs.OwnListsOrdered.{own_lists}
 use Rattle.mb_theory.specs.Hashed.{HashesApart}

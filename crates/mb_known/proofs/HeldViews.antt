@@ -35,7 +35,7 @@ use Rattle.mb_model.specs.UsableLogs.{is_whole}
 use Rattle.mb_model.proofs.Members.{In, in_left, in_right}
 use Rattle.mb_model.proofs.Options.{or_some, if_some}
 use Rattle.mb_model.proofs.RisingLists.{RiseFrom, rise_found, rise_passed, rise_take}
-use Rattle.mb_steps.proofs.StepArises.{Arises}
+use Rattle.mb_steps.specs.Arises.{Arises}
 use Rattle.mb_steps.proofs.StepHeldEvidence.{enter_checks, new_view_checks, news_from}
 use Rattle.mb_theory.specs.Inside.{claims_in, stamped_claims}
 use Rattle.mb_known.proofs.Cases.{some_is, then_some_of}

@@ -7,7 +7,7 @@ use Rattle.mb_msg.specs.Stamps.{bare_of}
 use Rattle.mb_model.specs.Histories.{Entry, Stamped, History, Identity, said, stamped as all_stamped}
 use Rattle.mb_steps.specs.OwnLists.{AreNumbered}
 use Rattle.mb_model.proofs.Members.{In}
-use Rattle.mb_steps.proofs.StepArises.{Arises}
+use Rattle.mb_steps.specs.Arises.{Arises}
 use Rattle.mb_known.proofs.Rests.{Each}
 
 -- ---- how a history once was

@@ -25,7 +25,7 @@ use Rattle.mb_model.specs.Histories.{Accepted, Stamped, Jumped, Closed, Served, 
 use Rattle.mb_model.specs.Making.{if_covered, floors_under, view_change, new_view, enter, opening, join, commit, prepare, checkpoint}
 use Rattle.mb_model.specs.Passed.{PassesGate}
 use Rattle.mb_model.specs.Sending.{signed, next_ui}
-use Rattle.mb_steps.proofs.StepArises.{Arises, Makes}
+use Rattle.mb_steps.specs.Arises.{Arises, Makes}
 use Rattle.mb_steps.proofs.StepOwnList.{stands_here}
 use Rattle.mb_steps.proofs.StepOwnStamped.{steady}
 use Rattle.mb_steps.proofs.StepRounds.{ui_under}

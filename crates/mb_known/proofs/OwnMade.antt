@@ -33,7 +33,7 @@ use Rattle.mb_model.specs.OwnLog.{has_room, has_other_room, proof_of}
 use Rattle.mb_model.specs.Positions.{slot_in, slot_at, in_window, position_limit}
 use Rattle.mb_model.specs.Stable.{stable_of, low_of}
 use Rattle.mb_model.proofs.Options.{if_some, map_some}
-use Rattle.mb_steps.proofs.StepArises.{Arises}
+use Rattle.mb_steps.specs.Arises.{Arises}
 use Rattle.mb_steps.proofs.StepHeldEvidence.{announce_seen, open_seen}
 use Rattle.mb_steps.proofs.StepOwnList.{stands_here}
 use Rattle.mb_steps.proofs.StepOwnStamped.{steady}

@@ -30,7 +30,7 @@ use Rattle.mb_model.specs.Histories.{Entry, Accepted, Stamped, History, Identity
 use Rattle.mb_steps.specs.OwnLists.{inner}
 use Rattle.mb_model.specs.Positions.{batch_from, slot_of_plan, slot_of_prepare, slot_of_open, slot_by, slot_in}
 use Rattle.mb_model.proofs.Options.{if_some, map_some}
-use Rattle.mb_steps.proofs.StepArises.{Arises, Makes}
+use Rattle.mb_steps.specs.Arises.{Arises, Makes}
 use Rattle.mb_steps.proofs.StepOwnSteady.{found_slot}
 use Rattle.mb_steps.proofs.StepHeldEvidence.{prepare_by_primary}
 use Rattle.mb_steps.proofs.StepOwnStamped.{steady}

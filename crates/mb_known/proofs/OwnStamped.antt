@@ -20,7 +20,7 @@ use Rattle.mb_model.specs.Histories.{Executed, Stamped, History, Identity, count
 use Rattle.mb_model.specs.Making.{prepare, commit, view_change, new_view, enter, opening, join, checkpoint, floors_under, present_parts}
 use Rattle.mb_model.specs.Sending.{signed, next_ui}
 use Rattle.mb_model.specs.States.{state_digest}
-use Rattle.mb_steps.proofs.StepArises.{Arises, Makes, JustExecuted}
+use Rattle.mb_steps.specs.Arises.{Arises, Makes, JustExecuted}
 use Rattle.mb_steps.proofs.StepRounds.{ui_under, bare_under}
 use Rattle.mb_known.proofs.Rests.{Each}
 use Rattle.mb_known.proofs.OwnKnown.{AllGood, GoodBody, KnownStamp, Known}

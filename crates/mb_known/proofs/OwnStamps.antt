@@ -27,7 +27,7 @@ use Rattle.mb_model.specs.Verified.{verifies}
 use Rattle.mb_model.specs.Histories.{Stamped, History, said, stamped, counter_of}
 use Rattle.mb_steps.specs.OwnLists.{AreNumbered}
 use Rattle.mb_model.proofs.Members.{In}
-use Rattle.mb_steps.proofs.StepArises.{Arises}
+use Rattle.mb_steps.specs.Arises.{Arises}
 use Rattle.mb_theory.specs.WorldEvents.{IsCorrect}
 use Rattle.mb_theory.specs.World.{World, System, self_of}
 use Rattle.mb_theory.specs.WorldRecord.{issued}

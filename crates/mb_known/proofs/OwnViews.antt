@@ -13,7 +13,7 @@ use Rattle.mb_msg.specs.Fits.{FitsWish, FitsViewChange}
 use Rattle.mb_model.specs.EnabledRules.{new_view_number, target}
 use Rattle.mb_model.specs.Held.{view_limit, wish_in, wish_of, is_wished, quorum_wish, new_view_of, evidence_view, evidence_of}
 use Rattle.mb_model.specs.Histories.{Entry, Accepted, Stamped, LostPatience, History, Identity, view_of, said, stamped as all_stamped}
-use Rattle.mb_steps.proofs.StepArises.{Arises}
+use Rattle.mb_steps.specs.Arises.{Arises}
 use Rattle.mb_steps.proofs.StepOwnList.{stands_here}
 use Rattle.mb_steps.proofs.StepOwnStamped.{steady}
 use Rattle.mb_known.proofs.Rests.{Each}

@@ -24,7 +24,8 @@ use Rattle.mb_model.proofs.Members.{In}
 use Rattle.mb_model.proofs.Options.{if_some}
 use Rattle.mb_model.specs.CarriedOut.{just_served}
 use Rattle.mb_model.proofs.ServiceLaws.{each_push, served_push}
-use Rattle.mb_steps.proofs.StepArises.{Serves, Arises, IsWhole, none_served}
+use Rattle.mb_steps.specs.Arises.{Serves, Arises, IsWhole}
+use Rattle.mb_steps.proofs.StepArises.{none_served}
 use Rattle.mb_theory.specs.Headline.{IsService}
 use Rattle.mb_theory.specs.WorldEvents.{IsCorrect}
 use Rattle.mb_theory.specs.World.{World, System, self_of}

@@ -37,7 +37,7 @@ use Rattle.mb_model.specs.Making.{opening}
 use Rattle.mb_model.specs.EnabledRules.{Open, open_enabled, open_with, may_open, is_evidence_of}
 use Rattle.mb_model.specs.OwnLog.{has_other_room}
 use Rattle.mb_model.proofs.Options.{or_some, if_some, map_some}
-use Rattle.mb_steps.proofs.StepArises.{Makes}
+use Rattle.mb_steps.specs.Arises.{Makes}
 use Rattle.mb_steps.proofs.StepOwnList.{own_passed}
 use Rattle.mb_steps.proofs.StepOwnStamped.{steady}
 use Rattle.mb_theory.specs.WorldEvents.{IsCorrect}

@@ -36,7 +36,7 @@ use Rattle.mb_model.specs.Making.{prepare, commit, opening}
 use Rattle.mb_model.specs.EnabledRules.{Open, Commit, Prepare, open_with, may_open, open_enabled, next_position, with_batch, commit_enabled, greatest_in_slots, window, unordered, prepare_enabled, may_order, unordered_of}
 use Rattle.mb_model.proofs.Options.{or_some, if_some, map_some}
 use Rattle.mb_model.proofs.Members.{In, all_in}
-use Rattle.mb_steps.proofs.StepArises.{Makes}
+use Rattle.mb_steps.specs.Arises.{Makes}
 use Rattle.mb_theory.specs.Inside.{requests_in, body_in, strings_in, bodies_in}
 use Rattle.mb_theory.specs.WorldEvents.{IsCorrect}
 use Rattle.mb_theory.specs.World.{World, System, self_of}

@@ -4,7 +4,7 @@ use Rattle.mb_msg.specs.declared.event.Slot.{Slot}
 use Rattle.mb_model.specs.Histories.{Entry, Accepted, Stamped, Jumped, Closed, Served, Executed, Installed, DroppedParts, LostPatience, Nudged, History, Identity}
 use Rattle.mb_model.specs.Positions.{exec_of}
 use Rattle.mb_model.proofs.Members.{In, in_right}
-use Rattle.mb_steps.proofs.StepArises.{Executes, Adds, Arises}
+use Rattle.mb_steps.specs.Arises.{Executes, Adds, Arises}
 use Rattle.mb_known.proofs.Moments.{IsPast}
 use Rattle.mb_known.proofs.Executing.{IsExecution, execution}
 

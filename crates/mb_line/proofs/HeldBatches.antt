@@ -30,7 +30,7 @@ use Rattle.mb_model.specs.Making.{new_view}
 use Rattle.mb_model.proofs.Options.{or_some, or_none, then_none, if_some, map_some}
 use Rattle.mb_model.proofs.UsableLaws.{map_none}
 use Rattle.mb_model.proofs.Members.{In, in_left, in_right}
-use Rattle.mb_steps.proofs.StepArises.{Makes}
+use Rattle.mb_steps.specs.Arises.{Makes}
 use Rattle.mb_steps.proofs.StepHeldEvidence.{announce_seen}
 use Rattle.mb_steps.proofs.StepPlanBases.{all_filter, all_found, all_any}
 use Rattle.mb_theory.specs.WorldEvents.{IsCorrect}

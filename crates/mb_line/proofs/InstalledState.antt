@@ -29,7 +29,7 @@ use Rattle.mb_model.specs.Execution.{state_of}
 use Rattle.mb_model.specs.Sending.{next_ui}
 use Rattle.mb_model.specs.Making.{floors_under, checkpoint, present_parts}
 use Rattle.mb_model.proofs.Members.{In, contained, in_map}
-use Rattle.mb_steps.proofs.StepArises.{JustExecuted, Makes}
+use Rattle.mb_steps.specs.Arises.{JustExecuted, Makes}
 use Rattle.mb_steps.proofs.StepHeldStable.{stable_checks}
 use Rattle.mb_schedule.specs.Limits.{is_faulty}
 use Rattle.mb_theory.specs.WorldEvents.{IsCorrect}

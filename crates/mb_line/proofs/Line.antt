@@ -11,7 +11,7 @@ use Rattle.mb_model.specs.Histories.{Entry, Accepted, Stamped, Jumped, Closed, S
 use Rattle.mb_model.specs.Positions.{exec_of}
 use Rattle.mb_model.specs.HostStep.{transition}
 use Rattle.mb_model.proofs.Members.{In, in_right}
-use Rattle.mb_steps.proofs.StepArises.{Adds, Arises}
+use Rattle.mb_steps.specs.Arises.{Adds, Arises}
 use Rattle.mb_theory.specs.WorldEvents.{IsCorrect}
 use Rattle.mb_theory.specs.World.{World, System, self_of, extended}
 use Rattle.mb_theory.proofs.Lists.{get_last}

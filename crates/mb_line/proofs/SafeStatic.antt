@@ -14,7 +14,7 @@ use Rattle.mb_model.specs.Histories as entry
 use Rattle.mb_model.specs.Positions.{exec_of}
 use Rattle.mb_model.specs.CarriedOut.{just_served}
 use Rattle.mb_model.proofs.Members.{In, in_contained, contained, in_map, all_in}
-use Rattle.mb_steps.proofs.StepArises.{Serves}
+use Rattle.mb_steps.specs.Arises.{Serves}
 use Rattle.mb_theory.specs.Headline.{IsService}
 use Rattle.mb_theory.specs.WorldEvents.{IsCorrect}
 use Rattle.mb_theory.specs.World.{World, System, self_of}

@@ -31,7 +31,7 @@ use Rattle.mb_model.specs.Sending.{next_ui}
 use Rattle.mb_model.specs.Making.{view_change}
 use Rattle.mb_model.proofs.Options.{if_some}
 use Rattle.mb_model.proofs.Members.{In, contained, in_left, in_right, all_in}
-use Rattle.mb_steps.proofs.StepArises.{Makes}
+use Rattle.mb_steps.specs.Arises.{Makes}
 use Rattle.mb_steps.proofs.StepPlanBases.{all_filter}
 use Rattle.mb_theory.specs.Inside.{requests_in, bodies_in}
 use Rattle.mb_theory.specs.WorldEvents.{IsCorrect, IsCorrectClient}

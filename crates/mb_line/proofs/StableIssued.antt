@@ -18,7 +18,7 @@ use Rattle.mb_model.specs.Histories.{History, said}
 use Rattle.mb_model.specs.Stable.{stable_of}
 use Rattle.mb_model.specs.Verified.{verifies}
 use Rattle.mb_model.proofs.Members.{in_contained}
-use Rattle.mb_steps.proofs.StepArises.{Arises}
+use Rattle.mb_steps.specs.Arises.{Arises}
 use Rattle.mb_theory.specs.Justification.{IsGiven, IsKnown}
 use Rattle.mb_theory.specs.WorldEvents.{IsCorrect}
 use Rattle.mb_theory.specs.World.{World, System, self_of, stamps}

@@ -145,9 +145,9 @@ module _ {S : Type 0} (system : System S) (w : World) (f : Facts system w) (h : 
         hashed = all_at (In w.hashed) (state_strings_in (message.State m)) strings b (in_left m.parts _ b (in_at m.parts (i - m.first) b x.part));
         short = omega (arith, place, low);
       } where
-        each_adds : (then : History) → IsPast then (w.histories h) → Rattle.mb_steps.proofs.StepArises.Arises self then
-        each_adds then p = arises_past p.later then (subst (λ (y : History). Rattle.mb_steps.proofs.StepArises.Arises self y) (sym p.is) (f.arises h)) where
-          arises_past : (later then : History) → Rattle.mb_steps.proofs.StepArises.Arises self (later ++ then) → Rattle.mb_steps.proofs.StepArises.Arises self then
+        each_adds : (then : History) → IsPast then (w.histories h) → Rattle.mb_steps.specs.Arises.Arises self then
+        each_adds then p = arises_past p.later then (subst (λ (y : History). Rattle.mb_steps.specs.Arises.Arises self y) (sym p.is) (f.arises h)) where
+          arises_past : (later then : History) → Rattle.mb_steps.specs.Arises.Arises self (later ++ then) → Rattle.mb_steps.specs.Arises.Arises self then
           arises_past [] then a = a
           arises_past (e ∷ later) then a = arises_past later then a.1
 
@@ -174,7 +174,7 @@ module _ {S : Type 0} (system : System S) (w : World) (f : Facts system w) (h : 
   certified pos parts d past =
       let before : IsPast d (w.histories h) = past_tail (Installed pos parts) d (w.histories h) past in
       let rests = (each_at _ (Installed pos parts ∷ d) (w.histories h) past (f.standing.rests h)).0 in
-      let adds = (Rattle.mb_line.proofs.Executions.past_adds self past.later (Installed pos parts ∷ d) (subst (λ (y : History). Rattle.mb_steps.proofs.StepArises.Arises self y) (sym past.is) (f.arises h))).0 in
+      let adds = (Rattle.mb_line.proofs.Executions.past_adds self past.later (Installed pos parts ∷ d) (subst (λ (y : History). Rattle.mb_steps.specs.Arises.Arises self y) (sym past.is) (f.arises h))).0 in
       let held = each_held self d rests.1 in
       let zeroth = held 0 (omega arith) in
       let first = listed d before 0 zeroth.0 zeroth.1 in

@@ -10,7 +10,8 @@ use Rattle.mb_model.specs.Positions.{exec_of}
 use Rattle.mb_model.specs.Sending.{Progress, write}
 use Rattle.mb_model.specs.CarriedOut.{just_served}
 use Rattle.mb_model.specs.HostStep.{transition}
-use Rattle.mb_steps.proofs.StepArises.{Adds, Arises, IsWhole, none_served}
+use Rattle.mb_steps.specs.Arises.{Adds, Arises, IsWhole}
+use Rattle.mb_steps.proofs.StepArises.{none_served}
 use Rattle.mb_theory.specs.World.{System, self_of}
 use Rattle.mb_theory.specs.WorldSteps.{world}
 use Rattle.mb_theory.proofs.KeptByEvents.{served_keep}

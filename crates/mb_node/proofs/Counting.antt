@@ -44,7 +44,7 @@ use Rattle.mb_model.specs.CarriedOut.{placed_in, serve, serve_all, close_slot, a
 use Rattle.mb_model.specs.Given.{Answer, closing, offer_prepare, named_prepare, casts_vote, accept, give_stamped, give_request, give_wish, give_resend, give_fetch, give_state, install_where_all, jump, floor_shown, go_on, give_entries, give_log, give}
 use Rattle.mb_model.specs.HostStep.{on_patience, on_nudge, wish_again, with_fetch, low_rose, finished_where, on_message, on_bytes, transition, rules_follow, asks_on, is_taken}
 use Rattle.mb_model.proofs.Options.{option_cases, or_some}
-use Rattle.mb_steps.proofs.StepArises.{IsWhole}
+use Rattle.mb_steps.specs.Arises.{IsWhole}
 use Rattle.mb_steps.proofs.StepGivenArise.{give_arises}
 use Rattle.mb_model.proofs.ShapesFit.{shape_fits}
 use Rattle.mb_known.proofs.ReadFits.{read_fits}

@@ -5,7 +5,7 @@ use Rattle.mb_base.specs.Shapes.{Bytes, host_count}
 use Rattle.mb_edge.specs.Disks.{Moments}
 use Rattle.mb_msg.specs.declared.event.Event.{Event}
 use Rattle.mb_model.specs.Histories.{History, Identity, onto}
-use Rattle.mb_steps.proofs.StepArises.{IsWhole}
+use Rattle.mb_steps.specs.Arises.{IsWhole}
 use Rattle.mb_core.specs.declared.replica.Replica.{Replica}
 use Rattle.mb_core.specs.Represents.{Represents}
 use Rattle.mb_replica.specs.Represents.{Serves}

@@ -4,7 +4,7 @@ use Rattle.mb_msg.specs.declared.event.Event.{Event}
 use Rattle.mb_msg.specs.declared.event.Sent.{Sent}
 use Rattle.mb_msg.specs.declared.event.Step.{Step}
 use Rattle.mb_model.specs.Histories.{History, Identity}
-use Rattle.mb_steps.proofs.StepArises.{IsWhole}
+use Rattle.mb_steps.specs.Arises.{IsWhole}
 use Rattle.mb_sched.specs.declared.records.Entry.{Entry}
 use Rattle.mb_core.specs.declared.replica.Replica.{Replica}
 use Rattle.mb_core.specs.Represents.{Represents}

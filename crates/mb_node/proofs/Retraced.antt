@@ -8,7 +8,7 @@ use Rattle.mb_base.specs.Shapes.{Bytes}
 use Rattle.mb_msg.specs.declared.event.Step.{Step}
 use Rattle.mb_usig.specs.Tags.{same_bytes}
 use Rattle.mb_model.specs.Histories.{Identity, History}
-use Rattle.mb_steps.proofs.StepArises.{IsWhole}
+use Rattle.mb_steps.specs.Arises.{IsWhole}
 use Rattle.mb_sched.specs.declared.records.Entry.{Entry}
 use Rattle.mb_core.specs.declared.replica.Replica.{Replica}
 use Rattle.mb_core.specs.Represents.{Represents}

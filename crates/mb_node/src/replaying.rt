@@ -2,7 +2,7 @@
 
 ghost use Rattle.std.specs.Prelude.{◌≡◌, ◌∷◌, [], false, reverse, IfOk, OnOk};
 ghost use Rattle.mb_model.specs.Histories.{Identity, History};
-ghost use Rattle.mb_steps.proofs.StepArises.{IsWhole};
+ghost use Rattle.mb_steps.specs.Arises.{IsWhole};
 ghost use Rattle.mb_core.specs.Represents.{Represents, IsAtRest};
 ghost use Rattle.mb_replica.specs.Represents.{Serves};
 ghost use Rattle.mb_node.specs.Replaying.{IsReplayed};

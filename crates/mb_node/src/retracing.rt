@@ -3,7 +3,7 @@
 ghost use Rattle.std.specs.Prelude.{◌≡◌, ◌<◌, ◌==◌, ◌&&◌, false, OnOk};
 ghost use Rattle.mb_base.specs.Shapes.{host_count};
 ghost use Rattle.mb_model.specs.Histories.{Identity, History};
-ghost use Rattle.mb_steps.proofs.StepArises.{IsWhole};
+ghost use Rattle.mb_steps.specs.Arises.{IsWhole};
 ghost use Rattle.mb_usig.specs.Tags.{same_bytes};
 ghost use Rattle.mb_core.specs.Represents.{Represents, IsAtRest};
 ghost use Rattle.mb_replica.specs.Represents.{Serves};

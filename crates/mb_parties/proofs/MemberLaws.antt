@@ -7,7 +7,7 @@ use Rattle.mb_msg.specs.declared.event.Event.{Event}
 use Rattle.mb_replica.specs.declared.told.Told.{Told}
 use Rattle.mb_model.specs.Histories.{History, Identity}
 use Rattle.mb_model.specs.HostStep.{transition}
-use Rattle.mb_steps.proofs.StepArises.{IsWhole}
+use Rattle.mb_steps.specs.Arises.{IsWhole}
 use Rattle.mb_searches.specs.Sound.{IsSound}
 use Rattle.mb_schedule.specs.Limits.{is_faulty}
 use Rattle.mb_core.specs.declared.replica.Replica.{Replica}

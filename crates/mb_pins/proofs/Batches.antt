@@ -22,7 +22,7 @@ use Rattle.mb_model.specs.EnabledRules.{number_of, greatest, greatest_in, number
 use Rattle.mb_model.proofs.Members.{In, in_contained, contained, in_left, in_right, in_map}
 use Rattle.mb_model.proofs.Options.{option_cases, if_some}
 use Rattle.mb_searches.proofs.Executing.{pending_client}
-use Rattle.mb_steps.proofs.StepArises.{Arises}
+use Rattle.mb_steps.specs.Arises.{Arises}
 use Rattle.mb_theory.specs.NothingLeft.{IsFull, IsInWindow, AreBelow, IsUnordered}
 use Rattle.mb_theory.specs.World.{self_of}
 use Rattle.mb_theory.specs.WorldSteps.{world}

@@ -53,7 +53,7 @@ use Rattle.mb_model.specs.Passed.{PassesGate, PassesBody, PassesVote, PassesRequ
 use Rattle.mb_model.proofs.Members.{In, contained}
 use Rattle.mb_model.proofs.Options.{or_none, then_none, if_some}
 use Rattle.mb_steps.specs.OwnLists.{IsOwn}
-use Rattle.mb_steps.proofs.StepArises.{Arises}
+use Rattle.mb_steps.specs.Arises.{Arises}
 use Rattle.mb_steps.proofs.StepOwnList.{own_passed}
 use Rattle.mb_steps.proofs.StepOwnStamped.{steady}
 use Rattle.mb_theory.specs.NothingLeft.{IsNoLog}

@@ -23,7 +23,7 @@ use Rattle.mb_model.specs.Making.{log_for, state_message}
 use Rattle.mb_model.specs.KindChecks.{is_badly_tagged}
 use Rattle.mb_model.specs.PlainChecks.{last_seq, is_behind_pending, number_refusal, request_refusal, resend_refusal, fetch_refusal}
 use Rattle.mb_model.specs.Given.{answer, answer_unless, answer_request, stored_reply, give_request, give_resend, give_fetch}
-use Rattle.mb_steps.proofs.StepArises.{Adds}
+use Rattle.mb_steps.specs.Arises.{Adds}
 use Rattle.mb_steps.proofs.StepPassed.{passes_request, passes_resend, passes_fetch}
 use Rattle.mb_searches.proofs.Framing.{low_stays}
 use Rattle.mb_fetch.specs.Snapshots.{parts_at}

@@ -7,7 +7,7 @@ use Rattle.mb_model.specs.Histories.{Entry, Served, History, Identity}
 use Rattle.mb_model.specs.Stable.{low_of}
 use Rattle.mb_model.specs.CarriedOut.{just_served}
 use Rattle.mb_model.specs.Sending.{Progress, write}
-use Rattle.mb_steps.proofs.StepArises.{Adds}
+use Rattle.mb_steps.specs.Arises.{Adds}
 use Rattle.mb_searches.specs.Speaks.{is_served, is_stamp, speaks_of_gate, speaks_of_log, speaks_of_positions, speaks_of_stable, speaks_of_executed, speaks_of_state, speaks_of_snapshots, speaks_of_parts, is_nudge}
 use Rattle.mb_searches.specs.Gates.{MovesGate}
 use Rattle.mb_searches.proofs.Framing.{low_stays}

@@ -28,7 +28,7 @@ use Rattle.mb_model.specs.GateChecks.{valid, is_own_future, gate_refusal}
 use Rattle.mb_model.specs.KindChecks.{stamped_refusal}
 use Rattle.mb_model.specs.Sending.{Progress, write}
 use Rattle.mb_model.specs.Given.{named_prepare, offer_prepare, closing}
-use Rattle.mb_steps.proofs.StepArises.{Arises}
+use Rattle.mb_steps.specs.Arises.{Arises}
 use Rattle.mb_steps.proofs.StepPassed.{passes_stamped}
 use Rattle.mb_searches.specs.Gates.{refusal_of}
 use Rattle.mb_searches.proofs.Named.{named_refusal}

@@ -6,7 +6,7 @@ use Rattle.mb_msg.specs.declared.event.Outcome.{Outcome}
 use Rattle.mb_model.specs.Histories.{Entry, History, Identity}
 use Rattle.mb_model.specs.Sending.{Progress, write}
 use Rattle.mb_model.specs.Given.{Answer}
-use Rattle.mb_steps.proofs.StepArises.{Adds}
+use Rattle.mb_steps.specs.Arises.{Adds}
 use Rattle.mb_searches.specs.Gates.{MovesGate}
 use Rattle.mb_searches.specs.Speaks.{is_stamp, is_served}
 use Rattle.mb_searches.proofs.Executing.{served_ends}

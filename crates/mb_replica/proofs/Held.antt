@@ -22,7 +22,7 @@ use Rattle.mb_model.specs.Held.{is_current, new_view_in, gives_plan, plan_held, 
 use Rattle.mb_model.specs.KindChecks.{stamped_refusal}
 use Rattle.mb_model.specs.UsableLogs.{is_whole}
 use Rattle.mb_model.specs.Stable.{stable_of, further, plan_base}
-use Rattle.mb_steps.proofs.StepArises.{Arises}
+use Rattle.mb_steps.specs.Arises.{Arises}
 use Rattle.mb_change.specs.Tables.{Table as ChangeTable}
 use Rattle.mb_change.specs.Searches.{Searches as ChangeSearches, opened_in, with_opened, with_new_view, with_plan}
 use Rattle.mb_change.specs.Represents.{StandsWith, Represents as ChangeRepresents}

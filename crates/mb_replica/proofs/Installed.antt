@@ -16,7 +16,7 @@ use Rattle.mb_model.specs.Execution.{state_of, state_from, part_held, missing, p
 use Rattle.mb_model.specs.PlainChecks.{bad_state, state_refusal}
 use Rattle.mb_model.specs.Sending.{Progress, write}
 use Rattle.mb_model.specs.Given.{install}
-use Rattle.mb_steps.proofs.StepArises.{Adds}
+use Rattle.mb_steps.specs.Arises.{Adds}
 use Rattle.mb_steps.proofs.StepPassed.{passes_state}
 use Rattle.mb_searches.specs.Sound.{IsSound}
 use Rattle.mb_searches.proofs.Sound.{stays_sound}

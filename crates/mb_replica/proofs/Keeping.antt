@@ -19,7 +19,7 @@ use Rattle.mb_model.specs.Stable.{stable_of, low_of, further, learnt_in, checkpo
 use Rattle.mb_model.specs.Stable as history
 use Rattle.mb_model.specs.KindChecks.{stamped_refusal}
 use Rattle.mb_model.proofs.Options.{or_some}
-use Rattle.mb_steps.proofs.StepArises.{Arises}
+use Rattle.mb_steps.specs.Arises.{Arises}
 use Rattle.mb_steps.proofs.StepPotential.{not_above}
 use Rattle.mb_fetch.specs.Snapshots.{Snapshot}
 use Rattle.mb_fetch.specs.Fetched.{Fetched}

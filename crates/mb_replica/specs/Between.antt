@@ -20,7 +20,7 @@ use Rattle.mb_model.specs.Making.{present_parts}
 use Rattle.mb_model.specs.Sending.{Progress}
 use Rattle.mb_model.specs.KindChecks.{stamped_refusal}
 use Rattle.mb_model.specs.Given.{casts_vote}
-use Rattle.mb_steps.proofs.StepArises.{JustExecuted}
+use Rattle.mb_steps.specs.Arises.{JustExecuted}
 use Rattle.mb_searches.specs.Sound.{IsSound}
 use Rattle.mb_log.specs.Logs.{start, floor_counter, cut_at}
 use Rattle.mb_fitting.specs.Fitting.{AreFit}

@@ -10,7 +10,7 @@ use Rattle.mb_model.specs.CarriedOut.{just_served}
 use Rattle.mb_model.specs.Sending.{Letter, Progress}
 use Rattle.mb_model.specs.Given.{Answer}
 use Rattle.mb_model.specs.HostStep.{rules_follow, asks_on}
-use Rattle.mb_steps.proofs.StepArises.{IsWhole}
+use Rattle.mb_steps.specs.Arises.{IsWhole}
 use Rattle.mb_msg.specs.declared.message.Message.{Message}
 use Rattle.mb_msg.specs.declared.message.Message.TheVariants as message
 use Rattle.mb_cache.specs.Represents.{machine_of, snapshots_of}

@@ -9,7 +9,7 @@ use Rattle.mb_msg.specs.declared.event.Event.{Event}
 use Rattle.mb_model.specs.Histories.{Identity, onto}
 use Rattle.mb_model.specs.Sending.{Letter}
 use Rattle.mb_model.specs.HostStep.{after}
-use Rattle.mb_steps.proofs.StepArises.{IsWhole}
+use Rattle.mb_steps.specs.Arises.{IsWhole}
 use Rattle.mb_edge.specs.Disks.{Moments, IsImage, LeavesOnly}
 use Rattle.mb_journal.specs.Keeping.{JournalState, IsAtRest}
 use Rattle.mb_core.specs.declared.replica.Replica.{Replica}

@@ -21,7 +21,7 @@ use Rattle.mb_model.specs.Stable.{checkpoint_in, checkpoint_by, checkpoint_of, a
 use Rattle.mb_model.specs.Positions.{exec_of, position_limit, in_window}
 use Rattle.mb_model.specs.EnabledRules.{Rule, execute_enabled, if_committed, rule_where}
 use Rattle.mb_model.proofs.Options.{or_some, if_some}
-use Rattle.mb_steps.proofs.StepArises.{Arises, JustExecuted}
+use Rattle.mb_steps.specs.Arises.{Arises, JustExecuted}
 use Rattle.mb_steps.proofs.StepHeldEvidence.{some_is}
 use Rattle.mb_steps.proofs.StepPotential.{grown_low}
 

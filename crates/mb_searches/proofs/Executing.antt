@@ -17,7 +17,7 @@ use Rattle.mb_model.specs.Positions.{exec_of, is_behind}
 use Rattle.mb_model.specs.Execution.{if_above, part_in, if_restored, state_from, state_of, if_fresh, pending, parts_after, snapshot_of, part_of, part_held, next_host, asked_host}
 use Rattle.mb_model.specs.CarriedOut.{just_served}
 use Rattle.mb_model.proofs.Options.{if_some}
-use Rattle.mb_steps.proofs.StepArises.{Arises}
+use Rattle.mb_steps.specs.Arises.{Arises}
 use Rattle.mb_steps.proofs.StepPotential.{grown_low}
 use Rattle.mb_searches.specs.Speaks.{is_served, speaks_of_snapshots, speaks_of_parts}
 use Rattle.mb_searches.proofs.Framing.{parts_after_stay, parts_stay}

@@ -28,7 +28,7 @@ use Rattle.mb_steps.specs.OwnLists.{IsOwn}
 use Rattle.mb_model.specs.Making.{view_change, new_view, enter, opening, join, commit, prepare, checkpoint}
 use Rattle.mb_model.specs.KindChecks.{kind_refusal, stamped_refusal}
 use Rattle.mb_model.specs.Passed.{PassesGate}
-use Rattle.mb_steps.proofs.StepArises.{Makes, Arises}
+use Rattle.mb_steps.specs.Arises.{Makes, Arises}
 use Rattle.mb_steps.proofs.StepOwnList.{stands_here}
 use Rattle.mb_steps.proofs.StepOwnStamped.{steady}
 use Rattle.mb_steps.proofs.StepPotential.{not_above}

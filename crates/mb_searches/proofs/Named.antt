@@ -30,7 +30,7 @@ use Rattle.mb_model.specs.KindChecks.{is_beyond, is_of_later_view, is_of_view, b
 use Rattle.mb_model.specs.Passed.{PassesBody, PassesStamped}
 use Rattle.mb_model.specs.Given.{named_prepare, casts_vote}
 use Rattle.mb_model.proofs.Options.{or_nothing}
-use Rattle.mb_steps.proofs.StepArises.{Arises}
+use Rattle.mb_steps.specs.Arises.{Arises}
 use Rattle.mb_searches.proofs.Framing.{low_stays, exec_stays}
 use Rattle.mb_searches.proofs.Standing.{view_stays}
 

@@ -12,7 +12,7 @@ use Rattle.mb_model.specs.Histories.{Entry, History, Identity, view_of}
 use Rattle.mb_model.specs.Stable.{low_of}
 use Rattle.mb_model.specs.Positions.{position_limit, in_window, counts_at, slot_by, slot_in, slot_at, vote_by, open_vote_by, vote_of, vote_at}
 use Rattle.mb_model.proofs.Options.{or_some, if_some}
-use Rattle.mb_steps.proofs.StepArises.{Arises}
+use Rattle.mb_steps.specs.Arises.{Arises}
 use Rattle.mb_steps.proofs.StepPotential.{grown_low}
 use Rattle.mb_searches.specs.Behind.{left_at, if_in_window, slot_left, vote_left, vote_new}
 use Rattle.mb_searches.proofs.Standing.{views_rise}

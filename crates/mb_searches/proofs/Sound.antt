@@ -5,7 +5,7 @@ use Rattle.mb_msg.specs.declared.stamped.Stamped.TheVariants as stamped
 use Rattle.mb_msg.specs.Stamps.{as_message}
 use Rattle.mb_model.specs.Histories.{Entry, Accepted, Jumped, Closed, History, Identity}
 use Rattle.mb_model.specs.KindChecks.{stamped_refusal}
-use Rattle.mb_steps.proofs.StepArises.{Adds, Arises}
+use Rattle.mb_steps.specs.Arises.{Adds, Arises}
 use Rattle.mb_steps.proofs.StepOwnStamped.{steady}
 use Rattle.mb_steps.proofs.StepPassed.{passes_stamped}
 use Rattle.mb_steps.proofs.StepPotential.{start_bounded}

@@ -25,13 +25,14 @@ use Rattle.mb_model.specs.CarriedOut.{just_served, placed_in, serve, serve_all, 
 use Rattle.mb_model.specs.Given.{Answer, give}
 use Rattle.mb_model.specs.HostStep.{on_patience, on_nudge, on_message, on_bytes, low_rose, with_fetch, finished_where, transition}
 use Rattle.mb_model.proofs.Options.{option_cases, map_some, if_some}
-use Rattle.mb_steps.proofs.StepArises.{IsWhole, ArisesWhole, none_served}
+use Rattle.mb_steps.specs.Arises.{IsWhole}
+use Rattle.mb_steps.proofs.StepArises.{ArisesWhole, none_served}
 use Rattle.mb_steps.proofs.StepEventsArise.{transition_arises}
 use Rattle.mb_steps.proofs.StepPotential.{served_history}
 use Rattle.mb_steps.proofs.StepRulesArise.{run_arises}
 use Rattle.mb_steps.proofs.StepUnchanged.{served_enabled}
 use Rattle.mb_searches.specs.Gates.{GatesMove}
-use Rattle.mb_searches.specs.Sound.{IsSound}
+use Rattle.mb_searches.specs.Sound.{IsSound, IsServing}
 use Rattle.mb_searches.proofs.Framing.{exec_stays}
 use Rattle.mb_searches.proofs.Sound.{sound, stays_sound}
 use Rattle.mb_searches.proofs.SoundSteps.{give_sound}
@@ -98,12 +99,6 @@ module _ {S : Type 0} (self : Identity S) where
 
   -- ---- within a batch: these requests of it are left
 
-  pub record IsServing (p : ℕ) (b : Batch) (more : List Request) (d : History) : Type 0 where
-    pub sound : IsSound self d
-    pub enabled : execute_enabled self d ≡ Some (Execute p b)
-    pub place : p ≡ exec_of d + 1
-    pub requests : map (λ x. x.request) (just_served d) ++ more ≡ b.requests
-
   abbrev place_of : Rule → ℕ
   place_of (Execute q c) = q
   place_of r = 0
@@ -118,7 +113,7 @@ module _ {S : Type 0} (self : Identity S) where
         let m = map_some (Execute (exec_of d + 1)) k.batch (Execute p b) t.1 in
         sym (ap place_of m.2)
 
-  pub serving_begins : (p : ℕ) (b : Batch) (d : History) → execute_enabled self d ≡ Some (Execute p b) → IsSound self d → IsWhole d → IsServing p b b.requests d
+  pub serving_begins : (p : ℕ) (b : Batch) (d : History) → execute_enabled self d ≡ Some (Execute p b) → IsSound self d → IsWhole d → IsServing self p b b.requests d
   serving_begins p b d e s w = record {
     sound = s;
     enabled = e;
@@ -127,7 +122,7 @@ module _ {S : Type 0} (self : Identity S) where
   }
 
   -- the next request is served
-  pub serving_goes_on : (p : ℕ) (b : Batch) (r : Request) (more : List Request) (d : History) → IsServing p b (r ∷ more) d → IsServing p b more (Served p (placed_in self d r) ∷ d)
+  pub serving_goes_on : (p : ℕ) (b : Batch) (r : Request) (more : List Request) (d : History) → IsServing self p b (r ∷ more) d → IsServing self p b more (Served p (placed_in self d r) ∷ d)
   unfolding just_served
   serving_goes_on p b r more d s =
       let placed : Placed = placed_in self d r in
@@ -140,7 +135,7 @@ module _ {S : Type 0} (self : Identity S) where
       }
 
   -- the batch is executed
-  pub serving_ends : (p : ℕ) (b : Batch) (d : History) → IsServing p b [] d → IsSound self (Executed (slot_for self d p) ∷ d)
+  pub serving_ends : (p : ℕ) (b : Batch) (d : History) → IsServing self p b [] d → IsSound self (Executed (slot_for self d p) ∷ d)
   serving_ends p b d s =
       let requests : map (λ x. x.request) (just_served d) ≡ b.requests = sym (append-nil (map (λ x. x.request) (just_served d))) ∙ s.requests in
       let batch : b ≡ batch_of (slot_for self d p) = ap (λ (l : List Request). record { requests = l }) (sym requests) in

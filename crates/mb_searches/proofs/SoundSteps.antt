@@ -26,7 +26,7 @@ use Rattle.mb_model.specs.KindChecks.{stamped_refusal}
 use Rattle.mb_model.specs.PlainChecks.{request_refusal, wish_refusal, resend_refusal, log_refusal, fetch_refusal, state_refusal}
 use Rattle.mb_model.specs.Given.{closing, named_prepare, offer_prepare, casts_vote, accept, give_stamped, give_request, give_wish, give_resend, give_fetch, install_where_all, give_state, floor_shown, jump, give_entries, give_log, give}
 use Rattle.mb_model.proofs.Options.{option_cases}
-use Rattle.mb_steps.proofs.StepArises.{IsWhole}
+use Rattle.mb_steps.specs.Arises.{IsWhole}
 use Rattle.mb_steps.proofs.StepGivenArise.{give_arises}
 use Rattle.mb_steps.proofs.StepPassed.{passes_log}
 use Rattle.mb_searches.specs.Gates.{GatesMove}

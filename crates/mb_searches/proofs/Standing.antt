@@ -15,7 +15,7 @@ use Rattle.mb_model.specs.Histories.{Entry, Accepted, Stamped, Jumped, Closed, S
 use Rattle.mb_steps.specs.OwnLists.{IsOwn, inner}
 use Rattle.mb_model.specs.Sending.{signed, next_ui}
 use Rattle.mb_model.specs.Making.{view_change, new_view, enter, opening, join, commit, prepare, checkpoint}
-use Rattle.mb_steps.proofs.StepArises.{Adds, Arises, Makes}
+use Rattle.mb_steps.specs.Arises.{Adds, Arises, Makes}
 use Rattle.mb_steps.proofs.StepOwnList.{own_passed, stands_here}
 use Rattle.mb_steps.proofs.StepOwnStamped.{steady}
 use Rattle.mb_steps.proofs.StepRounds.{ui_under}

@@ -6,7 +6,7 @@ use Rattle.mb_model.specs.Stable.{checkpoint_of, low_of, log_floor}
 use Rattle.mb_model.specs.OwnLog.{log_longest}
 use Rattle.mb_model.specs.Positions.{slot_at, vote_at}
 use Rattle.mb_model.specs.Execution.{pending}
-use Rattle.mb_steps.proofs.StepArises.{Arises}
+use Rattle.mb_steps.specs.Arises.{Arises}
 use Rattle.mb_searches.specs.Speaks.{moves_gate, closes_gate, speaks_of_gate, is_stamp, changes_view, speaks_of_slots, speaks_of_votes, speaks_of_checkpoints, speaks_of_stable, speaks_of_log, speaks_of_wishes, speaks_of_changes, speaks_of_enters, speaks_of_opened, speaks_of_new_views, speaks_of_evidence, speaks_of_plans, speaks_of_change, speaks_of_requests, speaks_of_positions}
 use Rattle.mb_searches.specs.Gates.{log_of}
 use Rattle.mb_searches.proofs.Framing.{floors_stay, stamped_stay, longest_stays, log_floor_stays, wishes_stay, changes_stay, enters_stay, opened_stays, new_view_stays, evidence_stays, plan_stays, checkpoints_stay, low_stays, requests_stay, slot_at_stays, vote_at_stays}

@@ -16,7 +16,7 @@ use Rattle.mb_model.specs.Stable.{low_of}
 use Rattle.mb_model.specs.Held.{opened_by, plan_at}
 use Rattle.mb_model.specs.Positions.{in_window, counts_at, slot_by, slot_at, vote_by, open_vote, open_vote_by, counts_opens, vote_at, slot_vote, slot_of_open}
 use Rattle.mb_model.proofs.Options.{or_nothing}
-use Rattle.mb_steps.proofs.StepArises.{Arises}
+use Rattle.mb_steps.specs.Arises.{Arises}
 use Rattle.mb_steps.proofs.StepPotential.{not_above}
 use Rattle.mb_searches.specs.Speaks.{changes_view, speaks_of_stable, speaks_of_slots, speaks_of_votes}
 use Rattle.mb_searches.specs.Behind.{slot_in_prepare, vote_in_prepare, vote_in_commit, left_at, if_behind, if_in_window, slot_left, vote_left, vote_new}

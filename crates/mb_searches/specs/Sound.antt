@@ -1,7 +1,8 @@
 -- What holds of each history to which a host's steps lead, as its tables need it.
-use Rattle.std.specs.Prelude.{◌≡◌, ℕ, ◌+◌, ◌≤◌, ◌<◌, List, Some, None}
+use Rattle.std.specs.Prelude.{◌≡◌, ℕ, ◌+◌, ◌≤◌, ◌<◌, List, ◌++◌, map, Some, None}
 use Rattle.mb_base.specs.Shapes.{Bytes, span}
 use Rattle.mb_parts.specs.declared.request.Request.{Request}
+use Rattle.mb_parts.specs.declared.batch.Batch.{Batch}
 use Rattle.mb_msg.specs.declared.normal.Checkpoint.{Checkpoint}
 use Rattle.mb_model.specs.declared.known.Vote.{Vote}
 use Rattle.mb_model.specs.declared.known.KnownSlot.{KnownSlot}
@@ -11,7 +12,9 @@ use Rattle.mb_model.specs.Stable.{checkpoint_of, low_of}
 use Rattle.mb_model.specs.OwnLog.{log_start}
 use Rattle.mb_model.specs.Positions.{exec_of, slot_in, vote_of}
 use Rattle.mb_model.specs.Execution.{pending, parts_after, part_of}
-use Rattle.mb_steps.proofs.StepArises.{Arises}
+use Rattle.mb_model.specs.EnabledRules.{Execute, execute_enabled}
+use Rattle.mb_model.specs.CarriedOut.{just_served}
+use Rattle.mb_steps.specs.Arises.{Arises}
 use Rattle.mb_searches.specs.Gates.{GatesMove}
 
 module _ {S : Type 0} (self : Identity S) where
@@ -37,3 +40,10 @@ module _ {S : Type 0} (self : Identity S) where
     -- A request waits under its client, and the log begins within what was stamped.
     pub requests : (c : ℕ) (r : Request) → pending self d c ≡ Some r → r.client ≡ c
     pub log : log_start self d ≤ counter_of d
+
+  -- Within a batch: it is enabled to execute at this position, and these requests of it are left to serve.
+  pub record IsServing (p : ℕ) (b : Batch) (more : List Request) (d : History) : Type 0 where
+    pub sound : IsSound d
+    pub enabled : execute_enabled self d ≡ Some (Execute p b)
+    pub place : p ≡ exec_of d + 1
+    pub requests : map (λ x. x.request) (just_served d) ++ more ≡ b.requests

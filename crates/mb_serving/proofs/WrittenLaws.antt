@@ -14,7 +14,7 @@ use Rattle.mb_edge.proofs.ToldLemmas.{with_more-nil}
 use Rattle.mb_msg.specs.declared.event.Event.{Event}
 use Rattle.mb_model.specs.Histories.{Identity, History}
 use Rattle.mb_model.specs.HostStep.{transition}
-use Rattle.mb_steps.proofs.StepArises.{IsWhole}
+use Rattle.mb_steps.specs.Arises.{IsWhole}
 use Rattle.mb_searches.specs.Sound.{IsSound}
 use Rattle.mb_searches.proofs.Sound.{begins_sound}
 use Rattle.mb_searches.proofs.SoundRules.{transition_sound}

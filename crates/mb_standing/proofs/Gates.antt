@@ -25,7 +25,7 @@ use Rattle.mb_model.specs.Sending.{Progress, begin, write, next_of as next_in}
 use Rattle.mb_model.specs.GateChecks.{valid, gate_refusal}
 use Rattle.mb_model.specs.KindChecks.{stamped_refusal}
 use Rattle.mb_model.specs.Given.{jump}
-use Rattle.mb_steps.proofs.StepArises.{Adds}
+use Rattle.mb_steps.specs.Arises.{Adds}
 use Rattle.mb_steps.proofs.StepPassed.{passes_stamped}
 use Rattle.mb_fetch.proofs.Places.{get-set_same, get-set_other}
 use Rattle.mb_searches.specs.Speaks.{is_by, speaks_of_gate}

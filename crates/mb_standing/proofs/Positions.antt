@@ -20,7 +20,7 @@ use Rattle.mb_model.specs.Stable.{low_of as low_in}
 use Rattle.mb_model.specs.Positions.{in_window, slot_in, vote_of}
 use Rattle.mb_model.specs.Execution.{pending, if_above}
 use Rattle.mb_model.proofs.Options.{or_nothing}
-use Rattle.mb_steps.proofs.StepArises.{Arises}
+use Rattle.mb_steps.specs.Arises.{Arises}
 use Rattle.mb_steps.proofs.StepPotential.{not_above}
 use Rattle.mb_searches.specs.Speaks.{changes_view, speaks_of_stable, speaks_of_slots, speaks_of_votes, speaks_of_checkpoints, speaks_of_positions}
 use Rattle.mb_searches.proofs.Framing.{checkpoints_stay, low_stays, slot_at_stays, vote_at_stays}

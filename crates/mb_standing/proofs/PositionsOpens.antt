@@ -31,7 +31,7 @@ use Rattle.mb_model.proofs.Options.{if_some, or_some}
 use Rattle.mb_model.specs.Stable.{low_of, stable_of, further, plan_base}
 use Rattle.mb_model.specs.Positions.{position_limit, in_window, vote_at, slot_vote, batch_from, slot_of_plan, slot_of_open, open_vote, counts_opens}
 use Rattle.mb_model.proofs.Options.{or_nothing}
-use Rattle.mb_steps.proofs.StepArises.{Arises}
+use Rattle.mb_steps.specs.Arises.{Arises}
 use Rattle.mb_steps.proofs.StepPotential.{not_above}
 use Rattle.mb_searches.specs.Speaks.{changes_view, speaks_of_slots, speaks_of_requests, speaks_of_checkpoints, speaks_of_opened}
 use Rattle.mb_searches.proofs.Framing.{checkpoints_stay, low_stays, requests_stay, opened_stays}

@@ -26,7 +26,7 @@ use Rattle.mb_model.specs.Positions.{position_limit, in_window, counts_at, slot_
 use Rattle.mb_model.specs.EnabledRules.{Rule, Commit as CommitAt, Prepare as PrepareAt, with_batch, commit_enabled, prepare_enabled, next_position, may_order, unordered}
 use Rattle.mb_model.specs.Batches.{first_batch}
 use Rattle.mb_model.proofs.Options.{if_some, map_some}
-use Rattle.mb_steps.proofs.StepArises.{Arises, JustExecuted}
+use Rattle.mb_steps.specs.Arises.{Arises, JustExecuted}
 use Rattle.mb_steps.proofs.StepPotential.{order_parts}
 use Rattle.mb_searches.specs.Speaks.{changes_view, speaks_of_stable, speaks_of_slots, speaks_of_votes, speaks_of_requests, speaks_of_checkpoints}
 use Rattle.mb_searches.specs.Behind.{slot_in_prepare, vote_in_prepare, vote_in_commit}

@@ -16,7 +16,7 @@ use Rattle.mb_model.specs.Stable.{low_of}
 use Rattle.mb_model.specs.Positions.{exec_of}
 use Rattle.mb_model.specs.EnabledRules.{Rule, rule_where, execute_enabled}
 use Rattle.mb_model.specs.Execution.{state_of, parts_after, snapshot_of}
-use Rattle.mb_steps.proofs.StepArises.{Adds}
+use Rattle.mb_steps.specs.Arises.{Adds}
 use Rattle.mb_steps.proofs.StepPotential.{grown_low}
 use Rattle.mb_fetch.specs.Snapshots.{Snapshot, parts_at, Represents, with_snapshot, from_position, StandsWith, StandsFrom}
 use Rattle.mb_fetch.specs.Histories.{SnapshotsAnswerFor}

@@ -7,7 +7,7 @@ use Rattle.mb_model.specs.Histories.{Entry, Accepted, History, Identity, counter
 use Rattle.mb_model.specs.Stable.{stable_of, low_of}
 use Rattle.mb_model.specs.Positions.{exec_of}
 use Rattle.mb_model.specs.Execution.{state_of, asked_host}
-use Rattle.mb_steps.proofs.StepArises.{Adds}
+use Rattle.mb_steps.specs.Arises.{Adds}
 use Rattle.mb_fetch.specs.Snapshots.{StandsFrom}
 use Rattle.mb_searches.specs.Speaks.{speaks_of_gate, is_stamp, speaks_of_log, speaks_of_change, speaks_of_positions, speaks_of_stable, speaks_of_executed, speaks_of_state, speaks_of_snapshots, speaks_of_parts, is_nudge}
 use Rattle.mb_searches.specs.Gates.{MovesGate}

@@ -10,7 +10,7 @@ use Rattle.mb_model.specs.Making.{prepare, commit, view_change, new_view, enter,
 use Rattle.mb_model.specs.HostStep.{after}
 use Rattle.mb_steps.specs.OwnLists.{IsOwnList, own_ui, AreNumbered, OwnLists}
 use Rattle.mb_steps.proofs.StepRounds.{ui_under, bare_under}
-use Rattle.mb_steps.proofs.StepArises.{Arises, Makes}
+use Rattle.mb_steps.specs.Arises.{Arises, Makes}
 use Rattle.mb_steps.proofs.StepEventsArise.{after_arises}
 use Rattle.mb_steps.proofs.StepOwnList.{stands_here}
 use Rattle.mb_steps.proofs.StepOwnStamped.{steady}

@@ -14,7 +14,8 @@ use Rattle.mb_model.specs.CarriedOut.{run_rules, enough}
 use Rattle.mb_model.specs.Given.{Answer, give}
 use Rattle.mb_model.specs.Positions.{is_behind}
 use Rattle.mb_model.specs.HostStep.{on_patience, on_nudge, on_message, on_bytes, low_rose, with_fetch, finished_where, transition, after}
-use Rattle.mb_steps.proofs.StepArises.{Arises, IsWhole, ArisesWhole, Arisen}
+use Rattle.mb_steps.specs.Arises.{Arises, IsWhole}
+use Rattle.mb_steps.proofs.StepArises.{ArisesWhole, Arisen}
 use Rattle.mb_steps.proofs.StepGivenArise.{give_arises}
 use Rattle.mb_steps.proofs.StepRulesArise.{run_arises}
 

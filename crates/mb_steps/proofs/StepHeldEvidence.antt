@@ -40,7 +40,7 @@ use Rattle.mb_model.specs.Passed.{PassesStamped}
 use Rattle.mb_model.specs.EnabledRules.{Enter, Announce, Open, enter_enabled, announce_enabled, open_enabled, open_with, may_open, is_evidence_of}
 use Rattle.mb_model.proofs.Options.{or_some, if_some, map_some}
 use Rattle.mb_steps.proofs.StepRounds.{ui_under, bare_under}
-use Rattle.mb_steps.proofs.StepArises.{Adds, Arises}
+use Rattle.mb_steps.specs.Arises.{Adds, Arises}
 use Rattle.mb_model.proofs.RisingLists.{RiseFrom, rise_found, rise_passed, rise_take, rise_members, rise_tests, rise_tests_made}
 
 pub some_is : {A : Type 0} (x y : A) → Some x ≡ Some y → x ≡ y

@@ -39,7 +39,7 @@ use Rattle.mb_model.specs.EnabledRules.{Announce, announce_enabled}
 use Rattle.mb_model.proofs.Options.{or_some, or_none, then_none, if_some, map_some}
 use Rattle.mb_model.proofs.UsableLaws.{map_none}
 use Rattle.mb_model.proofs.RisingLists.{RiseFrom, rise_found, rise_passed, rise_take, rise_members, rise_tests_made}
-use Rattle.mb_steps.proofs.StepArises.{Adds, Arises}
+use Rattle.mb_steps.specs.Arises.{Adds, Arises}
 use Rattle.mb_steps.proofs.StepHeldEvidence.{some_is, then_some_of, own_claim, announce_seen, join_inside, join_stable_valid}
 use Rattle.mb_steps.proofs.StepPlanBases.{IsUsable, changes_based, all_found, all_filter, all_append, all_any}
 

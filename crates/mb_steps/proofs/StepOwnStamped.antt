@@ -38,7 +38,7 @@ use Rattle.mb_model.specs.GateChecks.{valid}
 use Rattle.mb_model.specs.EnabledRules.{ChangeView, Announce, Enter, Open, Join, Commit, Prepare, target, change_enabled, announce_enabled, enter_enabled, open_enabled, join_enabled, commit_enabled, prepare_enabled, next_position, with_batch, may_open, is_evidence_of, has_evidence, lags_behind, is_past_plan}
 use Rattle.mb_steps.specs.OwnLists.{inner}
 use Rattle.mb_model.proofs.Options.{if_some, map_some}
-use Rattle.mb_steps.proofs.StepArises.{Arises, Makes, JustExecuted}
+use Rattle.mb_steps.specs.Arises.{Arises, Makes, JustExecuted}
 use Rattle.mb_steps.proofs.StepOwnList.{change_permitted, announce_permitted, enter_permitted, open_permitted, join_permitted, commit_permitted, checkpoint_permitted, order_place, prepare_permitted}
 use Rattle.mb_steps.proofs.StepOwnFloor.{prepare_leads, commit_leads, checkpoint_leads, new_view_leads, enter_leads, change_leads, open_leads, join_leads}
 use Rattle.mb_steps.proofs.StepOwnSteady.{shown_below, shown_within, IsSlot, IsSteady, IsKept, empty_steady, other_steady, stamped_steady, found_slot, prepare_slot}

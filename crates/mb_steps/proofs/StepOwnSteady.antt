@@ -27,7 +27,7 @@ use Rattle.mb_model.specs.GateChecks.{valid, stamp_claim}
 use Rattle.mb_steps.specs.OwnLists.{inner, IsOwn, IsOwnList}
 use Rattle.mb_model.proofs.Options.{or_some, if_some}
 use Rattle.mb_steps.proofs.StepRounds.{bare_under}
-use Rattle.mb_steps.proofs.StepArises.{Adds, JustExecuted}
+use Rattle.mb_steps.specs.Arises.{Adds, JustExecuted}
 use Rattle.mb_steps.proofs.StepOwnList.{IsPermitted, stands_here, stamped_own, own_passed}
 use Rattle.mb_steps.proofs.StepOwnFloor.{LeadsTo}
 use Rattle.mb_steps.proofs.StepHeldEvidence.{some_is, prepare_by_primary}

@@ -23,7 +23,8 @@ use Rattle.mb_model.specs.CarriedOut.{just_served, placed_in, slot_for, serve, s
 use Rattle.mb_model.proofs.Options.{option_cases, or_some, if_some, map_some}
 use Rattle.mb_steps.proofs.StepPotential.{served_history}
 use Rattle.mb_steps.proofs.StepUnchanged.{served_enabled}
-use Rattle.mb_steps.proofs.StepArises.{JustExecuted, Executes, none_served, Arises, Arisen}
+use Rattle.mb_steps.specs.Arises.{JustExecuted, Executes, Arises}
+use Rattle.mb_steps.proofs.StepArises.{none_served, Arisen}
 
 some_is : {A : Type 0} (x y : A) → Some x ≡ Some y → x ≡ y
 some_is x y e = cc

@@ -1,2 +1,3 @@
 pub mod NothingUndone
 pub mod OwnLists
+pub mod Arises

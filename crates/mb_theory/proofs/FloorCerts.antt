@@ -28,7 +28,7 @@ use Rattle.mb_model.specs.GateChecks.{valid, stamp_claim}
 use Rattle.mb_model.specs.Stable.{checkpoint_of, first_agreed, KeptFloor, floor_in_body, kept_floor, checkpoints_at, same_kept, floor_member, floor_cert, kept_floors, floor_at}
 use Rattle.mb_model.proofs.Options.{map_some, option_cases}
 use Rattle.mb_model.proofs.RisingLists.{RiseFrom, rise_lower, rise_found, rise_passed, rise_take, rise_members, rise_tests, rise_tests_made}
-use Rattle.mb_steps.proofs.StepArises.{Arises}
+use Rattle.mb_steps.specs.Arises.{Arises}
 use Rattle.mb_steps.proofs.StepHeldEvidence.{some_is, then_some_of}
 use Rattle.mb_steps.proofs.StepHeldStable.{checkpoint_checks}
 

@@ -13,7 +13,8 @@ use Rattle.mb_msg.specs.declared.event.Event.{Event}
 use Rattle.mb_msg.specs.declared.event.Event.TheVariants as event
 use Rattle.mb_model.specs.Histories.{History}
 use Rattle.mb_model.specs.HostStep.{transition}
-use Rattle.mb_steps.proofs.StepArises.{Arises, ArisesWhole}
+use Rattle.mb_steps.specs.Arises.{Arises}
+use Rattle.mb_steps.proofs.StepArises.{ArisesWhole}
 use Rattle.mb_steps.proofs.StepEventsArise.{transition_arises}
 use Rattle.mb_schedule.specs.declared.schedule.Name.TheVariants as name
 use Rattle.mb_schedule.specs.declared.schedule.WorldEvent.{WorldEvent}

@@ -11,7 +11,7 @@ use Rattle.mb_model.specs.Histories.{History, Identity, counter_of}
 use Rattle.mb_model.specs.GateChecks.{valid}
 use Rattle.mb_model.specs.Stable.{low_of, log_floor, floor_counter, counter_in, floor_at, floor_from, cut_by, is_kept, checkpoint_in}
 use Rattle.mb_model.proofs.Options.{or_some, if_some}
-use Rattle.mb_steps.proofs.StepArises.{Arises}
+use Rattle.mb_steps.specs.Arises.{Arises}
 use Rattle.mb_theory.specs.Bounds.{IsFloor}
 use Rattle.mb_theory.proofs.FloorCerts.{floor_certifies}
 

@@ -19,7 +19,7 @@ use Rattle.mb_model.specs.Stable.{low_of, log_floor, floor_counter, floor_from, 
 use Rattle.mb_model.specs.OwnLog.{own_log, log_start, is_normal, is_unspent, has_room, has_other_room}
 use Rattle.mb_model.specs.Positions.{vote_of, vote_at, vote_by, open_vote_by, in_window, position_limit, counts_at}
 use Rattle.mb_model.proofs.Options.{or_some, if_some}
-use Rattle.mb_steps.proofs.StepArises.{Arises}
+use Rattle.mb_steps.specs.Arises.{Arises}
 use Rattle.mb_steps.proofs.StepPotential.{start_bounded, grown_low}
 use Rattle.mb_theory.specs.World.{self_of}
 use Rattle.mb_theory.specs.WorldSteps.{world}

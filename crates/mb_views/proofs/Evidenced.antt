@@ -35,7 +35,7 @@ use Rattle.mb_model.specs.Making.{enter}
 use Rattle.mb_model.specs.EnabledRules.{Enter, enter_enabled}
 use Rattle.mb_model.specs.Plans.{ShownLog}
 use Rattle.mb_model.proofs.Options.{or_some, if_some, map_some}
-use Rattle.mb_steps.proofs.StepArises.{Makes}
+use Rattle.mb_steps.specs.Arises.{Makes}
 use Rattle.mb_steps.proofs.StepHeldEvidence.{new_view_checks}
 use Rattle.mb_theory.specs.WorldEvents.{IsCorrect}
 use Rattle.mb_theory.specs.World.{World, System, self_of, stamps}

@@ -15,7 +15,7 @@ use Rattle.mb_parts.specs.Counters.{IsBeginning}
 use Rattle.mb_model.specs.Histories.{Entry, Jumped, History, by_host, stamped_in, origin, taken_of, gate, floors_with, gate_floors, floor_below, said, stamped as all_stamped}
 use Rattle.mb_model.specs.Making.{if_covered, floors_under}
 use Rattle.mb_steps.specs.OwnLists.{AreNumbered}
-use Rattle.mb_steps.proofs.StepArises.{Arises}
+use Rattle.mb_steps.specs.Arises.{Arises}
 use Rattle.mb_steps.proofs.StepOwnStamped.{steady}
 use Rattle.mb_theory.specs.WorldEvents.{IsCorrect}
 use Rattle.mb_theory.specs.World.{World, System, self_of}

@@ -29,7 +29,7 @@ use Rattle.mb_model.specs.Histories.{Entry, Accepted, Stamped, Jumped, History, 
 use Rattle.mb_model.specs.GateChecks.{stamp_claim}
 use Rattle.mb_model.specs.Passed.{PassesGate}
 use Rattle.mb_steps.specs.OwnLists.{AreNumbered}
-use Rattle.mb_steps.proofs.StepArises.{Arises}
+use Rattle.mb_steps.specs.Arises.{Arises}
 use Rattle.mb_theory.specs.World.{World, System, self_of, stamps}
 use Rattle.mb_theory.specs.WorldRecord.{issued, prefix}
 use Rattle.mb_known.proofs.Cases.{some_is}

@@ -35,7 +35,7 @@ use Rattle.mb_model.specs.KindChecks.{members_fault, member_fault, is_member, ne
 use Rattle.mb_model.specs.EnabledRules.{Announce, announce_enabled}
 use Rattle.mb_model.proofs.Options.{or_none, then_none, if_some}
 use Rattle.mb_model.proofs.UsableLaws.{map_none}
-use Rattle.mb_steps.proofs.StepArises.{Arises, Adds}
+use Rattle.mb_steps.specs.Arises.{Arises, Adds}
 use Rattle.mb_steps.proofs.StepHeldEvidence.{some_is, announce_seen}
 use Rattle.mb_steps.proofs.StepHeldStable.{changes_usable}
 use Rattle.mb_steps.proofs.StepPlanBases.{IsUsable, all_filter, all_append, all_found, all_any}

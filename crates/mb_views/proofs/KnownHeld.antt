@@ -27,7 +27,7 @@ use Rattle.mb_model.specs.Sending.{next_ui}
 use Rattle.mb_model.specs.Making.{view_change, new_view, join, join_evidence}
 use Rattle.mb_model.proofs.Members.{In}
 use Rattle.mb_model.proofs.Options.{if_some}
-use Rattle.mb_steps.proofs.StepArises.{Adds, Makes}
+use Rattle.mb_steps.specs.Arises.{Adds, Makes}
 use Rattle.mb_steps.proofs.StepHeldEvidence.{some_is, announce_seen}
 use Rattle.mb_steps.proofs.StepPlanBases.{all_filter, all_append}
 use Rattle.mb_theory.specs.Inside.{claims_in, change_claims, open_body_claims, new_view_claims, stamped_claims}

@@ -12,7 +12,7 @@ use Rattle.mb_model.specs.Histories.{Entry, Accepted, Stamped, History, Identity
 use Rattle.mb_model.specs.Held.{change_in, changes_of, plan_in, plan_held}
 use Rattle.mb_model.specs.Stable.{stable_of, learnt_in, further, plan_base, agreed_above}
 use Rattle.mb_model.proofs.Options.{or_some, if_some}
-use Rattle.mb_steps.proofs.StepArises.{Arises, Adds}
+use Rattle.mb_steps.specs.Arises.{Arises, Adds}
 use Rattle.mb_steps.proofs.StepHeldEvidence.{some_is}
 use Rattle.mb_theory.specs.Inside.{claims_in, stamped_claims, join_claims}
 use Rattle.mb_parts.specs.Claims.{evidence_claims, floor_claims}

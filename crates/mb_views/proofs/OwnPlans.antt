@@ -24,7 +24,7 @@ use Rattle.mb_model.specs.Making.{new_view}
 use Rattle.mb_model.proofs.Members.{In}
 use Rattle.mb_model.proofs.Options.{if_some}
 use Rattle.mb_model.proofs.RisingLists.{RiseFrom, rise_found}
-use Rattle.mb_steps.proofs.StepArises.{Makes}
+use Rattle.mb_steps.specs.Arises.{Makes}
 use Rattle.mb_steps.proofs.StepHeldEvidence.{announce_seen}
 use Rattle.mb_steps.proofs.StepPlanBases.{all_filter, all_append, all_found, all_any}
 use Rattle.mb_theory.specs.WorldEvents.{IsCorrect}

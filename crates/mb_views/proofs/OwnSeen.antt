@@ -30,7 +30,7 @@ use Rattle.mb_model.specs.Making.{prepare, commit, opening}
 use Rattle.mb_model.specs.Batches.{first_batch}
 use Rattle.mb_model.specs.EnabledRules.{may_order, Commit, Prepare, Open, with_batch, next_position, open_with, may_open, commit_enabled, prepare_enabled, open_enabled, unordered}
 use Rattle.mb_model.proofs.Options.{map_some, if_some}
-use Rattle.mb_steps.proofs.StepArises.{Makes}
+use Rattle.mb_steps.specs.Arises.{Makes}
 use Rattle.mb_steps.proofs.StepHeldEvidence.{open_seen}
 use Rattle.mb_known.proofs.Found.{opened_plan, commit_shape}
 use Rattle.mb_views.proofs.PlanMoments.{base_below}

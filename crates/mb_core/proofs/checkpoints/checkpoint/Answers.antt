@@ -10,7 +10,7 @@ use Rattle.mb_msg.specs.Stamps.{as_message}
 use Rattle.mb_log.specs.Logs.{has_room_for, appended}
 use Rattle.mb_model.specs.Histories.{Stamped}
 use Rattle.mb_model.specs.Sending.{to_all}
-use Rattle.mb_steps.proofs.StepArises.{Adds}
+use Rattle.mb_steps.specs.Arises.{Adds}
 use Rattle.mb_standing.specs.Stands.{GatesStand}
 use Rattle.mb_replica.specs.Between.{AwaitsCheckpoint}
 use Rattle.mb_replica.specs.Told.{as_outgoing}

@@ -1,6 +1,6 @@
 use Rattle.std.proofs.Common.{◌≡◌, reverse, false}
 use Rattle.mb_model.specs.Histories.{Identity, History}
-use Rattle.mb_steps.proofs.StepArises.{IsWhole}
+use Rattle.mb_steps.specs.Arises.{IsWhole}
 use Rattle.mb_core.specs.Represents.{Represents, IsAtRest}
 use Rattle.mb_replica.specs.Represents.{Serves}
 use Rattle.mb_node.specs.Replaying.{IsReplayed}
