@@ -13,7 +13,7 @@ ghost use Rattle.mb_msg.specs.Fits.{FitsFields, FitsStamped, FitsShown, FitsComm
 ghost use Rattle.mb_msg.specs.declared.message.Message.TheVariants as kind;
 ghost use Rattle.mb_model.specs.Compared.{inside_some};
 ghost use Rattle.mb_model.specs.GateChecks.{stamp_claim};
-ghost use Rattle.mb_theory.specs.Inside.{named_claim, open_claims, join_claims, shown_claims, change_claims, member_claims, new_view_claims, claims_in_stamped, stamped_claims, claims_in};
+ghost use Rattle.mb_model.specs.Inside.{named_claim, open_claims, join_claims, shown_claims, change_claims, member_claims, new_view_claims, claims_in_stamped, stamped_claims, claims_in};
 ghost use Rattle.mb_audit.specs.Certified.{stable_stamp, floor_stamp, new_view_stamp, enter_stamp, enters_of, named_stamp, inner_of, Adds, AreCertified};
 
 use crate::bare::{bare_form, stamped_of};

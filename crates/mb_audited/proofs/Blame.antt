@@ -28,7 +28,7 @@ use Rattle.mb_model.specs.Histories.{said}
 use Rattle.mb_model.specs.Verified.{verifies}
 use Rattle.mb_steps.proofs.StepOwnStamped.{steady}
 use Rattle.mb_schedule.specs.Limits.{is_faulty}
-use Rattle.mb_theory.specs.Inside.{claims_in}
+use Rattle.mb_model.specs.Inside.{claims_in}
 use Rattle.mb_theory.specs.World.{World, System, self_of, read, stamps}
 use Rattle.mb_theory.specs.WorldEvents.{IsCorrect}
 use Rattle.mb_theory.specs.WorldRecord.{issued}

@@ -16,7 +16,7 @@ use Rattle.mb_msg.specs.Stamps.{as_stamped}
 use Rattle.mb_model.specs.Compared.{inside_some}
 use Rattle.mb_schedule.specs.declared.schedule.Schedule.{Schedule}
 use Rattle.mb_theory.specs.World.{World}
-use Rattle.mb_theory.specs.Inside.{claims_in_stamped, stamped_claims, claims_in, requests_in}
+use Rattle.mb_model.specs.Inside.{claims_in_stamped, stamped_claims, claims_in, requests_in}
 use Rattle.mb_theory.specs.Forged.{has_forged_tag}
 use Rattle.mb_forged.specs.Checks.{own_claim}
 

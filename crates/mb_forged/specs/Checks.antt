@@ -20,7 +20,7 @@ use Rattle.mb_msg.specs.declared.normal.Commit.{Commit}
 use Rattle.mb_msg.specs.declared.stamped.Stamped.TheVariants as stamped
 use Rattle.mb_msg.specs.Stamps.{as_stamped, bare_of, ui_of}
 use Rattle.mb_model.specs.Compared.{inside_some}
-use Rattle.mb_theory.specs.Inside.{sender_claim, named_claim}
+use Rattle.mb_model.specs.Inside.{sender_claim, named_claim}
 use Rattle.mb_forged.specs.declared.checker.Checker.{Checker}
 use Rattle.mb_forged.specs.declared.checker.ForgedClaim.{ForgedClaim}
 use Rattle.mb_forged.specs.Ledgers.{KeepsWorld}

@@ -21,7 +21,7 @@ use Rattle.mb_schedule.specs.declared.schedule.Schedule.{Schedule}
 use Rattle.mb_schedule.specs.declared.schedule.WorldEvent.{WorldEvent}
 use Rattle.mb_schedule.specs.declared.schedule.WorldEvent.TheVariants.{Ask, Give, Take, Raw, Patience, Nudge, Sign, TagReply, TagWish, StampPrepare, StampCommit, StampCheckpoint, StampChange, StampAs, StampRaw}
 use Rattle.mb_schedule.specs.Limits.{is_faulty, is_faulty_client, EventFits}
-use Rattle.mb_theory.specs.Inside.{claims_in, requests_in}
+use Rattle.mb_model.specs.Inside.{claims_in, requests_in}
 use Rattle.mb_theory.specs.World.{World, System, FaultyStamp, self_of, update, numbered, read, made, request_of, client_reads, heard, give_client, give_host, signal, with_tagged}
 use Rattle.mb_theory.specs.WorldEvents.{IsCorrect}
 use Rattle.mb_theory.specs.WorldSteps.{where_faulty, with_message, happens}

@@ -36,7 +36,7 @@ use Rattle.mb_steps.proofs.StepPlanBases.{all_append}
 use Rattle.mb_steps.proofs.StepRounds.{ui_under, bare_under}
 use Rattle.mb_schedule.specs.declared.schedule.Schedule.{Schedule}
 use Rattle.mb_schedule.specs.Limits.{is_faulty}
-use Rattle.mb_theory.specs.Inside.{sender_claim, claims_in_stamped, stamped_claims, stamped_requests, requests_in}
+use Rattle.mb_model.specs.Inside.{sender_claim, claims_in_stamped, stamped_claims, stamped_requests, requests_in}
 use Rattle.mb_theory.specs.World.{World, FaultyStamp, numbered, read, message_at, stamps}
 use Rattle.mb_theory.specs.WorldRecord.{issued}
 use Rattle.mb_theory.specs.FaultyHosts.{request_in, prepare_with, checkpoint_with, faulty_ui, bare_bytes_of, stamp_content, content, request_at, misfit, batch_from}

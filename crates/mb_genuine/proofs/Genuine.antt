@@ -17,7 +17,7 @@ use Rattle.mb_model.specs.Verified.{verifies, is_rightly_tagged}
 use Rattle.mb_model.proofs.Members.{In, any_in}
 use Rattle.mb_schedule.specs.declared.schedule.Schedule.{Schedule}
 use Rattle.mb_schedule.specs.Limits.{is_faulty, is_faulty_client}
-use Rattle.mb_theory.specs.Inside.{claims_in, requests_in}
+use Rattle.mb_model.specs.Inside.{claims_in, requests_in}
 use Rattle.mb_theory.specs.World.{World}
 use Rattle.mb_theory.specs.WorldRecord.{issued}
 use Rattle.mb_theory.specs.Forged.{is_forged_claim, forged_claim, was_asked, is_forged_request, was_tagged, has_forged_tag}

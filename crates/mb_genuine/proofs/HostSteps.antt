@@ -22,7 +22,7 @@ use Rattle.mb_model.specs.Making.{log_for}
 use Rattle.mb_model.specs.Sending.{Letter}
 use Rattle.mb_model.proofs.Members.{In, all_in}
 use Rattle.mb_schedule.specs.declared.schedule.Schedule.{Schedule}
-use Rattle.mb_theory.specs.Inside.{claims_in, requests_in}
+use Rattle.mb_model.specs.Inside.{claims_in, requests_in}
 use Rattle.mb_theory.specs.World.{World, System, self_of, read, with_tagged, is_tagged_message}
 use Rattle.mb_theory.specs.WorldEvents.{IsCorrect}
 use Rattle.mb_theory.specs.Forged.{was_tagged}

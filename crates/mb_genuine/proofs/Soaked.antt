@@ -30,7 +30,8 @@ use Rattle.mb_schedule.specs.declared.schedule.WorldEvent.{WorldEvent}
 use Rattle.mb_schedule.specs.declared.schedule.WorldEvent.TheVariants.{Give, Take, Patience, Nudge, StampPrepare}
 use Rattle.mb_schedule.specs.Limits.{max_text}
 use Rattle.mb_schedule.specs.Limits.{is_faulty, is_faulty_client, EventFits, IsSchedule}
-use Rattle.mb_theory.specs.World.{World, System, numbered, if_read, read, message_at, nothing_happened, request_of}
+use Rattle.mb_theory.specs.World.{World, System, numbered, read, message_at, nothing_happened, request_of}
+use Rattle.mb_model.specs.Inside.{if_read}
 use Rattle.mb_theory.specs.WorldSteps.{happens, after, world}
 use Rattle.mb_theory.specs.FaultyHosts.{misfit}
 use Rattle.mb_theory.specs.Forged.{forged_claim, has_forged_tag, IsUnforged}

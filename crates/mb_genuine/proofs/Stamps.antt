@@ -42,7 +42,7 @@ use Rattle.mb_model.proofs.Options.{if_some, map_some}
 use Rattle.mb_steps.specs.Arises.{Arises, Makes}
 use Rattle.mb_steps.proofs.StepHeldEvidence.{announce_seen}
 use Rattle.mb_steps.proofs.StepPlanBases.{all_append}
-use Rattle.mb_theory.specs.Inside.{open_body_claims, change_claims, member_claims, new_view_claims, shown_claims, stamped_claims, claims_in, batch_requests, open_requests, shown_requests, change_requests, stamped_requests, requests_in}
+use Rattle.mb_model.specs.Inside.{open_body_claims, change_claims, member_claims, new_view_claims, shown_claims, stamped_claims, claims_in, batch_requests, open_requests, shown_requests, change_requests, stamped_requests, requests_in}
 use Rattle.mb_known.proofs.Cases.{all_flat, all_reverse, all_taken}
 use Rattle.mb_known.proofs.Found.{opened_plan, commit_shape}
 use Rattle.mb_known.proofs.HeldFloors.{floor_good}

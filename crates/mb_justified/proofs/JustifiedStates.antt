@@ -19,7 +19,7 @@ use Rattle.mb_model.specs.Stable.{stable_of}
 use Rattle.mb_model.proofs.Members.{In, in_contained}
 use Rattle.mb_steps.specs.Arises.{Arises}
 use Rattle.mb_steps.proofs.StepHeldStable.{stable_checks}
-use Rattle.mb_theory.specs.Inside.{claims_in}
+use Rattle.mb_model.specs.Inside.{claims_in}
 use Rattle.mb_theory.specs.WorldEvents.{IsCorrect}
 use Rattle.mb_theory.specs.World.{World, System, self_of}
 use Rattle.mb_theory.specs.Justification.{IsKnown, IsJustifiedState}

@@ -39,8 +39,7 @@ use Rattle.mb_model.specs.Verified.{verifies}
 use Rattle.mb_model.proofs.Members.{In}
 use Rattle.mb_model.proofs.Options.{if_some}
 use Rattle.mb_steps.specs.Arises.{Arises}
-use Rattle.mb_theory.specs.Inside.{strings_in}
-use Rattle.mb_theory.specs.Inside.{bodies_in}
+use Rattle.mb_model.specs.Inside.{strings_in, bodies_in}
 use Rattle.mb_theory.specs.WorldEvents.{IsCorrect}
 use Rattle.mb_theory.specs.World.{World, System, self_of, stamps}
 use Rattle.mb_theory.specs.WorldRecord.{issued}

@@ -24,7 +24,7 @@ use Rattle.mb_model.specs.Histories.{said, stamped}
 use Rattle.mb_steps.specs.OwnLists.{AreNumbered}
 use Rattle.mb_steps.specs.Arises.{Arises}
 use Rattle.mb_theory.specs.Hashed.{HashesApart}
-use Rattle.mb_theory.specs.Inside.{floor_bodies}
+use Rattle.mb_model.specs.Inside.{floor_bodies}
 use Rattle.mb_schedule.specs.declared.schedule.Schedule.{Schedule}
 use Rattle.mb_schedule.specs.Limits.{is_faulty}
 use Rattle.mb_theory.specs.WorldEvents.{IsCorrect}

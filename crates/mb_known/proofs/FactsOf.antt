@@ -15,7 +15,8 @@ use Rattle.mb_steps.proofs.StepEventsArise.{after_arises}
 use Rattle.mb_steps.proofs.OwnListsOrdered.{own_lists}
 use Rattle.mb_theory.specs.Hashed.{HashesApart}
 use Rattle.mb_schedule.specs.Limits.{IsSchedule}
-use Rattle.mb_theory.specs.World.{World, System, self_of, if_read}
+use Rattle.mb_theory.specs.World.{World, System, self_of}
+use Rattle.mb_model.specs.Inside.{if_read}
 use Rattle.mb_theory.specs.WorldSteps.{world}
 use Rattle.mb_theory.specs.Stops.{IsUnstopped}
 use Rattle.mb_theory.proofs.KeptByWorlds.{world_keeps}

@@ -17,7 +17,7 @@ use Rattle.mb_parts.specs.Spelling.{request_bytes}
 use Rattle.mb_model.specs.Verified.{verifies, is_rightly_tagged}
 use Rattle.mb_model.specs.Histories.{History}
 use Rattle.mb_model.proofs.Members.{In, any_in}
-use Rattle.mb_theory.specs.Inside.{claims_in, strings_in, requests_in}
+use Rattle.mb_model.specs.Inside.{claims_in, strings_in, requests_in}
 use Rattle.mb_schedule.specs.declared.schedule.Schedule.{Schedule}
 use Rattle.mb_schedule.specs.Limits.{is_faulty_client}
 use Rattle.mb_theory.specs.World.{World, System, self_of, read, stamps, state_strings_in}

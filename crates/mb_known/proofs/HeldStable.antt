@@ -43,7 +43,7 @@ use Rattle.mb_model.specs.Stable.{checkpoint_in, checkpoint_by, checkpoint_of, f
 use Rattle.mb_model.proofs.Members.{In, in_left, in_right}
 use Rattle.mb_model.proofs.Options.{or_some, if_some, map_some}
 use Rattle.mb_model.proofs.RisingLists.{RiseFrom, rise_found, rise_passed, rise_take}
-use Rattle.mb_theory.specs.Inside.{claims_in, open_body_claims, open_claims, claims_in_shown, shown_claims, stamped_claims, change_claims, member_claims, new_view_claims, sender_claim, bodies_in}
+use Rattle.mb_model.specs.Inside.{claims_in, open_body_claims, open_claims, claims_in_shown, shown_claims, stamped_claims, change_claims, member_claims, new_view_claims, sender_claim, bodies_in}
 use Rattle.mb_known.proofs.Cases.{some_is, then_some_of, whole_is}
 use Rattle.mb_known.proofs.Rests.{Each}
 use Rattle.mb_known.proofs.Knows.{own_claim_in, inner_claim_in}

@@ -37,7 +37,7 @@ use Rattle.mb_model.proofs.Options.{or_some, if_some}
 use Rattle.mb_model.proofs.RisingLists.{RiseFrom, rise_found, rise_passed, rise_take}
 use Rattle.mb_steps.specs.Arises.{Arises}
 use Rattle.mb_steps.proofs.StepHeldEvidence.{enter_checks, new_view_checks, news_from}
-use Rattle.mb_theory.specs.Inside.{claims_in, stamped_claims}
+use Rattle.mb_model.specs.Inside.{claims_in, stamped_claims}
 use Rattle.mb_known.proofs.Cases.{some_is, then_some_of}
 use Rattle.mb_known.proofs.Found.{in_view}
 use Rattle.mb_known.proofs.Rests.{Each}

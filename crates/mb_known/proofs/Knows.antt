@@ -15,7 +15,7 @@ use Rattle.mb_model.specs.Histories.{Accepted, History, Identity}
 use Rattle.mb_model.specs.GateChecks.{stamp_claim}
 use Rattle.mb_model.specs.Given.{named_prepare}
 use Rattle.mb_model.proofs.Members.{In, in_left, in_right}
-use Rattle.mb_theory.specs.Inside.{claims_in, claims_in_stamped, stamped_claims}
+use Rattle.mb_model.specs.Inside.{claims_in, claims_in_stamped, stamped_claims}
 use Rattle.mb_theory.specs.World.{World, System, self_of}
 use Rattle.mb_theory.specs.WorldRecord.{issued}
 use Rattle.mb_known.proofs.Cases.{flat_in}

@@ -30,7 +30,7 @@ use Rattle.mb_model.specs.GateChecks.{stamp_claim}
 use Rattle.mb_model.specs.Held.{plan_from, view_limit}
 use Rattle.mb_model.specs.Histories.{Entry, Accepted, Stamped, Jumped, Executed, LostPatience, History, Identity, view_of}
 use Rattle.mb_model.proofs.Members.{In}
-use Rattle.mb_theory.specs.Inside.{claims_in, bodies_in, floor_bodies}
+use Rattle.mb_model.specs.Inside.{claims_in, bodies_in, floor_bodies}
 use Rattle.mb_known.proofs.PlanFits.{OfBody, OfEntry}
 
 -- The positions of a shown vote are below the limit.

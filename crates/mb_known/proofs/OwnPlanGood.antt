@@ -29,7 +29,7 @@ use Rattle.mb_model.specs.UsableLogs.{is_whole}
 use Rattle.mb_model.proofs.Members.{In, in_left}
 use Rattle.mb_model.proofs.Options.{if_some, map_some}
 use Rattle.mb_steps.proofs.StepPlanBases.{all_append, all_filter, all_found, all_any}
-use Rattle.mb_theory.specs.Inside.{claims_in, change_claims, sender_claim, stamped_claims}
+use Rattle.mb_model.specs.Inside.{claims_in, change_claims, sender_claim, stamped_claims}
 use Rattle.mb_known.proofs.Cases.{all_taken, some_is, whole_is}
 use Rattle.mb_known.proofs.Found.{all_newest}
 use Rattle.mb_known.proofs.Rests.{Each}

@@ -17,7 +17,7 @@ use Rattle.mb_msg.proofs.Messages.{as_message_fits}
 use Rattle.mb_model.specs.Histories.{Identity, Accepted, History}
 use Rattle.mb_model.specs.Given.{named_prepare}
 use Rattle.mb_model.proofs.Members.{In, in_left, in_right}
-use Rattle.mb_theory.specs.Inside.{claims_in, requests_in, stamped_requests, bodies_in, stamped_bodies, floor_bodies, strings_in}
+use Rattle.mb_model.specs.Inside.{claims_in, requests_in, stamped_requests, bodies_in, stamped_bodies, floor_bodies, strings_in}
 use Rattle.mb_theory.specs.World.{World, System, self_of}
 use Rattle.mb_known.proofs.Cases.{all_at, flat_in}
 use Rattle.mb_known.proofs.Rests.{Rests, IsPart, stamped_parts}

@@ -25,7 +25,7 @@ use Rattle.mb_model.specs.Histories.{Entry, Stamped, Executed, History, said, st
 use Rattle.mb_model.specs.Sending.{Letter, Progress}
 use Rattle.mb_model.specs.HostStep.{transition}
 use Rattle.mb_model.proofs.Members.{In, in_left, in_right}
-use Rattle.mb_theory.specs.Inside.{strings_in, claims_in}
+use Rattle.mb_model.specs.Inside.{strings_in, claims_in}
 use Rattle.mb_schedule.specs.declared.schedule.Name.TheVariants as name
 use Rattle.mb_schedule.specs.declared.schedule.WorldEvent.{WorldEvent}
 use Rattle.mb_schedule.specs.declared.schedule.WorldEvent.TheVariants.{Ask, Give, Take, Raw, Patience, Nudge, Sign, TagReply, TagWish, StampPrepare, StampCommit, StampCheckpoint, StampChange, StampAs, StampRaw}

@@ -14,8 +14,7 @@ use Rattle.mb_msg.specs.declared.message.Message.{Message}
 use Rattle.mb_msg.specs.declared.stamped.Shown.{Shown}
 use Rattle.mb_msg.specs.Reading.{message_of}
 use Rattle.mb_model.specs.Compared.{inside_some}
-use Rattle.mb_theory.specs.Inside.{claims_in}
-use Rattle.mb_theory.specs.World.{if_read}
+use Rattle.mb_model.specs.Inside.{claims_in, if_read}
 use Rattle.mb_audit.specs.Stamps.{claims_of, claims_among}
 use Rattle.mb_learn.specs.declared.heard.Heard.{Heard}
 use Rattle.mb_learn.specs.Hearing.{Hears, HearsAll, HearsOf, AreWhole, KeepsPlace, Holds, Takes, SaysToo}

@@ -19,7 +19,7 @@ use Rattle.mb_msg.specs.Bodies.{body_digest}
 use Rattle.mb_msg.specs.declared.stamped.Shown.{Shown}
 use Rattle.mb_msg.specs.declared.stamped.Shown.TheVariants as shown
 use Rattle.mb_model.specs.Verified.{verifies}
-use Rattle.mb_theory.specs.Inside.{named_claim}
+use Rattle.mb_model.specs.Inside.{named_claim}
 use Rattle.mb_learn.specs.declared.heard.Heard.{Heard}
 use Rattle.mb_learn.specs.Held.{is_stamped, shows_plan, ShowsBatch}
 use Rattle.mb_learn.specs.Hearing.{IsReady, Holds}

@@ -15,7 +15,7 @@ use Rattle.mb_msg.specs.Stamps.{bare_of_shown, ui_of_shown}
 use Rattle.mb_model.specs.Committed.{Plans, PlanText}
 use Rattle.mb_model.specs.UsableLogs.{is_plan_body}
 use Rattle.mb_model.specs.Verified.{verifies, are_rightly_tagged}
-use Rattle.mb_theory.specs.Inside.{sender_claim, named_claim}
+use Rattle.mb_model.specs.Inside.{sender_claim, named_claim}
 
 module _ (s : Shape) (secret : Bytes) where
   -- Its own certificate verifies.

@@ -14,7 +14,7 @@ use Rattle.mb_msg.specs.Bodies.{inside_whole}
 use Rattle.mb_msg.specs.Reading.{message_of}
 use Rattle.mb_msg.specs.Stamps.{as_stamped}
 use Rattle.mb_model.specs.Compared.{inside_some}
-use Rattle.mb_theory.specs.World.{if_read}
+use Rattle.mb_model.specs.Inside.{if_read}
 
 -- the log that a VIEW_CHANGE shows
 abbrev pub log_shown : ViewChange → List Shown

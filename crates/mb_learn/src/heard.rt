@@ -54,7 +54,7 @@ impl Heard {
     ghost use Rattle.mb_msg.specs.Fits.{FitsFields};
     ghost use Rattle.mb_model.specs.Verified.{verifies};
     ghost use Rattle.mb_model.specs.GateChecks.{stamp_claim};
-    ghost use Rattle.mb_theory.specs.Inside.{claims_in};
+    ghost use Rattle.mb_model.specs.Inside.{claims_in};
     ghost use Rattle.mb_audit.specs.Certified.{IsBareStamp};
     ghost use Rattle.mb_learn.specs.Shown.{shown_in};
     ghost use Rattle.mb_learn.specs.Lists.{first_of, IsList};

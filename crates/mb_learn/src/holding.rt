@@ -18,7 +18,7 @@ impl Heard {
     ghost use Rattle.mb_msg.specs.Fits.{FitsShown, FitsOpen, FitsOpenParts};
     ghost use Rattle.mb_msg.specs.Stamps.{bare_of_shown};
     ghost use Rattle.mb_model.specs.Verified.{verifies};
-    ghost use Rattle.mb_theory.specs.Inside.{named_claim};
+    ghost use Rattle.mb_model.specs.Inside.{named_claim};
     ghost use Rattle.mb_learn.specs.Held.{is_stamped};
     ghost use Rattle.mb_learn.specs.Tables.{IsLowPlan};
     ghost use Rattle.mb_learn.specs.Hearing.{IsReady, Holds};

@@ -18,7 +18,7 @@ use Rattle.mb_msg.specs.declared.message.Message.{Message}
 use Rattle.mb_model.specs.Compared.{inside_some}
 use Rattle.mb_model.specs.Verified.{verifies}
 use Rattle.mb_model.proofs.Members.{In, in_contained, contained}
-use Rattle.mb_theory.specs.Inside.{claims_in}
+use Rattle.mb_model.specs.Inside.{claims_in}
 use Rattle.mb_theory.specs.World.{World, System, read}
 use Rattle.mb_theory.specs.WorldRecord.{issued, prefix, IsConsistent}
 use Rattle.mb_known.proofs.Facts.{Facts}

@@ -25,7 +25,8 @@ use Rattle.mb_schedule.specs.declared.schedule.WorldEvent.{WorldEvent}
 use Rattle.mb_schedule.specs.declared.schedule.WorldEvent.TheVariants.{Ask, Give, Take, Raw, Patience, Nudge, Sign, TagReply, TagWish, StampPrepare, StampCommit, StampCheckpoint, StampChange, StampAs, StampRaw}
 use Rattle.mb_schedule.specs.declared.schedule.Schedule.{Schedule}
 use Rattle.mb_schedule.specs.Limits.{is_faulty, is_faulty_client, IsSchedule}
-use Rattle.mb_theory.specs.World.{update, numbered, World, System, read, if_read, give_host, give_client, client_reads, heard, signal, made, request_of}
+use Rattle.mb_theory.specs.World.{update, numbered, World, System, read, give_host, give_client, client_reads, heard, signal, made, request_of}
+use Rattle.mb_model.specs.Inside.{if_read}
 use Rattle.mb_theory.specs.FaultyHosts.{stamp_some, stamp_content, stamp_bytes, content, prepare_of, commit_for, checkpoint_with, change_after, reply_of_host, wish_of_host}
 use Rattle.mb_theory.specs.Forged.{was_tagged, has_forged_tag}
 use Rattle.mb_theory.specs.Stops.{ForgedTag, WorldStop, stop_of, name_stop, missing_stop, kind_stop, forged_stop, tag_stop, event_number, delivered_message, IsUnstopped}

@@ -37,7 +37,7 @@ use Rattle.mb_model.specs.EnabledRules.{Open, Commit, Prepare, open_with, may_op
 use Rattle.mb_model.proofs.Options.{or_some, if_some, map_some}
 use Rattle.mb_model.proofs.Members.{In, all_in}
 use Rattle.mb_steps.specs.Arises.{Makes}
-use Rattle.mb_theory.specs.Inside.{requests_in, body_in, strings_in, bodies_in}
+use Rattle.mb_model.specs.Inside.{requests_in, body_in, strings_in, bodies_in}
 use Rattle.mb_theory.specs.WorldEvents.{IsCorrect}
 use Rattle.mb_theory.specs.World.{World, System, self_of}
 use Rattle.mb_known.proofs.Cases.{not_false, some_is, all_more}

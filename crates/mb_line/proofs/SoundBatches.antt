@@ -33,7 +33,7 @@ use Rattle.mb_model.proofs.Options.{if_some}
 use Rattle.mb_model.proofs.Members.{In, contained, in_left, in_right, all_in}
 use Rattle.mb_steps.specs.Arises.{Makes}
 use Rattle.mb_steps.proofs.StepPlanBases.{all_filter}
-use Rattle.mb_theory.specs.Inside.{requests_in, bodies_in}
+use Rattle.mb_model.specs.Inside.{requests_in, bodies_in}
 use Rattle.mb_theory.specs.WorldEvents.{IsCorrect, IsCorrectClient}
 use Rattle.mb_theory.specs.World.{World, System, self_of}
 use Rattle.mb_theory.proofs.Lists.{all_append}

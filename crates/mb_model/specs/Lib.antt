@@ -27,3 +27,4 @@ pub mod CarriedOut
 pub mod Given
 pub mod HostStep
 pub mod Clients
+pub mod Inside

@@ -14,7 +14,7 @@ use Rattle.mb_msg.specs.declared.message.Message.{Message}
 use Rattle.mb_msg.specs.declared.message.Message.TheVariants as message
 use Rattle.mb_msg.specs.Stamps.{as_message}
 use Rattle.mb_msg.specs.Reading.{reply_at, wish_at, resend_at, log_at, fetch_at, state_at, stop_of, behind_stamped_kind_at, behind_kind_at, message_of}
-use Rattle.mb_theory.specs.World.{if_read}
+use Rattle.mb_model.specs.Inside.{if_read}
 use Rattle.mb_parties.specs.Replies.{addressee, addressee_behind}
 
 -- the client of what was read

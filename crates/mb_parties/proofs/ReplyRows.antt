@@ -6,7 +6,7 @@ use Rattle.mb_base.specs.declared.shape.Shape.{Shape}
 use Rattle.mb_msg.specs.Reading.{message_of}
 use Rattle.mb_msg.proofs.OnLiterals.{messages_on_literals}
 use Rattle.mb_model.proofs.Hex.{unhex}
-use Rattle.mb_theory.specs.World.{if_read}
+use Rattle.mb_model.specs.Inside.{if_read}
 use Rattle.mb_parties.specs.Replies.{addressee}
 
 -- five hosts and four clients

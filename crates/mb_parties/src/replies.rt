@@ -4,7 +4,7 @@ ghost use Rattle.std.specs.Prelude.{◌≡◌, option_and_then};
 ghost use Rattle.mb_base.specs.Fields.{GivesIn, place_of};
 ghost use Rattle.mb_base.specs.Reading.{map_at};
 ghost use Rattle.mb_msg.specs.Reading.{message_of, reply_at};
-ghost use Rattle.mb_theory.specs.World.{if_read};
+ghost use Rattle.mb_model.specs.Inside.{if_read};
 ghost use Rattle.mb_parties.specs.Replies.{addressee, addressee_behind};
 
 use mb_base::{BadField, Client, Fields, MESSAGE_LIMIT, Shape};

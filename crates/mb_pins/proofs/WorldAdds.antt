@@ -28,7 +28,7 @@ use Rattle.mb_schedule.specs.declared.schedule.WorldEvent.{WorldEvent}
 use Rattle.mb_schedule.specs.declared.schedule.WorldEvent.TheVariants.{Ask, Give, Take, Raw, Patience, Nudge, Sign, TagReply, TagWish, StampPrepare, StampCommit, StampCheckpoint, StampChange, StampAs, StampRaw}
 use Rattle.mb_schedule.specs.declared.schedule.Schedule.{Schedule}
 use Rattle.mb_schedule.specs.Limits.{is_faulty, is_faulty_client}
-use Rattle.mb_theory.specs.Inside.{requests_in, bodies_in, claims_in, strings_in}
+use Rattle.mb_model.specs.Inside.{requests_in, bodies_in, claims_in, strings_in}
 use Rattle.mb_theory.specs.World.{numbered, extended, is_tagged_message, with_tagged, state_strings_in, World, FaultyStamp, System, self_of, read, made_strings, given_strings, request_of, made, heard, client_reads, give_client, give_host, signal}
 use Rattle.mb_theory.specs.FaultyHosts.{stamp_some, stamp_content, stamp_bytes, stamp_as, content, prepare_of, commit_for, checkpoint_with, change_after, reply_of_host, wish_of_host, bare_bytes_of, faulty_message}
 use Rattle.mb_theory.specs.WorldSteps.{where_faulty, with_message, stamps_some, happens}

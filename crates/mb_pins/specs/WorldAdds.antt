@@ -24,7 +24,7 @@ use Rattle.mb_schedule.specs.declared.schedule.WorldEvent.{WorldEvent}
 use Rattle.mb_schedule.specs.declared.schedule.WorldEvent.TheVariants.{Ask}
 use Rattle.mb_schedule.specs.declared.schedule.Schedule.{Schedule}
 use Rattle.mb_schedule.specs.Limits.{is_faulty}
-use Rattle.mb_theory.specs.Inside.{requests_in, bodies_in, claims_in}
+use Rattle.mb_model.specs.Inside.{requests_in, bodies_in, claims_in}
 use Rattle.mb_theory.specs.World.{World, FaultyStamp, System, self_of, read}
 use Rattle.mb_theory.specs.WorldSteps.{happens}
 use Rattle.mb_theory.specs.EventsStep.{arrival}

@@ -5,7 +5,7 @@ use Rattle.mb_model.proofs.StepOnLiterals.{host_on_literals}
 use Rattle.mb_model.specs.Service.{served_each, served_all}
 use Rattle.mb_model.specs.HostStep.{transition}
 use Rattle.mb_model.specs.Clients.{most_agreeing, taken, takes}
-use Rattle.mb_theory.specs.Inside.{shown_claims, stamped_claims, claims_in, requests_in, bodies_in, floors_in, strings_in}
+use Rattle.mb_model.specs.Inside.{shown_claims, stamped_claims, claims_in, requests_in, bodies_in, floors_in, strings_in}
 use Rattle.mb_theory.specs.World.{give_client, give_host, signal}
 use Rattle.mb_theory.specs.WorldSteps.{happens, world}
 use Rattle.mb_theory.specs.WorldRecord.{plan_text_at, plan_text_of, plans_of}

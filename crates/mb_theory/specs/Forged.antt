@@ -11,7 +11,7 @@ use Rattle.mb_msg.specs.declared.message.Message.{Message}
 use Rattle.mb_msg.specs.declared.message.Message.TheVariants as message
 use Rattle.mb_msg.specs.Spelling.{spelling}
 use Rattle.mb_model.specs.Verified.{verifies}
-use Rattle.mb_theory.specs.Inside.{claims_in, requests_in}
+use Rattle.mb_model.specs.Inside.{claims_in, requests_in}
 use Rattle.mb_schedule.specs.declared.schedule.Schedule.{Schedule}
 use Rattle.mb_schedule.specs.Limits.{is_faulty, is_faulty_client}
 use Rattle.mb_theory.specs.World.{World}

@@ -1,5 +1,4 @@
 pub mod Hashed
-pub mod Inside
 pub mod WorldEvents
 pub mod World
 pub mod FaultyHosts

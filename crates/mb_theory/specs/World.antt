@@ -1,5 +1,5 @@
 -- All hosts, all clients, and all that was ever made and delivered, after the first events of a schedule.
-use Rattle.std.specs.Prelude.{ℕ, zero, suc, ◌+◌, Bool, true, false, List, [], ◌∷◌, ◌++◌, length, map, fold, ◌==◌, Option, Some, None, Result, Ok, Err, if◌then◌else◌, option_and_then, slice_get}
+use Rattle.std.specs.Prelude.{ℕ, zero, suc, ◌+◌, Bool, true, false, List, [], ◌∷◌, ◌++◌, length, map, fold, ◌==◌, Option, None, Result, Ok, Err, if◌then◌else◌, option_and_then, slice_get}
 use Rattle.std.specs.List.{flat_map}
 use Rattle.mb_base.specs.Shapes.{Bytes}
 use Rattle.mb_usig.specs.Tags.{request_tag}
@@ -22,7 +22,7 @@ use Rattle.mb_model.specs.Sending.{Letter, Progress}
 use Rattle.mb_model.specs.Given.{Answer}
 use Rattle.mb_model.specs.HostStep.{transition}
 use Rattle.mb_model.specs.Clients.{Asker, Taken, no_asker, asks, taken, takes}
-use Rattle.mb_theory.specs.Inside.{strings_in}
+use Rattle.mb_model.specs.Inside.{if_read, strings_in}
 use Rattle.mb_model.specs.Compared.{inside_some}
 use Rattle.mb_schedule.specs.declared.schedule.Schedule.{Schedule}
 use Rattle.mb_schedule.specs.Limits.{is_faulty, is_faulty_client}
@@ -97,11 +97,6 @@ abbrev pub lost_or : Bool → (World → World) → World → World
 lost_or faulty f w = if faulty then answered Lost w else f w
 
 -- ---- messages
-
--- the message, where bytes were read as one
-abbrev pub if_read : Result Message ℕ → Option Message
-if_read (Err at) = None
-if_read (Ok m) = Some m
 
 -- A reply or a wish is tagged by a host.
 abbrev pub is_tagged_message : Message → Bool

@@ -38,7 +38,7 @@ use Rattle.mb_model.specs.States.{state_digest}
 use Rattle.mb_model.proofs.Members.{In, contained, in_left, in_right, in_map}
 use Rattle.mb_steps.specs.Arises.{Makes}
 use Rattle.mb_theory.specs.Hashed.{HashesApart}
-use Rattle.mb_theory.specs.Inside.{strings_in, bodies_in, requests_in, claims_in, floor_bodies, body_in}
+use Rattle.mb_model.specs.Inside.{strings_in, bodies_in, requests_in, claims_in, floor_bodies, body_in}
 use Rattle.mb_schedule.specs.Limits.{is_faulty}
 use Rattle.mb_theory.specs.WorldEvents.{IsCorrect}
 use Rattle.mb_theory.specs.World.{World, System, self_of}

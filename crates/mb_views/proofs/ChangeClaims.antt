@@ -25,7 +25,7 @@ use Rattle.mb_model.proofs.Options.{or_none}
 use Rattle.mb_model.proofs.UsableLaws.{not_refused, map_none}
 use Rattle.mb_model.specs.Compared.{inside_some}
 use Rattle.mb_msg.specs.Bodies.{inside_whole}
-use Rattle.mb_theory.specs.Inside.{open_body_claims, claims_in_shown, shown_claims, change_claims}
+use Rattle.mb_model.specs.Inside.{open_body_claims, claims_in_shown, shown_claims, change_claims}
 
 -- Each entry has this host's number.
 abbrev pub AreOwned : ℕ → List Shown → Type 0

@@ -25,7 +25,7 @@ use Rattle.mb_model.specs.Passed.{PassesGate}
 use Rattle.mb_steps.specs.OwnLists.{AreNumbered}
 use Rattle.mb_model.proofs.Members.{In, contained}
 use Rattle.mb_steps.specs.Arises.{Arises}
-use Rattle.mb_theory.specs.Inside.{claims_in, floors_in}
+use Rattle.mb_model.specs.Inside.{claims_in, floors_in}
 use Rattle.mb_theory.specs.World.{World, System, self_of}
 use Rattle.mb_theory.specs.WorldRecord.{issued}
 use Rattle.mb_theory.specs.Justification.{is_sound, IsGiven, IsGivenFloor, AreKnown}

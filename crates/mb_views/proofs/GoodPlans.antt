@@ -33,7 +33,7 @@ use Rattle.mb_model.specs.Passed.{PassesStamped}
 use Rattle.mb_model.proofs.Members.{In, in_left, in_right}
 use Rattle.mb_model.proofs.Options.{or_none, then_none}
 use Rattle.mb_model.proofs.UsableLaws.{map_none}
-use Rattle.mb_theory.specs.Inside.{claims_in, stamped_claims, change_claims, member_claims, new_view_claims, sender_claim, bodies_in, body_in, bodies_in_change, change_bodies}
+use Rattle.mb_model.specs.Inside.{claims_in, stamped_claims, change_claims, member_claims, new_view_claims, sender_claim, bodies_in, body_in, bodies_in_change, change_bodies}
 use Rattle.mb_theory.specs.WorldEvents.{IsCorrect}
 use Rattle.mb_theory.specs.World.{World, System, self_of}
 use Rattle.mb_known.proofs.Cases.{all_left, all_right, not_false}

@@ -31,7 +31,7 @@ use Rattle.mb_model.specs.GateChecks.{stamp_claim, is_bad_ui, is_own_future, con
 use Rattle.mb_model.specs.Compared.{compared_in, inside_some}
 use Rattle.mb_model.specs.Passed.{PassesGate, PassesStamped}
 use Rattle.mb_model.proofs.Members.{In, in_left, in_right}
-use Rattle.mb_theory.specs.Inside.{claims_in, stamped_claims, change_claims, sender_claim, floor_bodies, bodies_in, body_in, bodies_in_change, shown_bodies}
+use Rattle.mb_model.specs.Inside.{claims_in, stamped_claims, change_claims, sender_claim, floor_bodies, bodies_in, body_in, bodies_in_change, shown_bodies}
 use Rattle.mb_theory.specs.WorldEvents.{IsCorrect}
 use Rattle.mb_theory.specs.World.{World, System, self_of}
 use Rattle.mb_theory.specs.WorldRecord.{issued}

@@ -20,7 +20,7 @@ use Rattle.mb_model.specs.Verified.{verifies}
 use Rattle.mb_model.specs.Histories.{Entry, Jumped, History}
 use Rattle.mb_model.proofs.Members.{In, in_left, in_right, in_contained, contained}
 use Rattle.mb_theory.specs.Hashed.{HashesApart}
-use Rattle.mb_theory.specs.Inside.{claims_in, stamped_claims, strings_in, bodies_in, requests_in, stamped_bodies, floor_bodies}
+use Rattle.mb_model.specs.Inside.{claims_in, stamped_claims, strings_in, bodies_in, requests_in, stamped_bodies, floor_bodies}
 use Rattle.mb_theory.specs.WorldEvents.{IsCorrect}
 use Rattle.mb_theory.specs.World.{World, System, self_of}
 use Rattle.mb_theory.specs.WorldSteps.{world}

@@ -30,7 +30,7 @@ use Rattle.mb_model.proofs.Options.{if_some}
 use Rattle.mb_steps.specs.Arises.{Adds, Makes}
 use Rattle.mb_steps.proofs.StepHeldEvidence.{some_is, announce_seen}
 use Rattle.mb_steps.proofs.StepPlanBases.{all_filter, all_append}
-use Rattle.mb_theory.specs.Inside.{claims_in, change_claims, open_body_claims, new_view_claims, stamped_claims}
+use Rattle.mb_model.specs.Inside.{claims_in, change_claims, open_body_claims, new_view_claims, stamped_claims}
 use Rattle.mb_theory.specs.WorldEvents.{IsCorrect}
 use Rattle.mb_theory.specs.World.{World, System, self_of}
 use Rattle.mb_theory.proofs.KeptForms.{forms_keep}

@@ -14,7 +14,7 @@ use Rattle.mb_model.specs.Stable.{stable_of, learnt_in, further, plan_base, agre
 use Rattle.mb_model.proofs.Options.{or_some, if_some}
 use Rattle.mb_steps.specs.Arises.{Arises, Adds}
 use Rattle.mb_steps.proofs.StepHeldEvidence.{some_is}
-use Rattle.mb_theory.specs.Inside.{claims_in, stamped_claims, join_claims}
+use Rattle.mb_model.specs.Inside.{claims_in, stamped_claims, join_claims}
 use Rattle.mb_parts.specs.Claims.{evidence_claims, floor_claims}
 use Rattle.mb_theory.specs.WorldEvents.{IsCorrect}
 use Rattle.mb_theory.specs.World.{World, System, self_of}

@@ -23,7 +23,7 @@ use Rattle.mb_model.specs.Held.{shown_log, logs_of, plan_from}
 use Rattle.mb_model.proofs.Members.{In, in_left, in_right}
 use Rattle.mb_steps.proofs.StepHeldEvidence.{some_is}
 use Rattle.mb_steps.proofs.StepPlanBases.{all_found}
-use Rattle.mb_theory.specs.Inside.{claims_in, shown_claims, change_claims, member_claims, open_body_claims, open_claims, join_claims}
+use Rattle.mb_model.specs.Inside.{claims_in, shown_claims, change_claims, member_claims, open_body_claims, open_claims, join_claims}
 use Rattle.mb_theory.specs.WorldEvents.{IsCorrect}
 use Rattle.mb_theory.specs.World.{World, System, self_of}
 use Rattle.mb_known.proofs.Found.{all_newest}

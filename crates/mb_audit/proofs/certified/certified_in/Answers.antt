@@ -1,4 +1,4 @@
-use Rattle.mb_theory.specs.Inside.{claims_in}
+use Rattle.mb_model.specs.Inside.{claims_in}
 use Rattle.mb_audit.proofs.Adding.{adds_all}
 use Rattle.mb_audit.proofs.certified.certified_in.Goals as goal
 

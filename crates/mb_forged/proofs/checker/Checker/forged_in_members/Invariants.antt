@@ -1,5 +1,5 @@
 use Rattle.std.specs.List.{flat_map}
-use Rattle.mb_theory.specs.Inside.{change_requests}
+use Rattle.mb_model.specs.Inside.{change_requests}
 use Rattle.mb_forged.proofs.Walks.{TagsLeft}
 use Rattle.mb_forged.proofs.checker.Checker.forged_in_members.Given as goal
 

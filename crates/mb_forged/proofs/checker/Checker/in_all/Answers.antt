@@ -1,7 +1,7 @@
 use Rattle.std.proofs.Common.{◌≡◌, Some, slice_get, refl, sym, ap, ◌∙◌}
 use Rattle.std.proofs.lemmas.Option.{slice_get-get_or}
 use Rattle.std.specs.List.{flat_map}
-use Rattle.mb_theory.specs.Inside.{stamped_claims}
+use Rattle.mb_model.specs.Inside.{stamped_claims}
 use Rattle.mb_forged.proofs.Walks.{walk_found, walk_on}
 use Rattle.mb_forged.proofs.checker.Checker.in_all.Goals as goal
 

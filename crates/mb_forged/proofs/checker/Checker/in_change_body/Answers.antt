@@ -4,7 +4,7 @@ use Rattle.std.specs.List.{flat_map}
 use Rattle.mb_parts.specs.Claims.{Claim, stable_claims, floor_claims}
 use Rattle.mb_msg.specs.declared.stamped.Shown.{Shown}
 use Rattle.mb_model.specs.Compared.{inside_some}
-use Rattle.mb_theory.specs.Inside.{shown_claims}
+use Rattle.mb_model.specs.Inside.{shown_claims}
 use Rattle.mb_forged.specs.Checks.{first_forged}
 use Rattle.mb_forged.proofs.Walks.{front_found, front_clean, then_clean}
 use Rattle.mb_forged.proofs.checker.Checker.in_change_body.Goals as goal

@@ -6,7 +6,7 @@ use Rattle.mb_parts.specs.Bares as bare
 use Rattle.mb_msg.specs.declared.stamped.Stamped.TheVariants as stamped
 use Rattle.mb_msg.specs.Stamps.{bare_of}
 use Rattle.mb_msg.proofs.Injective.{bare_fits}
-use Rattle.mb_theory.specs.Inside.{sender_claim, named_claim}
+use Rattle.mb_model.specs.Inside.{sender_claim, named_claim}
 use Rattle.mb_forged.proofs.Walks.{front_found, front_clean}
 use Rattle.mb_forged.proofs.checker.Checker.in_commit_of.Goals as goal
 

@@ -1,5 +1,5 @@
 use Rattle.std.specs.List.{flat_map}
-use Rattle.mb_theory.specs.Inside.{member_claims}
+use Rattle.mb_model.specs.Inside.{member_claims}
 use Rattle.mb_forged.proofs.Walks.{Left}
 use Rattle.mb_forged.proofs.checker.Checker.in_members.Given as goal
 

@@ -1,7 +1,7 @@
 use Rattle.std.proofs.Common.{sym, ◌∙◌}
 use Rattle.mb_parts.specs.Claims.{stable_claims, evidence_claims}
 use Rattle.mb_msg.specs.Bodies.{inside_whole}
-use Rattle.mb_theory.specs.Inside.{open_body_claims}
+use Rattle.mb_model.specs.Inside.{open_body_claims}
 use Rattle.mb_forged.proofs.Walks.{front_found, then_clean}
 use Rattle.mb_forged.proofs.checker.Checker.in_open.Goals as goal
 

@@ -1,7 +1,7 @@
 use Rattle.std.proofs.Common.{sym, ◌∙◌}
 use Rattle.mb_msg.specs.Stamps.{as_stamped}
 use Rattle.mb_model.specs.Compared.{inside_some}
-use Rattle.mb_theory.specs.Inside.{claims_in_stamped}
+use Rattle.mb_model.specs.Inside.{claims_in_stamped}
 use Rattle.mb_forged.specs.Checks.{own_claim}
 use Rattle.mb_forged.proofs.Walks.{front_found, then_clean}
 use Rattle.mb_forged.proofs.checker.Checker.in_other.Goals as goal

@@ -8,7 +8,7 @@ use Rattle.mb_msg.specs.declared.stamped.Stamped.{Stamped}
 use Rattle.mb_msg.specs.Stamps.{bare_of, ui_of}
 use Rattle.mb_msg.proofs.Injective.{bare_fits}
 use Rattle.mb_model.specs.Compared.{inside_some}
-use Rattle.mb_theory.specs.Inside.{sender_claim}
+use Rattle.mb_model.specs.Inside.{sender_claim}
 use Rattle.mb_forged.specs.Checks.{first_forged}
 use Rattle.mb_forged.proofs.MemberLaws.{own_is}
 use Rattle.mb_forged.proofs.checker.Checker.in_own.Goals as goal

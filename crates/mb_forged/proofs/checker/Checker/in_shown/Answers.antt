@@ -1,7 +1,7 @@
 use Rattle.std.proofs.Common.{sym, ◌∙◌, ◌∷◌, []}
 use Rattle.mb_forged.proofs.Walks.{front_found, then_clean}
 use Rattle.mb_msg.specs.Stamps.{ui_of_shown, bare_of_shown}
-use Rattle.mb_theory.specs.Inside.{sender_claim, claims_in_shown, shown_claims}
+use Rattle.mb_model.specs.Inside.{sender_claim, claims_in_shown, shown_claims}
 use Rattle.mb_forged.proofs.checker.Checker.in_shown.Goals as goal
 
 pub returns-in-Commit : goal.returns-in-Commit

@@ -1,7 +1,7 @@
 use Rattle.std.proofs.Common.{sym, ◌∙◌, ◌∷◌, []}
 use Rattle.mb_forged.proofs.Walks.{front_found, then_clean}
 use Rattle.mb_msg.specs.Stamps.{ui_of, bare_of}
-use Rattle.mb_theory.specs.Inside.{sender_claim, claims_in_stamped, stamped_claims}
+use Rattle.mb_model.specs.Inside.{sender_claim, claims_in_stamped, stamped_claims}
 use Rattle.mb_forged.proofs.checker.Checker.in_stamped_of.Goals as goal
 
 pub returns-in-Commit : goal.returns-in-Commit

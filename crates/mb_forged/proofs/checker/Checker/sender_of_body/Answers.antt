@@ -2,7 +2,7 @@ use Rattle.std.proofs.Common.{ap, subst, ◌∙◌, ◌∷◌, []}
 use Rattle.mb_parts.specs.Fits.{FitsBare}
 use Rattle.mb_msg.specs.Stamps.{bare_of}
 use Rattle.mb_msg.proofs.Injective.{bare_fits}
-use Rattle.mb_theory.specs.Inside.{sender_claim}
+use Rattle.mb_model.specs.Inside.{sender_claim}
 use Rattle.mb_forged.specs.Checks.{first_forged}
 use Rattle.mb_forged.proofs.checker.Checker.sender_of_body.Goals as goal
 

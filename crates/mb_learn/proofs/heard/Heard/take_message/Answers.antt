@@ -3,7 +3,7 @@ use Rattle.std.proofs.lemmas.Result.{on_ok_weaker}
 use Rattle.mb_base.specs.declared.shape.Shape.{Shape}
 use Rattle.mb_parts.specs.Claims.{Claim}
 use Rattle.mb_model.specs.GateChecks.{stamp_claim}
-use Rattle.mb_theory.specs.Inside.{claims_in}
+use Rattle.mb_model.specs.Inside.{claims_in}
 use Rattle.mb_learn.specs.Hearing.{Takes}
 use Rattle.mb_learn.specs.Shown.{shown_in}
 use Rattle.mb_learn.proofs.Going.{keeps_then}

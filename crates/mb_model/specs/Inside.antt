@@ -1,6 +1,6 @@
 -- What stands inside a message: its certificates in the order of the bytes, its requests, its whole bodies, its floor certificates, and its
 -- strings that are hashed.
-use Rattle.std.specs.Prelude.{List, [], ◌∷◌, ◌++◌, map}
+use Rattle.std.specs.Prelude.{ℕ, List, [], ◌∷◌, ◌++◌, map, Option, Some, None, Result, Ok, Err}
 use Rattle.std.specs.List.{flat_map}
 use Rattle.mb_base.specs.Shapes.{Bytes}
 use Rattle.mb_base.specs.declared.names.Ui.{Ui}
@@ -29,6 +29,13 @@ use Rattle.mb_msg.specs.Bodies.{body_digest, inside_whole}
 use Rattle.mb_msg.specs.Spelling.{floors_body_bytes, change_body_bytes, new_view_body_bytes, open_body_bytes}
 use Rattle.mb_msg.specs.Stamps.{as_stamped, bare_of, bare_of_shown, ui_of, ui_of_shown}
 use Rattle.mb_model.specs.Compared.{inside_some}
+
+-- ---- the message itself
+
+-- the message, where bytes were read as one
+abbrev pub if_read : Result Message ℕ → Option Message
+if_read (Err at) = None
+if_read (Ok m) = Some m
 
 -- ---- certificates, as claims: those in the head, those in the body, then the message's own
 
