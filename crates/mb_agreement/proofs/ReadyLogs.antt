@@ -22,7 +22,7 @@ use Rattle.mb_agreement.proofs.ShownPrefixes.{shown_prefix, ordered_once}
 use Rattle.mb_agreement.proofs.WholeLists.{last_below_top}
 use Rattle.mb_agreement.proofs.FoundVotes.{run_start}
 use Rattle.mb_agreement.proofs.ShownOpenings.{run_base}
-use Rattle.mb_model.proofs.Members.{In}
+use Rattle.mb_model.specs.Members.{In}
 use Rattle.mb_model.proofs.PlanLaws.{stable_below, opening_below, of_view_in}
 
 module _ (s : Shape) (secret : Bytes) (plans : Plans) (issued : Claim → Bool) (prefix : ℕ → List Bare) (facts : IsConsistentRecord s secret plans issued prefix) where

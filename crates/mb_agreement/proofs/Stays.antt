@@ -39,7 +39,8 @@ use Rattle.mb_agreement.proofs.WholeLists.{vote_placed, votes_before, last_below
 use Rattle.mb_agreement.proofs.FoundVotes.{finds_vote, found_is_vote, found_low, run_start, Found}
 use Rattle.mb_agreement.proofs.ShownOpenings.{opened_low, shown_view, shown_opened, IsShownOpened}
 use Rattle.mb_agreement.proofs.Leading.{names, one_order, Orders, orders_plan}
-use Rattle.mb_model.proofs.Members.{In, all_in, any_in}
+use Rattle.mb_model.specs.Members.{In}
+use Rattle.mb_model.proofs.Members.{all_in, any_in}
 use Rattle.mb_model.proofs.PlanLaws.{has_host, as_many, stable_below, of_view_in, of_view_is, highest_above, highest_from, lowest_found, lowest_from, batch_at}
 use Rattle.mb_agreement.proofs.ReadyLogs.{IsReady, ready, drop_newest, run_low}
 

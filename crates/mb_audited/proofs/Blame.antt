@@ -22,20 +22,21 @@ use Rattle.mb_parts.proofs.Counters.{StandsAt, at_split}
 use Rattle.mb_parts.proofs.IssuedLaws.{says}
 use Rattle.mb_parts.proofs.OrderedParts.{head, ordered_before}
 use Rattle.mb_msg.specs.declared.message.Message.{Message}
-use Rattle.mb_model.proofs.Members.{In, in_contained}
+use Rattle.mb_model.specs.Members.{In}
+use Rattle.mb_model.proofs.Members.{in_contained}
 use Rattle.mb_model.specs.Compared.{inside_some}
 use Rattle.mb_model.specs.Histories.{said}
 use Rattle.mb_model.specs.Verified.{verifies}
 use Rattle.mb_steps.proofs.StepOwnStamped.{steady}
 use Rattle.mb_schedule.specs.Limits.{is_faulty}
 use Rattle.mb_model.specs.Inside.{claims_in}
-use Rattle.mb_theory.specs.World.{World, System, self_of, read, stamps}
-use Rattle.mb_theory.specs.WorldEvents.{IsCorrect}
-use Rattle.mb_theory.specs.WorldRecord.{issued}
-use Rattle.mb_theory.specs.WorldSteps.{world}
-use Rattle.mb_known.proofs.Cases.{not_both, some_is}
-use Rattle.mb_known.proofs.Grown.{IsGivenTo}
-use Rattle.mb_known.proofs.OwnStamps.{own_fits}
+use Rattle.mb_world_model.specs.World.{World, System, self_of, read, stamps}
+use Rattle.mb_world_model.specs.WorldEvents.{IsCorrect}
+use Rattle.mb_world_model.specs.WorldRecord.{issued}
+use Rattle.mb_world_model.specs.WorldSteps.{world}
+use Rattle.mb_host_laws.proofs.Cases.{not_both, some_is}
+use Rattle.mb_world_laws.proofs.Grown.{IsGivenTo}
+use Rattle.mb_world_laws.proofs.OwnStamps.{own_fits}
 use Rattle.mb_genuine.proofs.Ready.{IsReady, ready, given_fits}
 use Rattle.mb_audit.specs.Stamps.{claims_of, IsStamp}
 use Rattle.mb_audit.specs.declared.auditing.Verdict.TheVariants.{Double, Illegal}

@@ -11,7 +11,8 @@ use Rattle.mb_base.specs.declared.shape.Shape.{Shape}
 use Rattle.mb_base.specs.Shapes.{Bytes, host_count, quorum, tally, HasQuorum}
 use Rattle.mb_msg.specs.declared.normal.Reply.{Reply}
 use Rattle.mb_model.specs.Clients.{Asker, taken, takes, is_right, is_awaited, completes, agrees, agreeing, counted}
-use Rattle.mb_model.proofs.Members.{In, in_contained, all_in, any_in}
+use Rattle.mb_model.specs.Members.{In}
+use Rattle.mb_model.proofs.Members.{in_contained, all_in, any_in}
 use Rattle.mb_model.proofs.PlanLaws.{one_more}
 use Rattle.mb_steps.proofs.StepRounds.{tally_more}
 use Rattle.mb_client.specs.Replies.{has_host, AreOfDifferentHosts}

@@ -16,7 +16,7 @@ use Rattle.mb_msg.specs.Reading.{message_of}
 use Rattle.mb_frag.specs.Held.{Held}
 use Rattle.mb_model.specs.Clients.{Asker, taken, takes, is_right, is_awaited, completes}
 use Rattle.mb_steps.proofs.StepRounds.{tally_more}
-use Rattle.mb_known.proofs.ReadFits.{read_fits}
+use Rattle.mb_reading_laws.proofs.ReadFits.{read_fits}
 use Rattle.mb_client.specs.Accepted.{ClientEvent, Asked, Given, replies_in, asker_after, tells_same, host_told}
 use Rattle.mb_client.proofs.AcceptedResults.{accepted_have_quorum}
 use Rattle.mb_cluster.specs.Hearing.{Receive, Hearing, asked, joined, reply_in, reply_or_none, as_reply, held_after, reply_heard, replies_heard, counts, hears_all}

@@ -15,7 +15,7 @@ use Rattle.mb_model.specs.Held.{plan_of_view}
 use Rattle.mb_model.specs.Positions.{position_limit, slot_of_plan, slot_vote, in_window}
 use Rattle.mb_model.specs.Stable.{low_of}
 use Rattle.mb_base.specs.Shapes.{span}
-use Rattle.mb_known.proofs.Cases.{some_is}
+use Rattle.mb_host_laws.proofs.Cases.{some_is}
 use Rattle.mb_normal.specs.declared.normal.Normal.{Normal}
 use Rattle.mb_normal.specs.Searches.{searches_in}
 use Rattle.mb_normal.specs.Tables.{Represents as NormalRepresents}

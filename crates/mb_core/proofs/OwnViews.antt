@@ -33,7 +33,7 @@ use Rattle.mb_fetch.specs.Fetched.{Fetched}
 use Rattle.mb_fetch.specs.Snapshots.{Snapshot}
 use Rattle.mb_plan.specs.Planned.{are_quorum}
 use Rattle.mb_plan.proofs.MemberFaults.{members_are_quorum}
-use Rattle.mb_known.proofs.Cases.{some_is}
+use Rattle.mb_host_laws.proofs.Cases.{some_is}
 use Rattle.mb_keeper.specs.Keeping.{Keeping, raised, fetched_from}
 use Rattle.mb_normal.specs.declared.normal.Normal.{Normal}
 use Rattle.mb_normal.specs.Searches.{searches_in, without_votes}

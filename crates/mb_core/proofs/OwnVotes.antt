@@ -25,7 +25,7 @@ use Rattle.mb_model.specs.Sending.{signed, next_ui}
 use Rattle.mb_model.proofs.Options.{if_some, map_some}
 use Rattle.mb_steps.specs.Arises.{Makes}
 use Rattle.mb_normal.proofs.InHistories.{unordered_is}
-use Rattle.mb_known.proofs.Cases.{some_is}
+use Rattle.mb_host_laws.proofs.Cases.{some_is}
 use Rattle.mb_normal.specs.declared.normal.Normal.{Normal}
 use Rattle.mb_normal.specs.Searches.{searches_in, unordered}
 use Rattle.mb_normal.specs.Tables.{batch_of, order_of}

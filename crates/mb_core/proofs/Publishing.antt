@@ -26,7 +26,7 @@ use Rattle.mb_model.specs.Sending.{Progress, begin, write, send, note, to_all, s
 use Rattle.mb_model.specs.Histories.{stamped as all_stamped}
 use Rattle.mb_model.proofs.ShapesFit.{shape_fits}
 use Rattle.mb_steps.specs.Arises.{Adds, IsWhole}
-use Rattle.mb_theory.proofs.RoomForRules.{room_for}
+use Rattle.mb_host_laws.proofs.RoomForRules.{room_for}
 use Rattle.mb_log.specs.Logs.{Log, has_room_for, appended}
 use Rattle.mb_normal.specs.declared.normal.Normal.{Normal}
 use Rattle.mb_change.specs.Tables.{Table as ChangeTable}

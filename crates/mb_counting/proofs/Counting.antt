@@ -9,7 +9,7 @@ use Rattle.mb_headline.proofs.Promised.{all_stay_one}
 use Rattle.mb_schedule.specs.declared.schedule.Schedule.{Schedule}
 use Rattle.mb_schedule.specs.Limits.{IsSchedule}
 use Rattle.mb_sched.specs.Report.{report_text}
-use Rattle.mb_theory.specs.Headline.{state_after, IsService}
+use Rattle.mb_promise.specs.Headline.{state_after, IsService}
 use Rattle.mb_parties.specs.Hosts.{IsSystem}
 use Rattle.mb_story.specs.declared.story.End.{End}
 use Rattle.mb_story.specs.declared.story.End.TheVariants.{Whole, Stopped}

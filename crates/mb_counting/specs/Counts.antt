@@ -4,9 +4,9 @@ use Rattle.mb_base.specs.Shapes.{Bytes}
 use Rattle.mb_schedule.specs.declared.schedule.Schedule.{Schedule}
 use Rattle.mb_sched.specs.Report.{report_text}
 use Rattle.mb_sched.specs.Schedules.{IsScheduleText}
-use Rattle.mb_theory.specs.Hashed.{HashesApart}
-use Rattle.mb_theory.specs.Headline.{Promises}
-use Rattle.mb_theory.specs.Stops.{IsUnstopped}
+use Rattle.mb_world_model.specs.Hashed.{HashesApart}
+use Rattle.mb_promise.specs.Headline.{Promises}
+use Rattle.mb_world_model.specs.Stops.{IsUnstopped}
 use Rattle.mb_world.specs.Reports.{report_of}
 use Rattle.mb_story.specs.declared.story.End.{End}
 use Rattle.mb_story.specs.declared.story.End.TheVariants.{Whole, Stopped}

@@ -4,8 +4,8 @@ use Rattle.mb_cache.specs.Represents.{machine_of, snapshots_of}
 use Rattle.mb_counter.specs.Operations.{after, answer}
 use Rattle.mb_counter.specs.Snapshots.{part_of, restored}
 use Rattle.mb_schedule.specs.declared.schedule.Schedule.{Schedule}
-use Rattle.mb_theory.specs.World.{World, System}
-use Rattle.mb_theory.specs.WorldSteps.{world as any_world}
+use Rattle.mb_world_model.specs.World.{World, System}
+use Rattle.mb_world_model.specs.WorldSteps.{world as any_world}
 
 abbrev pub system_of : Schedule → System ℕ
 system_of s = record { machine = machine_of after answer; snapshots = snapshots_of part_of restored; initial = 0; schedule = s }

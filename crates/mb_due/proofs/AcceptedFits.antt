@@ -21,16 +21,17 @@ use Rattle.mb_model.specs.EnabledRules.{greatest_in_slots, window, unordered_of,
 use Rattle.mb_model.proofs.ShapesFit.{shape_fits}
 use Rattle.mb_model.proofs.Options.{if_some}
 use Rattle.mb_steps.proofs.StepPlanBases.{all_found}
-use Rattle.mb_theory.specs.World.{System, self_of}
-use Rattle.mb_theory.specs.WorldSteps.{world}
-use Rattle.mb_theory.proofs.KeptByWorlds.{world_keeps}
-use Rattle.mb_known.proofs.Cases.{each_in, some_is}
-use Rattle.mb_known.proofs.Found.{above_is}
-use Rattle.mb_known.proofs.Parts.{part_fits}
-use Rattle.mb_known.proofs.ReadFits.{read_fits}
-use Rattle.mb_known.proofs.Rests.{Each, each_more, Rests, rests_more}
-use Rattle.mb_known.proofs.RestsGiven.{HashedIn, SentIn, Rested}
-use Rattle.mb_known.proofs.RestsEvents.{given_rests, patience_event, nudge_event}
+use Rattle.mb_world_model.specs.World.{System, self_of}
+use Rattle.mb_world_model.specs.WorldSteps.{world}
+use Rattle.mb_world_laws.proofs.KeptByWorlds.{world_keeps}
+use Rattle.mb_host_laws.proofs.Cases.{each_in, some_is}
+use Rattle.mb_host_laws.proofs.Found.{above_is}
+use Rattle.mb_host_laws.proofs.Parts.{part_fits}
+use Rattle.mb_reading_laws.proofs.ReadFits.{read_fits}
+use Rattle.mb_host_laws.specs.Rests.{Each, Rests}
+use Rattle.mb_host_laws.proofs.Rests.{each_more, rests_more}
+use Rattle.mb_host_laws.proofs.RestsGiven.{HashedIn, SentIn, Rested}
+use Rattle.mb_host_laws.proofs.RestsEvents.{given_rests, patience_event, nudge_event}
 
 module _ {S : Type 0} (self : Identity S) where
   -- An accepted message has them.

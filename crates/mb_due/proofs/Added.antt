@@ -47,14 +47,14 @@ use Rattle.mb_model.specs.CarriedOut.{serve_all}
 use Rattle.mb_model.specs.Given.{Answer, closing, named_prepare, offer_prepare, casts_vote, accept, give_stamped, give_request, give_wish, give_resend, give_fetch, install_where_all, give_state, floor_shown, jump, go_on, give_entries, give_log, give}
 use Rattle.mb_model.specs.HostStep.{on_bytes, on_patience, on_nudge, transition}
 use Rattle.mb_model.proofs.Options.{option_cases, if_some}
-use Rattle.mb_theory.specs.World.{System, self_of}
-use Rattle.mb_theory.specs.WorldSteps.{world}
-use Rattle.mb_known.proofs.Cases.{none_is}
-use Rattle.mb_known.proofs.RestsGiven.{convicts}
+use Rattle.mb_world_model.specs.World.{System, self_of}
+use Rattle.mb_world_model.specs.WorldSteps.{world}
+use Rattle.mb_host_laws.proofs.Cases.{none_is}
+use Rattle.mb_host_laws.proofs.RestsGiven.{convicts}
 use Rattle.mb_line.proofs.StateParts.{part_digest}
-use Rattle.mb_theory.proofs.KeptByEvents.{served_keep}
+use Rattle.mb_host_laws.proofs.KeptByEvents.{served_keep}
 use Rattle.mb_line.proofs.Walks.{IsRuled, ruled_keeps}
-use Rattle.mb_theory.specs.AddsGiven.{IsBroughtBy, IsDone, IsPartOf, ShowsFloor, IsOutOfOrder, BringsNoState, ComesOf, ComesWith, AddsWhatCame, AddsGiven}
+use Rattle.mb_promise.specs.AddsGiven.{IsBroughtBy, IsDone, IsPartOf, ShowsFloor, IsOutOfOrder, BringsNoState, ComesOf, ComesWith, AddsWhatCame, AddsGiven}
 
 -- ---- why a state is dropped
 

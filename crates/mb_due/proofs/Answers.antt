@@ -31,11 +31,11 @@ use Rattle.mb_model.specs.CarriedOut.{serve_all, run_rules, enough}
 use Rattle.mb_model.specs.Given.{Answer, stored_reply, give_request, give_resend, give_fetch, give_state}
 use Rattle.mb_model.specs.HostStep.{with_fetch, is_taken, finished_where, on_bytes, on_patience, on_nudge, wish_again, transition}
 use Rattle.mb_model.proofs.Options.{option_cases}
-use Rattle.mb_theory.specs.World.{System, self_of}
-use Rattle.mb_theory.specs.WorldSteps.{world}
-use Rattle.mb_theory.specs.TakesValid.{IsTagged}
-use Rattle.mb_theory.specs.Answers.{AnswersResend, AnswersFetch, AnswersAgain, WishesOnward, AsksAll, TellsWishAgain, AsksWhereBehind, FetchesOnNudge, FetchesOn, AnswersAll}
-use Rattle.mb_theory.proofs.Walks.{serves_keep}
+use Rattle.mb_world_model.specs.World.{System, self_of}
+use Rattle.mb_world_model.specs.WorldSteps.{world}
+use Rattle.mb_promise.specs.TakesValid.{IsTagged}
+use Rattle.mb_promise.specs.Answers.{AnswersResend, AnswersFetch, AnswersAgain, WishesOnward, AsksAll, TellsWishAgain, AsksWhereBehind, FetchesOnNudge, FetchesOn, AnswersAll}
+use Rattle.mb_host_laws.proofs.Walks.{serves_keep}
 use Rattle.mb_line.proofs.Walks.{IsWalked, finished_keeps, again_keeps}
 use Rattle.mb_due.proofs.ShowsLog.{log_shown, shows_log, state_shown, shows_state}
 

@@ -39,15 +39,15 @@ use Rattle.mb_steps.proofs.StepArises.{ArisesWhole}
 use Rattle.mb_steps.proofs.StepGivenArise.{give_arises}
 use Rattle.mb_steps.proofs.StepEventsArise.{transition_arises}
 use Rattle.mb_steps.proofs.StepQuiescent.{begins_quiescent, stays_quiescent}
-use Rattle.mb_theory.specs.World.{System, self_of}
-use Rattle.mb_theory.specs.WorldSteps.{world}
-use Rattle.mb_theory.specs.TakesValid.{AreTagged, IsShown, IsVote, IsNextOfSender}
-use Rattle.mb_theory.specs.NothingLeft.{has_vote, slot_of, IsNext, Lacks, LackBoth, Executes, ExecutesWithCommit, ExecutesWithPrepare, ExecutesWithBoth}
-use Rattle.mb_theory.proofs.Words.{window_is}
-use Rattle.mb_theory.proofs.DueVotes.{keeps_slots, counts_prepares, counts_commits}
-use Rattle.mb_theory.proofs.KeptByWorlds.{world_keeps}
-use Rattle.mb_known.proofs.Parts.{primary_is_host}
-use Rattle.mb_known.proofs.ReadFits.{read_fits}
+use Rattle.mb_world_model.specs.World.{System, self_of}
+use Rattle.mb_world_model.specs.WorldSteps.{world}
+use Rattle.mb_promise.specs.TakesValid.{AreTagged, IsShown, IsVote, IsNextOfSender}
+use Rattle.mb_promise.specs.NothingLeft.{has_vote, slot_of, IsNext, Lacks, LackBoth, Executes, ExecutesWithCommit, ExecutesWithPrepare, ExecutesWithBoth}
+use Rattle.mb_each_host.proofs.Words.{window_is}
+use Rattle.mb_each_host.proofs.DueVotes.{keeps_slots, counts_prepares, counts_commits}
+use Rattle.mb_world_laws.proofs.KeptByWorlds.{world_keeps}
+use Rattle.mb_host_laws.proofs.Parts.{primary_is_host}
+use Rattle.mb_reading_laws.proofs.ReadFits.{read_fits}
 use Rattle.mb_due.proofs.Taken.{stamped_passed}
 use Rattle.mb_due.proofs.TakesValid.{prepare_passes, commit_passes}
 use Rattle.mb_due.proofs.Staying.{Stays, takes_commit, takes_prepare, closes}

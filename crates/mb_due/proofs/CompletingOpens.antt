@@ -28,11 +28,11 @@ use Rattle.mb_model.proofs.ShapesFit.{shape_fits}
 use Rattle.mb_steps.proofs.StepArises.{ArisesWhole}
 use Rattle.mb_steps.proofs.StepOwnStamped.{steady}
 use Rattle.mb_steps.proofs.StepPotential.{max_none}
-use Rattle.mb_theory.specs.World.{System, self_of}
-use Rattle.mb_theory.specs.WorldSteps.{world}
-use Rattle.mb_theory.specs.NothingLeft.{has_vote, Lacks, ExecutesWithOpen}
-use Rattle.mb_theory.proofs.Words.{window_is}
-use Rattle.mb_known.proofs.ReadFits.{read_fits}
+use Rattle.mb_world_model.specs.World.{System, self_of}
+use Rattle.mb_world_model.specs.WorldSteps.{world}
+use Rattle.mb_promise.specs.NothingLeft.{has_vote, Lacks, ExecutesWithOpen}
+use Rattle.mb_each_host.proofs.Words.{window_is}
+use Rattle.mb_reading_laws.proofs.ReadFits.{read_fits}
 use Rattle.mb_due.proofs.Taken.{stamped_passed}
 use Rattle.mb_due.proofs.TakesValid.{valid_passes}
 use Rattle.mb_due.proofs.Staying.{Stays}

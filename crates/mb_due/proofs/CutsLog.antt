@@ -19,16 +19,16 @@ use Rattle.mb_msg.specs.Bodies.{whole_body}
 use Rattle.mb_model.specs.Histories.{Entry, History, Identity, counter_of}
 use Rattle.mb_model.specs.Stable.{KeptFloor, checkpoint_in, checkpoint_of, checkpoints_at, is_kept, floor_in_body, kept_floor, kept_floors, same_kept, floor_member, floor_cert, first_agreed, floor_at, floor_from, low_of, counter_in, floor_counter, cut_by, log_floor}
 use Rattle.mb_model.specs.OwnLog.{log_start}
-use Rattle.mb_model.proofs.Members.{In}
+use Rattle.mb_model.specs.Members.{In}
 use Rattle.mb_model.proofs.Options.{option_cases, map_some}
 use Rattle.mb_steps.proofs.StepHeldEvidence.{then_some_of}
 use Rattle.mb_steps.proofs.StepPotential.{tally_same}
-use Rattle.mb_theory.specs.World.{System, self_of}
-use Rattle.mb_theory.specs.WorldSteps.{world}
-use Rattle.mb_theory.specs.KeepsTables.{IsCheckpoint}
-use Rattle.mb_theory.specs.CutsLog.{floor_told, tells_floor, IsKeptAt, AgreeOnFloor, IsLastAgreed, BringsFloor, CutsLog}
-use Rattle.mb_theory.proofs.FloorCerts.{agreed_many}
-use Rattle.mb_known.proofs.Found.{floor_is}
+use Rattle.mb_world_model.specs.World.{System, self_of}
+use Rattle.mb_world_model.specs.WorldSteps.{world}
+use Rattle.mb_promise.specs.KeepsTables.{IsCheckpoint}
+use Rattle.mb_promise.specs.CutsLog.{floor_told, tells_floor, IsKeptAt, AgreeOnFloor, IsLastAgreed, BringsFloor, CutsLog}
+use Rattle.mb_host_laws.proofs.FloorCerts.{agreed_many}
+use Rattle.mb_host_laws.proofs.Found.{floor_is}
 use Rattle.mb_found.proofs.FoundMembers.{passes, as_many, some_in, filter_more, of_filter, of_take, agreement, found_both, of_found}
 
 -- ---- CHECKPOINTs that tell a floor

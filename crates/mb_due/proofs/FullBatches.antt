@@ -9,9 +9,9 @@ use Rattle.mb_parts.specs.declared.batch.Batch.{Batch}
 use Rattle.mb_parts.specs.Spelling.{request_bytes}
 use Rattle.mb_parts.specs.Fits.{FitsRequest}
 use Rattle.mb_model.specs.Batches.{batch_limit, batch_bytes_limit, has_place, fitting, first_batch}
-use Rattle.mb_theory.specs.NothingLeft.{IsFull}
-use Rattle.mb_known.proofs.Cases.{some_is}
-use Rattle.mb_known.proofs.FirstBatches.{first_fits}
+use Rattle.mb_promise.specs.NothingLeft.{IsFull}
+use Rattle.mb_host_laws.proofs.Cases.{some_is}
+use Rattle.mb_host_laws.proofs.FirstBatches.{first_fits}
 
 -- A list begins with these, which are as many as may be, or have no place for the next one.
 record EndsFull (most used : ℕ) (l some : List Request) : Type 0 where

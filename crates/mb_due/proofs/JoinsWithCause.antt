@@ -17,13 +17,13 @@ use Rattle.mb_model.specs.Making.{join, join_evidence}
 use Rattle.mb_model.specs.EnabledRules.{Join, lags_behind, is_past_plan, has_evidence, join_enabled}
 use Rattle.mb_model.proofs.Options.{if_some}
 use Rattle.mb_steps.specs.Arises.{Arises, Makes}
-use Rattle.mb_theory.specs.World.{System, self_of}
-use Rattle.mb_theory.specs.WorldSteps.{world}
-use Rattle.mb_theory.specs.NothingLeft.{IsEvident}
-use Rattle.mb_theory.proofs.KeptByWorlds.{world_arises}
-use Rattle.mb_known.proofs.Cases.{not_true}
-use Rattle.mb_known.proofs.Moments.{arises_by}
-use Rattle.mb_theory.specs.JoinsWithCause.{FellBehind, IsPastItsPlan, MayStampJoin, JoinsWithCause}
+use Rattle.mb_world_model.specs.World.{System, self_of}
+use Rattle.mb_world_model.specs.WorldSteps.{world}
+use Rattle.mb_promise.specs.NothingLeft.{IsEvident}
+use Rattle.mb_world_laws.proofs.KeptByWorlds.{world_arises}
+use Rattle.mb_host_laws.proofs.Cases.{not_true}
+use Rattle.mb_host_laws.proofs.Moments.{arises_by}
+use Rattle.mb_promise.specs.JoinsWithCause.{FellBehind, IsPastItsPlan, MayStampJoin, JoinsWithCause}
 
 either : (a b : Bool) → (a || b) ≡ true → (a ≡ true) ⊎ (b ≡ true)
 either true b e = inl refl

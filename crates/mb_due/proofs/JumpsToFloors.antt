@@ -17,10 +17,10 @@ use Rattle.mb_model.specs.Sending.{Progress, begin, write, signed}
 use Rattle.mb_model.specs.CarriedOut.{serve_all}
 use Rattle.mb_model.specs.Given.{give_log, jump, floor_shown}
 use Rattle.mb_model.specs.HostStep.{on_bytes, transition}
-use Rattle.mb_theory.proofs.KeptByEvents.{served_keep}
-use Rattle.mb_theory.proofs.Walks.{is_quiet}
+use Rattle.mb_host_laws.proofs.KeptByEvents.{served_keep}
+use Rattle.mb_host_laws.proofs.Walks.{is_quiet}
 use Rattle.mb_line.proofs.Walks.{IsWalked, entries_keep, finished_keeps}
-use Rattle.mb_theory.specs.TakesLogs.{IsValidLog, JumpsToFloors}
+use Rattle.mb_promise.specs.TakesLogs.{IsValidLog, JumpsToFloors}
 use Rattle.mb_due.proofs.LogsStand.{log_passed}
 
 module _ {S : Type 0} (self : Identity S) where

@@ -28,13 +28,13 @@ use Rattle.mb_steps.specs.OwnLists.{inner}
 use Rattle.mb_steps.specs.Arises.{Arises, Makes}
 use Rattle.mb_steps.proofs.StepOwnList.{stands_here, own_passed}
 use Rattle.mb_steps.proofs.StepOwnStamped.{steady}
-use Rattle.mb_theory.specs.KeepsTables.{NoneIs}
-use Rattle.mb_theory.specs.GatesStand.{IsMessage, is_of, moves_gate, MovesTo, TakesInTurn, KeepsGates, KeepsJumps, StartsGates, GatesStand}
-use Rattle.mb_theory.specs.World.{System, self_of}
-use Rattle.mb_theory.specs.WorldSteps.{world}
-use Rattle.mb_theory.proofs.KeptByWorlds.{world_arises}
-use Rattle.mb_known.proofs.Cases.{not_true}
-use Rattle.mb_known.proofs.OwnGates.{OwnUi, own_ui}
+use Rattle.mb_promise.specs.KeepsTables.{NoneIs}
+use Rattle.mb_promise.specs.GatesStand.{IsMessage, is_of, moves_gate, MovesTo, TakesInTurn, KeepsGates, KeepsJumps, StartsGates, GatesStand}
+use Rattle.mb_world_model.specs.World.{System, self_of}
+use Rattle.mb_world_model.specs.WorldSteps.{world}
+use Rattle.mb_world_laws.proofs.KeptByWorlds.{world_arises}
+use Rattle.mb_host_laws.proofs.Cases.{not_true}
+use Rattle.mb_host_laws.proofs.OwnGates.{OwnUi, own_ui}
 
 -- ---- where one message leads
 

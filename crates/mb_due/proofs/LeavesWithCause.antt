@@ -17,12 +17,12 @@ use Rattle.mb_model.specs.Making.{view_change}
 use Rattle.mb_model.specs.EnabledRules.{ChangeView, new_view_number, target, change_enabled}
 use Rattle.mb_model.proofs.Options.{if_some}
 use Rattle.mb_steps.specs.Arises.{Arises, Makes}
-use Rattle.mb_theory.specs.World.{System, self_of}
-use Rattle.mb_theory.specs.WorldSteps.{world}
-use Rattle.mb_theory.specs.NothingLeft.{IsWished, IsAnnounced, IsEvident}
-use Rattle.mb_theory.specs.LeavesWithCause.{HasCause, LeavesWithCause}
-use Rattle.mb_theory.proofs.KeptByWorlds.{world_arises}
-use Rattle.mb_known.proofs.Moments.{arises_by}
+use Rattle.mb_world_model.specs.World.{System, self_of}
+use Rattle.mb_world_model.specs.WorldSteps.{world}
+use Rattle.mb_promise.specs.NothingLeft.{IsWished, IsAnnounced, IsEvident}
+use Rattle.mb_promise.specs.LeavesWithCause.{HasCause, LeavesWithCause}
+use Rattle.mb_world_laws.proofs.KeptByWorlds.{world_arises}
+use Rattle.mb_host_laws.proofs.Moments.{arises_by}
 
 module _ {S : Type 0} (self : Identity S) where
   -- The greater of two numbers is one of them.

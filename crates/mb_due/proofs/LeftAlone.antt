@@ -22,10 +22,10 @@ use Rattle.mb_model.specs.PlainChecks.{request_refusal, wish_refusal, resend_ref
 use Rattle.mb_model.specs.Given.{Answer, closing, give_stamped, give_request, give_wish, give_resend, give_fetch, give_state, give}
 use Rattle.mb_model.specs.HostStep.{is_taken, rules_follow, finished_where, on_bytes, on_patience, asks_on, transition}
 use Rattle.mb_model.proofs.Options.{option_cases}
-use Rattle.mb_theory.specs.World.{System, self_of}
-use Rattle.mb_theory.specs.WorldSteps.{world}
-use Rattle.mb_theory.specs.NothingLeft.{IsNoLog}
-use Rattle.mb_theory.specs.LeavesAlone.{LeavesOfStamped, LeavesOfState, LeavesOfRefused, KeepsRefused, KeepsMalformed, KeepsPatience, LeavesAlone}
+use Rattle.mb_world_model.specs.World.{System, self_of}
+use Rattle.mb_world_model.specs.WorldSteps.{world}
+use Rattle.mb_promise.specs.NothingLeft.{IsNoLog}
+use Rattle.mb_promise.specs.LeavesAlone.{LeavesOfStamped, LeavesOfState, LeavesOfRefused, KeepsRefused, KeepsMalformed, KeepsPatience, LeavesAlone}
 
 module _ {S : Type 0} (self : Identity S) (d : History) where
   -- ---- each kind

@@ -13,7 +13,7 @@ use Rattle.mb_model.specs.Sending.{Progress, begin, write}
 use Rattle.mb_model.specs.PlainChecks.{is_certified_floor, is_certified_evidence, log_refusal}
 use Rattle.mb_model.specs.Given.{give_log, jump, floor_shown}
 use Rattle.mb_model.specs.HostStep.{on_bytes, transition}
-use Rattle.mb_theory.specs.TakesLogs.{IsValidLog, LogsStand}
+use Rattle.mb_promise.specs.TakesLogs.{IsValidLog, LogsStand}
 use Rattle.mb_line.proofs.Walks.{IsWalked, each_entry, entries_keep, finished_keeps}
 
 module _ {S : Type 0} (self : Identity S) where

@@ -39,16 +39,16 @@ use Rattle.mb_steps.specs.Arises.{Arises}
 use Rattle.mb_steps.proofs.StepOwnList.{own_passed}
 use Rattle.mb_steps.proofs.StepOwnStamped.{steady}
 use Rattle.mb_steps.proofs.StepPotential.{grown_low}
-use Rattle.mb_theory.specs.World.{System, self_of}
-use Rattle.mb_theory.specs.WorldSteps.{world}
-use Rattle.mb_theory.specs.NothingLeft.{IsInWindow, CountsOpens}
-use Rattle.mb_theory.proofs.Words.{window_is}
-use Rattle.mb_known.proofs.Cases.{some_is}
-use Rattle.mb_known.proofs.Rests.{Each}
-use Rattle.mb_theory.proofs.KeptByWorlds.{world_arises}
+use Rattle.mb_world_model.specs.World.{System, self_of}
+use Rattle.mb_world_model.specs.WorldSteps.{world}
+use Rattle.mb_promise.specs.NothingLeft.{IsInWindow, CountsOpens}
+use Rattle.mb_each_host.proofs.Words.{window_is}
+use Rattle.mb_host_laws.proofs.Cases.{some_is}
+use Rattle.mb_host_laws.specs.Rests.{Each}
+use Rattle.mb_world_laws.proofs.KeptByWorlds.{world_arises}
 use Rattle.mb_due.proofs.AcceptedFits.{HasValues, values_in_worlds}
-use Rattle.mb_known.proofs.Moments.{each_at}
-use Rattle.mb_known.proofs.OwnPlanGood.{plan_short}
+use Rattle.mb_host_laws.proofs.Moments.{each_at}
+use Rattle.mb_host_laws.proofs.OwnPlanGood.{plan_short}
 use Rattle.mb_views.proofs.PlanMoments.{held_from, base_below}
 
 -- ---- of two votes

@@ -6,12 +6,12 @@ use Rattle.mb_msg.specs.declared.stamped.Stamped.TheVariants as stamped
 use Rattle.mb_model.specs.Histories.{Stamped, History, Identity}
 use Rattle.mb_model.specs.EnabledRules.{unordered}
 use Rattle.mb_steps.specs.Arises.{Arises, Makes}
-use Rattle.mb_theory.specs.World.{System, self_of}
-use Rattle.mb_theory.specs.WorldSteps.{world}
-use Rattle.mb_theory.specs.NothingLeft.{OrdersAllThatFit}
-use Rattle.mb_theory.proofs.KeptByWorlds.{world_arises}
-use Rattle.mb_known.proofs.Rests.{Each}
-use Rattle.mb_known.proofs.Moments.{each_past, arises_by}
+use Rattle.mb_world_model.specs.World.{System, self_of}
+use Rattle.mb_world_model.specs.WorldSteps.{world}
+use Rattle.mb_promise.specs.NothingLeft.{OrdersAllThatFit}
+use Rattle.mb_world_laws.proofs.KeptByWorlds.{world_arises}
+use Rattle.mb_host_laws.specs.Rests.{Each}
+use Rattle.mb_host_laws.proofs.Moments.{each_past, arises_by}
 use Rattle.mb_views.proofs.OwnSeen.{seen_prepare}
 use Rattle.mb_due.proofs.AcceptedFits.{HasValues, unordered_fits, values_in_worlds}
 use Rattle.mb_due.proofs.FullBatches.{first_full}

@@ -33,9 +33,9 @@ use Rattle.mb_steps.specs.Arises.{Arises}
 use Rattle.mb_steps.proofs.StepHeldEvidence.{prepare_by_primary}
 use Rattle.mb_steps.proofs.StepOwnList.{own_passed}
 use Rattle.mb_steps.proofs.StepOwnStamped.{steady}
-use Rattle.mb_theory.specs.WhatCame.{SaysSlot, SaysVote}
-use Rattle.mb_known.proofs.Cases.{not_true, not_both}
-use Rattle.mb_known.proofs.OwnSlots.{IsOpened, IsBehind, behind_stays}
+use Rattle.mb_promise.specs.WhatCame.{SaysSlot, SaysVote}
+use Rattle.mb_host_laws.proofs.Cases.{not_true, not_both}
+use Rattle.mb_host_laws.proofs.OwnSlots.{IsOpened, IsBehind, behind_stays}
 use Rattle.mb_views.proofs.OwnSeen.{seen_open}
 use Rattle.mb_found.proofs.WhatCame.{says_slot, says_vote}
 

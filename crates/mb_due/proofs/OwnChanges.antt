@@ -22,17 +22,18 @@ use Rattle.mb_model.specs.Sending.{next_ui}
 use Rattle.mb_model.specs.Making.{view_change, new_view, enter}
 use Rattle.mb_model.specs.EnabledRules.{Enter, enter_enabled}
 use Rattle.mb_model.proofs.Options.{if_some, map_some}
-use Rattle.mb_model.proofs.Members.{In, in_contained, contained, all_in}
+use Rattle.mb_model.specs.Members.{In}
+use Rattle.mb_model.proofs.Members.{in_contained, contained, all_in}
 use Rattle.mb_steps.specs.Arises.{Arises, Makes}
 use Rattle.mb_steps.proofs.StepHeldEvidence.{announce_seen}
 use Rattle.mb_steps.proofs.StepPlanBases.{all_filter, all_append}
-use Rattle.mb_theory.specs.World.{System, self_of}
-use Rattle.mb_theory.specs.WorldSteps.{world}
-use Rattle.mb_theory.specs.OwnChanges.{ChangeShows, NewViewShows, EnterAnswers, ShowsInChanges}
-use Rattle.mb_theory.proofs.KeptByWorlds.{world_arises}
-use Rattle.mb_known.proofs.Cases.{some_is}
-use Rattle.mb_known.proofs.Moments.{arises_by, each_past}
-use Rattle.mb_known.proofs.Rests.{Each}
+use Rattle.mb_world_model.specs.World.{System, self_of}
+use Rattle.mb_world_model.specs.WorldSteps.{world}
+use Rattle.mb_promise.specs.OwnChanges.{ChangeShows, NewViewShows, EnterAnswers, ShowsInChanges}
+use Rattle.mb_world_laws.proofs.KeptByWorlds.{world_arises}
+use Rattle.mb_host_laws.proofs.Cases.{some_is}
+use Rattle.mb_host_laws.proofs.Moments.{arises_by, each_past}
+use Rattle.mb_host_laws.specs.Rests.{Each}
 use Rattle.mb_views.proofs.HeldSound.{chosen_to}
 use Rattle.mb_views.proofs.OwnPlans.{chosen_many}
 use Rattle.mb_due.proofs.AcceptedFits.{HasValues, values_in_worlds}

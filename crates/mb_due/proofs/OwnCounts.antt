@@ -33,17 +33,17 @@ use Rattle.mb_model.proofs.Options.{if_some, map_some}
 use Rattle.mb_steps.specs.Arises.{Arises}
 use Rattle.mb_steps.proofs.StepHeldEvidence.{open_seen, shows_checked, evidence_checks}
 use Rattle.mb_steps.proofs.StepPotential.{grown_low, order_parts}
-use Rattle.mb_theory.specs.World.{System, self_of}
-use Rattle.mb_theory.specs.WorldSteps.{world}
-use Rattle.mb_theory.specs.NothingLeft.{IsInWindow, slot_of, ExecutesAtQuorum}
-use Rattle.mb_theory.specs.OwnStamps.{carried_slot, carried_vote, CountsOwnPrepares, CountsOwnCommits, OpenCounts, CountsOwnOpens, CountsVotesOfOpens, ExecutesPlanned, CountsOwn}
-use Rattle.mb_theory.proofs.CarriedOut.{hosts_carry_out}
-use Rattle.mb_theory.proofs.DueVotes.{slot_stays, vote_stays, counts_where, slot_new, vote_new, own_place}
-use Rattle.mb_theory.proofs.KeptByWorlds.{world_arises}
-use Rattle.mb_theory.proofs.Words.{window_is, window_says}
-use Rattle.mb_known.proofs.Cases.{some_is}
-use Rattle.mb_known.proofs.Found.{opened_plan, commit_shape}
-use Rattle.mb_known.proofs.Moments.{each_past}
+use Rattle.mb_world_model.specs.World.{System, self_of}
+use Rattle.mb_world_model.specs.WorldSteps.{world}
+use Rattle.mb_promise.specs.NothingLeft.{IsInWindow, slot_of, ExecutesAtQuorum}
+use Rattle.mb_promise.specs.OwnStamps.{carried_slot, carried_vote, CountsOwnPrepares, CountsOwnCommits, OpenCounts, CountsOwnOpens, CountsVotesOfOpens, ExecutesPlanned, CountsOwn}
+use Rattle.mb_each_host.proofs.CarriedOut.{hosts_carry_out}
+use Rattle.mb_each_host.proofs.DueVotes.{slot_stays, vote_stays, counts_where, slot_new, vote_new, own_place}
+use Rattle.mb_world_laws.proofs.KeptByWorlds.{world_arises}
+use Rattle.mb_each_host.proofs.Words.{window_is, window_says}
+use Rattle.mb_host_laws.proofs.Cases.{some_is}
+use Rattle.mb_host_laws.proofs.Found.{opened_plan, commit_shape}
+use Rattle.mb_host_laws.proofs.Moments.{each_past}
 use Rattle.mb_views.proofs.OwnSeen.{seen_prepare, seen_commit}
 use Rattle.mb_views.proofs.PlanMoments.{base_below, low_grows}
 use Rattle.mb_due.proofs.AcceptedFits.{HasValues, values_in_worlds}

@@ -24,10 +24,10 @@ use Rattle.mb_steps.proofs.StepArises.{Arisen}
 use Rattle.mb_steps.proofs.StepRulesArise.{run_arises}
 use Rattle.mb_steps.proofs.StepPotential.{served_keeps, execution_leaves}
 use Rattle.mb_steps.proofs.StepUnchanged.{served_enabled}
-use Rattle.mb_theory.specs.NothingLeft.{IsInWindow, has_vote}
-use Rattle.mb_theory.proofs.Words.{window_is}
-use Rattle.mb_theory.proofs.KeptByEvents.{execution_keeps}
-use Rattle.mb_known.proofs.Cases.{none_some, some_none}
+use Rattle.mb_promise.specs.NothingLeft.{IsInWindow, has_vote}
+use Rattle.mb_each_host.proofs.Words.{window_is}
+use Rattle.mb_host_laws.proofs.KeptByEvents.{execution_keeps}
+use Rattle.mb_host_laws.proofs.Cases.{none_some, some_none}
 use Rattle.mb_due.proofs.Staying.{off_then, Stays, change_stays, join_stays, stamps_commit}
 use Rattle.mb_due.proofs.Voted.{IsVoted, voted_still}
 

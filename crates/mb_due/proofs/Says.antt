@@ -14,7 +14,7 @@ use Rattle.mb_model.specs.Positions.{exec_of, is_behind}
 use Rattle.mb_model.specs.Execution.{asked_host, next_host, missing}
 use Rattle.mb_model.specs.Sending.{next_of}
 use Rattle.mb_model.proofs.ShapesFit.{shape_fits}
-use Rattle.mb_theory.specs.Says.{AsksFrom, AsksForState, IsOther, IsNextHost, SaysWhatItHolds}
+use Rattle.mb_promise.specs.Says.{AsksFrom, AsksForState, IsOther, IsNextHost, SaysWhatItHolds}
 
 -- ---- the numbers from one on
 

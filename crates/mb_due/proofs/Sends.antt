@@ -11,10 +11,10 @@ use Rattle.mb_model.specs.Histories.{Entry, Accepted, Stamped, Jumped, Closed, S
 use Rattle.mb_model.specs.Sending.{Letter, Progress, write, send, stamp, signed, to_all, to_client}
 use Rattle.mb_model.specs.CarriedOut.{placed_in, with_reply, serve, serve_all, slot_for, close_slot}
 use Rattle.mb_model.specs.Given.{stored_reply, install}
-use Rattle.mb_theory.specs.World.{System, self_of}
-use Rattle.mb_theory.specs.WorldSteps.{world}
-use Rattle.mb_theory.specs.Sends.{AreSent, SendsAdded, SendsAll}
-use Rattle.mb_theory.proofs.Walks.{is_quiet}
+use Rattle.mb_world_model.specs.World.{System, self_of}
+use Rattle.mb_world_model.specs.WorldSteps.{world}
+use Rattle.mb_promise.specs.Sends.{AreSent, SendsAdded, SendsAll}
+use Rattle.mb_host_laws.proofs.Walks.{is_quiet}
 use Rattle.mb_line.proofs.Walks.{IsWalked, walked}
 
 module _ {S : Type 0} (self : Identity S) where

@@ -26,7 +26,7 @@ use Rattle.mb_model.specs.OwnLog.{behind, behind_opening, behind_change, kept_fo
 use Rattle.mb_model.specs.Making.{expected, fitting, first_fitting, part_bytes_limit}
 use Rattle.mb_model.proofs.Options.{if_some}
 use Rattle.mb_steps.proofs.StepHeldEvidence.{some_is}
-use Rattle.mb_theory.specs.ShowsLog.{votes_or_opens, changes_view, shortens, next_shown, IsShownOf, BeginsAt, ShowsLog, ShowsState}
+use Rattle.mb_promise.specs.ShowsLog.{votes_or_opens, changes_view, shortens, next_shown, IsShownOf, BeginsAt, ShowsLog, ShowsState}
 
 -- ---- lists, newest first
 

@@ -38,9 +38,9 @@ use Rattle.mb_model.specs.Given.{Answer, give_stamped, give_request, give_wish, 
 use Rattle.mb_model.specs.HostStep.{finished_where, rules_follow, asks_on, transition}
 use Rattle.mb_model.proofs.Options.{option_cases, of_both}
 use Rattle.mb_steps.proofs.StepPassed.{passes_stamped, passes_request, passes_wish, passes_resend, passes_fetch, passes_state}
-use Rattle.mb_theory.specs.World.{System, self_of}
-use Rattle.mb_theory.specs.WorldSteps.{world}
-use Rattle.mb_theory.specs.NothingLeft.{IsNoLog, TakesWhatPasses}
+use Rattle.mb_world_model.specs.World.{System, self_of}
+use Rattle.mb_world_model.specs.WorldSteps.{world}
+use Rattle.mb_promise.specs.NothingLeft.{IsNoLog, TakesWhatPasses}
 
 -- ---- no refusal says that the message was taken
 

@@ -24,10 +24,10 @@ use Rattle.mb_model.specs.KindChecks.{stamped_refusal}
 use Rattle.mb_model.specs.Given.{closing, named_prepare, offer_prepare, casts_vote, accept, give_entries, give_stamped, give_log, jump, floor_shown}
 use Rattle.mb_model.specs.HostStep.{on_bytes, transition}
 use Rattle.mb_model.proofs.Options.{option_cases}
-use Rattle.mb_theory.specs.World.{System, self_of}
-use Rattle.mb_theory.specs.WorldSteps.{world}
-use Rattle.mb_theory.specs.TakesValid.{IsValid}
-use Rattle.mb_theory.specs.TakesLogs.{IsValidLog, with_floor_of, IsPassed, with_accepted, AreTaken, TakesEntries, TakesLogs}
+use Rattle.mb_world_model.specs.World.{System, self_of}
+use Rattle.mb_world_model.specs.WorldSteps.{world}
+use Rattle.mb_promise.specs.TakesValid.{IsValid}
+use Rattle.mb_promise.specs.TakesLogs.{IsValidLog, with_floor_of, IsPassed, with_accepted, AreTaken, TakesEntries, TakesLogs}
 use Rattle.mb_line.proofs.Walks.{offer_keeps, entries_keep, finished_keeps}
 use Rattle.mb_due.proofs.Taken.{stamped_passed}
 use Rattle.mb_due.proofs.TakesValid.{certified, valid_passes}

@@ -49,11 +49,12 @@ use Rattle.mb_model.specs.GateChecks.{valid, stamp_claim}
 use Rattle.mb_model.specs.KindChecks.{is_member, member_fault, members_fault, announces, new_view_fault, opening_fault}
 use Rattle.mb_model.specs.PlainChecks.{string_at, wrong_part, is_behind_pending, has_news_for, fault_of}
 use Rattle.mb_model.specs.Passed.{PassesGate, PassesBody, PassesVote, PassesStamped, PassesRequest, PassesWish, PassesResend, PassesFetch, PassesState, Passes}
-use Rattle.mb_model.proofs.Members.{In, in_contained}
-use Rattle.mb_theory.specs.World.{System, self_of}
-use Rattle.mb_theory.specs.WorldSteps.{world}
-use Rattle.mb_theory.specs.TakesValid.{IsCertified, IsTagged, AreTagged, IsUsable, IsMember, IsPlanned, IsPlanOf, IsNextOfSender, IsShown, IsVote, IsNewRequest, IsGreaterWish, AsksForNews, AsksForState, BringsParts, IsValid, TakesWhatIsValid}
-use Rattle.mb_theory.specs.NothingLeft.{IsNoLog}
+use Rattle.mb_model.specs.Members.{In}
+use Rattle.mb_model.proofs.Members.{in_contained}
+use Rattle.mb_world_model.specs.World.{System, self_of}
+use Rattle.mb_world_model.specs.WorldSteps.{world}
+use Rattle.mb_promise.specs.TakesValid.{IsCertified, IsTagged, AreTagged, IsUsable, IsMember, IsPlanned, IsPlanOf, IsNextOfSender, IsShown, IsVote, IsNewRequest, IsGreaterWish, AsksForNews, AsksForState, BringsParts, IsValid, TakesWhatIsValid}
+use Rattle.mb_promise.specs.NothingLeft.{IsNoLog}
 use Rattle.mb_due.proofs.Taken.{takes_what_passes}
 
 -- ---- options and lists

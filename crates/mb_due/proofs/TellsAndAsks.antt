@@ -24,14 +24,14 @@ use Rattle.mb_model.specs.CarriedOut.{run_rules, enough}
 use Rattle.mb_model.specs.Given.{Answer, give_log, give}
 use Rattle.mb_model.specs.HostStep.{is_taken, rules_follow, low_rose, with_fetch, finished_where, on_bytes, on_patience, on_nudge, transition}
 use Rattle.mb_model.proofs.Options.{option_cases}
-use Rattle.mb_theory.specs.World.{System, self_of}
-use Rattle.mb_theory.specs.WorldSteps.{world}
-use Rattle.mb_theory.specs.NothingLeft.{IsNoLog}
-use Rattle.mb_theory.specs.Answers.{AsksWhereBehind}
-use Rattle.mb_theory.specs.TellsAndAsks.{TellsPatience, FetchesWhereRisen, TellsAndAsks}
+use Rattle.mb_world_model.specs.World.{System, self_of}
+use Rattle.mb_world_model.specs.WorldSteps.{world}
+use Rattle.mb_promise.specs.NothingLeft.{IsNoLog}
+use Rattle.mb_promise.specs.Answers.{AsksWhereBehind}
+use Rattle.mb_promise.specs.TellsAndAsks.{TellsPatience, FetchesWhereRisen, TellsAndAsks}
 use Rattle.mb_line.proofs.Walks.{finished_keeps}
 use Rattle.mb_due.proofs.Answers.{Q, letter_walked, patience_sent, last_of}
-use Rattle.mb_theory.specs.LeavesAlone.{LeavesOfStamped, LeavesOf, LeavesOfState, LeavesOfRefused}
+use Rattle.mb_promise.specs.LeavesAlone.{LeavesOfStamped, LeavesOf, LeavesOfState, LeavesOfRefused}
 use Rattle.mb_due.proofs.LeftAlone.{given_left}
 
 module _ {S : Type 0} (self : Identity S) (d : History) where

@@ -22,12 +22,12 @@ use Rattle.mb_model.specs.Histories.{Entry, Accepted, Stamped, Jumped, History, 
 use Rattle.mb_model.specs.Sending.{next_ui}
 use Rattle.mb_model.specs.Making.{if_covered, floors_under, present_parts, checkpoint}
 use Rattle.mb_steps.specs.Arises.{Arises, Makes}
-use Rattle.mb_theory.specs.World.{System, self_of}
-use Rattle.mb_theory.specs.WorldSteps.{world}
-use Rattle.mb_theory.specs.KeepsTables.{NoneIs}
-use Rattle.mb_theory.specs.TellsFloors.{marks_gate, IsNoJump, TellsLast, TellsLastButOne, TellsFloors}
-use Rattle.mb_theory.proofs.KeptByWorlds.{world_arises}
-use Rattle.mb_known.proofs.Moments.{arises_by}
+use Rattle.mb_world_model.specs.World.{System, self_of}
+use Rattle.mb_world_model.specs.WorldSteps.{world}
+use Rattle.mb_promise.specs.KeepsTables.{NoneIs}
+use Rattle.mb_promise.specs.TellsFloors.{marks_gate, IsNoJump, TellsLast, TellsLastButOne, TellsFloors}
+use Rattle.mb_world_laws.proofs.KeptByWorlds.{world_arises}
+use Rattle.mb_host_laws.proofs.Moments.{arises_by}
 use Rattle.mb_due.proofs.KeptGates.{jumped_gate}
 use Rattle.mb_due.proofs.Says.{host_at}
 

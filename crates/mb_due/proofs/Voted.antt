@@ -10,7 +10,7 @@ use Rattle.mb_model.specs.Votes.{is_vote}
 use Rattle.mb_model.specs.Histories.{Entry, History, Identity, view_of}
 use Rattle.mb_model.specs.Positions.{slot_in, slot_vote, vote_of}
 use Rattle.mb_model.proofs.Options.{option_cases}
-use Rattle.mb_theory.specs.NothingLeft.{has_vote}
+use Rattle.mb_promise.specs.NothingLeft.{has_vote}
 
 bit_more : (p q : Bool) → (p ≡ true → q ≡ true) → (if p then 1 else 0) ≤ (if q then 1 else 0)
 bit_more true q f = rw (f refl) (omega arith)

@@ -23,10 +23,10 @@ use Rattle.mb_model.specs.Passed.{PassesStamped, Passes}
 use Rattle.mb_model.specs.Given.{named_prepare, casts_vote, accept, give_stamped, give_request, give_wish, give_resend, give_fetch, give_state, give}
 use Rattle.mb_model.specs.HostStep.{on_bytes, on_patience, on_nudge, transition}
 use Rattle.mb_line.proofs.Walks.{IsWalked, each_entry, offer_keeps, finished_keeps, again_keeps}
-use Rattle.mb_theory.specs.World.{System, self_of}
-use Rattle.mb_theory.specs.WorldSteps.{world}
-use Rattle.mb_theory.specs.NothingLeft.{IsNoLog}
-use Rattle.mb_theory.specs.Writes.{WritesTaken, WritesPatience, WritesNudge, Writes}
+use Rattle.mb_world_model.specs.World.{System, self_of}
+use Rattle.mb_world_model.specs.WorldSteps.{world}
+use Rattle.mb_promise.specs.NothingLeft.{IsNoLog}
+use Rattle.mb_promise.specs.Writes.{WritesTaken, WritesPatience, WritesNudge, Writes}
 use Rattle.mb_due.proofs.Taken.{stamped_passed, request_passed, wish_passed, resend_passed, fetch_passed, state_passed, takes_what_passes}
 
 module _ {S : Type 0} (self : Identity S) where

@@ -29,10 +29,10 @@ use Rattle.mb_model.specs.Positions.{batch_from, slot_of_plan, slot_of_prepare, 
 use Rattle.mb_model.proofs.Options.{if_some, map_some}
 use Rattle.mb_steps.proofs.StepOwnSteady.{found_slot}
 use Rattle.mb_steps.proofs.StepPlanBases.{all_found, all_any}
-use Rattle.mb_known.proofs.FirstBatches.{first_fits}
-use Rattle.mb_known.proofs.Cases.{some_is, then_some_of, whole_is}
-use Rattle.mb_known.proofs.Found.{above_is}
-use Rattle.mb_known.proofs.Rests.{Each}
+use Rattle.mb_host_laws.proofs.FirstBatches.{first_fits}
+use Rattle.mb_host_laws.proofs.Cases.{some_is, then_some_of, whole_is}
+use Rattle.mb_host_laws.proofs.Found.{above_is}
+use Rattle.mb_host_laws.specs.Rests.{Each}
 use Rattle.mb_fitting.specs.Fitting.{HasValues}
 
 -- ---- batches in bodies

@@ -27,14 +27,14 @@ use Rattle.mb_model.specs.Plans.{ShownLog, ShownVote, newest, vote_with, plan_vo
 use Rattle.mb_model.specs.UsableLogs.{is_whole}
 use Rattle.mb_model.proofs.Options.{or_some, if_some, map_some}
 use Rattle.mb_steps.proofs.StepPlanBases.{all_append, all_filter, all_found}
-use Rattle.mb_known.proofs.Cases.{some_is, whole_is}
-use Rattle.mb_known.proofs.Found.{all_newest}
-use Rattle.mb_known.proofs.Rests.{Each}
-use Rattle.mb_known.proofs.PlanShows.{ShowsSound, plan_holds}
-use Rattle.mb_known.proofs.PlanFits.{change_bases, log_has, none_fits}
+use Rattle.mb_host_laws.proofs.Cases.{some_is, whole_is}
+use Rattle.mb_host_laws.proofs.Found.{all_newest}
+use Rattle.mb_host_laws.specs.Rests.{Each}
+use Rattle.mb_host_laws.proofs.PlanShows.{ShowsSound, plan_holds}
+use Rattle.mb_host_laws.proofs.PlanFits.{change_bases, log_has, none_fits}
 use Rattle.mb_fitting.specs.Fitting.{HasValues}
 use Rattle.mb_fitting.proofs.Batches.{got, body_batch}
-use Rattle.mb_known.proofs.DistinctHosts.{chosen_members}
+use Rattle.mb_host_laws.proofs.DistinctHosts.{chosen_members}
 
 whole_form : {B : Type 0} (x : Body B) → is_whole x ≡ true → form_of x ≡ 1
 whole_form (Whole b) e = refl

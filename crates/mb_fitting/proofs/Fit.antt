@@ -23,14 +23,15 @@ use Rattle.mb_model.proofs.ShapesFit.{shape_fits}
 use Rattle.mb_model.proofs.Options.{option_cases}
 use Rattle.mb_steps.specs.Arises.{JustExecuted, Makes, IsWhole, Adds, Arises}
 use Rattle.mb_steps.proofs.StepGivenArise.{give_arises}
-use Rattle.mb_theory.proofs.KeptByEvents.{event_keeps}
-use Rattle.mb_theory.proofs.RoomForRules.{HasRoomFor, room_for}
-use Rattle.mb_known.proofs.Cases.{some_is}
-use Rattle.mb_known.proofs.ReadFits.{read_fits}
-use Rattle.mb_known.proofs.Rests.{Each, each_more, noted_by, rests_more}
-use Rattle.mb_known.proofs.RestsEvents.{given_rests, patience_event, nudge_event}
-use Rattle.mb_known.proofs.RestsGiven.{HashedIn, SentIn, Rested, give_rests}
-use Rattle.mb_known.proofs.RestsRules.{run_rests}
+use Rattle.mb_host_laws.proofs.KeptByEvents.{event_keeps}
+use Rattle.mb_host_laws.proofs.RoomForRules.{HasRoomFor, room_for}
+use Rattle.mb_host_laws.proofs.Cases.{some_is}
+use Rattle.mb_reading_laws.proofs.ReadFits.{read_fits}
+use Rattle.mb_host_laws.specs.Rests.{Each, noted_by}
+use Rattle.mb_host_laws.proofs.Rests.{each_more, rests_more}
+use Rattle.mb_host_laws.proofs.RestsEvents.{given_rests, patience_event, nudge_event}
+use Rattle.mb_host_laws.proofs.RestsGiven.{HashedIn, SentIn, Rested, give_rests}
+use Rattle.mb_host_laws.proofs.RestsRules.{run_rests}
 use Rattle.mb_searches.specs.Speaks.{is_stamp}
 use Rattle.mb_searches.specs.Sound.{IsSound, IsServing}
 use Rattle.mb_searches.proofs.SoundRules.{rule_sound, rules_sound, serving_goes_on, serving_ends, transition_sound}

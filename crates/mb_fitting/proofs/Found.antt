@@ -36,14 +36,14 @@ use Rattle.mb_model.specs.Sending.{next_ui}
 use Rattle.mb_model.specs.Stable.{stable_of, low_of, log_floor, checkpoint_in, checkpoint_by, checkpoint_of}
 use Rattle.mb_model.proofs.Options.{or_some, or_none, then_none, if_some, map_some}
 use Rattle.mb_steps.specs.Arises.{Arises}
-use Rattle.mb_known.proofs.Cases.{not_false, some_is, whole_is}
-use Rattle.mb_known.proofs.HeldFloors.{floor_good}
-use Rattle.mb_known.proofs.HeldStable.{stable_good}
-use Rattle.mb_known.proofs.HeldViews.{evidence_good, evidence_for_good}
-use Rattle.mb_known.proofs.OwnGates.{floors_fit}
-use Rattle.mb_known.proofs.OwnPlanGood.{plan_short, plan_low}
-use Rattle.mb_known.proofs.OwnViews.{view_low}
-use Rattle.mb_known.proofs.Rests.{Each}
+use Rattle.mb_host_laws.proofs.Cases.{not_false, some_is, whole_is}
+use Rattle.mb_host_laws.proofs.HeldFloors.{floor_good}
+use Rattle.mb_host_laws.proofs.HeldStable.{stable_good}
+use Rattle.mb_host_laws.proofs.HeldViews.{evidence_good, evidence_for_good}
+use Rattle.mb_host_laws.proofs.OwnGates.{floors_fit}
+use Rattle.mb_host_laws.proofs.OwnPlanGood.{plan_short, plan_low}
+use Rattle.mb_host_laws.proofs.OwnViews.{view_low}
+use Rattle.mb_host_laws.specs.Rests.{Each}
 use Rattle.mb_searches.specs.Sound.{IsSound}
 use Rattle.mb_fitting.specs.Fitting.{HasValues, AreFit}
 use Rattle.mb_fitting.proofs.Changes.{FitsPlan, chosen_plan_fits, held_plan_fits}

@@ -18,9 +18,10 @@ use Rattle.mb_model.specs.Histories.{Entry, Accepted, Stamped, Jumped, History, 
 use Rattle.mb_model.specs.Passed.{Passes}
 use Rattle.mb_steps.specs.Arises.{Arises}
 use Rattle.mb_steps.proofs.StepOwnStamped.{steady}
-use Rattle.mb_known.proofs.Cases.{some_is}
-use Rattle.mb_known.proofs.FloorsReached.{IsPlaced, placed, leads_low}
-use Rattle.mb_known.proofs.Rests.{Each}
+use Rattle.mb_host_laws.proofs.Cases.{some_is}
+use Rattle.mb_host_laws.specs.Placed.{IsPlaced}
+use Rattle.mb_host_laws.proofs.FloorsReached.{placed, leads_low}
+use Rattle.mb_host_laws.specs.Rests.{Each}
 use Rattle.mb_searches.proofs.Gates.{own_counter, own_stamp_counter}
 use Rattle.mb_searches.proofs.Standing.{own_sender}
 use Rattle.mb_fitting.specs.Fitting.{HasValues, FitsGate}

@@ -34,8 +34,8 @@ use Rattle.mb_model.specs.Histories.{Stamped, History, Identity, stamped as all_
 use Rattle.mb_model.specs.Making.{fitting, first_fitting, part_bytes_limit, reply, wish, resend, expected, log_for, fetch, state_message}
 use Rattle.mb_model.specs.OwnLog.{kept_forms, entry_bytes_limit, packed, first_packed, log_kept, log_start, count_from, since}
 use Rattle.mb_model.specs.Stable.{low_of}
-use Rattle.mb_known.proofs.Cases.{all_more, all_reverse, all_taken}
-use Rattle.mb_known.proofs.Rests.{Each}
+use Rattle.mb_host_laws.proofs.Cases.{all_more, all_reverse, all_taken}
+use Rattle.mb_host_laws.specs.Rests.{Each}
 use Rattle.mb_searches.specs.Sound.{IsSound}
 use Rattle.mb_fitting.specs.Fitting.{FitsLast, HasValues, AreFit}
 use Rattle.mb_fitting.proofs.Fit.{fit_known}

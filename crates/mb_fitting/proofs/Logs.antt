@@ -15,11 +15,11 @@ use Rattle.mb_msg.specs.Spelling.{stamped_bytes}
 use Rattle.mb_model.specs.Histories.{Stamped, History, Identity, counter_of, stamped as all_stamped}
 use Rattle.mb_model.specs.OwnLog.{is_normal, kept_forms, as_shown, entry_bytes_limit, packed, first_packed, log_start, own_log, log_kept, proof_of, count_from, since}
 use Rattle.mb_model.specs.Stable.{log_floor}
-use Rattle.mb_theory.proofs.KeptForms.{mapped_keep, first_keep, opening_fits, change_fits, shown_fits}
-use Rattle.mb_known.proofs.Cases.{all_map, all_reverse, all_taken}
-use Rattle.mb_known.proofs.HeldFloors.{floor_good}
-use Rattle.mb_known.proofs.HeldStable.{stable_good}
-use Rattle.mb_known.proofs.Rests.{Each}
+use Rattle.mb_host_laws.proofs.KeptForms.{mapped_keep, first_keep, opening_fits, change_fits, shown_fits}
+use Rattle.mb_host_laws.proofs.Cases.{all_map, all_reverse, all_taken}
+use Rattle.mb_host_laws.proofs.HeldFloors.{floor_good}
+use Rattle.mb_host_laws.proofs.HeldStable.{stable_good}
+use Rattle.mb_host_laws.specs.Rests.{Each}
 use Rattle.mb_searches.proofs.OwnLog.{own_log_length, log_kept_length}
 use Rattle.mb_fitting.specs.Fitting.{HasRoom, HasValues}
 use Rattle.mb_fitting.proofs.Room.{same_weight}

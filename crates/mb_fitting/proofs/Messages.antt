@@ -28,8 +28,8 @@ use Rattle.mb_model.specs.Positions.{is_behind}
 use Rattle.mb_model.specs.Sending.{next_of}
 use Rattle.mb_model.specs.Stable.{log_floor, low_of}
 use Rattle.mb_model.proofs.Options.{if_some}
-use Rattle.mb_known.proofs.Cases.{some_is}
-use Rattle.mb_known.proofs.OwnViews.{wish_low}
+use Rattle.mb_host_laws.proofs.Cases.{some_is}
+use Rattle.mb_host_laws.proofs.OwnViews.{wish_low}
 use Rattle.mb_searches.specs.Sound.{IsSound}
 use Rattle.mb_fitting.specs.Fitting.{FitsLast, AreFit}
 use Rattle.mb_fitting.proofs.Fit.{fit_known}

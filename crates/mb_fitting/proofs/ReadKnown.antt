@@ -21,12 +21,12 @@ use Rattle.mb_model.specs.Histories.{Accepted, Stamped, Jumped, Closed, Served, 
 use Rattle.mb_model.specs.Positions.{slot_in, in_window}
 use Rattle.mb_model.proofs.Options.{if_some}
 use Rattle.mb_steps.specs.Arises.{Arises}
-use Rattle.mb_known.proofs.Rests.{Each}
-use Rattle.mb_known.proofs.Parts.{part_fits}
-use Rattle.mb_known.proofs.OwnKnown.{KnownMessage, Known}
-use Rattle.mb_known.proofs.OwnMade.{windowed}
-use Rattle.mb_known.proofs.OwnStamped.{HasText, stamp_known}
-use Rattle.mb_known.proofs.Executing.{IsExecution, execution}
+use Rattle.mb_host_laws.specs.Rests.{Each}
+use Rattle.mb_host_laws.proofs.Parts.{part_fits}
+use Rattle.mb_host_laws.proofs.OwnKnown.{KnownMessage, Known}
+use Rattle.mb_host_laws.proofs.OwnMade.{windowed}
+use Rattle.mb_host_laws.proofs.OwnStamped.{HasText, stamp_known}
+use Rattle.mb_host_laws.proofs.Executing.{IsExecution, execution}
 use Rattle.mb_fitting.specs.Fitting.{ComesOfRead}
 
 -- Nothing is asked of claims and of strings.

@@ -10,8 +10,8 @@ use Rattle.mb_model.specs.UsableLogs.{normal_limit, other_limit}
 use Rattle.mb_model.specs.Histories.{Entry, Accepted, Stamped, Served, Executed, History, Identity, stamped as all_stamped, counter_of}
 use Rattle.mb_model.specs.OwnLog.{own_log, log_start, is_normal, is_unspent, has_room, has_other_room}
 use Rattle.mb_steps.proofs.StepPotential.{start_bounded}
-use Rattle.mb_theory.proofs.KeptByEvents.{IsKept, execution_keeps, state_keeps}
-use Rattle.mb_known.proofs.Rests.{Each}
+use Rattle.mb_host_laws.proofs.KeptByEvents.{IsKept, execution_keeps, state_keeps}
+use Rattle.mb_host_laws.specs.Rests.{Each}
 use Rattle.mb_searches.specs.Speaks.{is_stamp}
 use Rattle.mb_searches.proofs.Framing.{stamped_stay}
 use Rattle.mb_searches.proofs.OwnLog.{start_rises}

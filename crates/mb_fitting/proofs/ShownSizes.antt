@@ -34,7 +34,7 @@ use Rattle.mb_msg.specs.Stamps.{bare_of_shown, ui_of_shown}
 use Rattle.mb_model.specs.UsableLogs.{is_opening_entry, is_whole, shows_body, has_body, is_normal_kind, normal_limit, other_limit, same_truth, height, is_sound_body, entry_claim, bares, entry_fault, entries_fault, is_ill_founded, is_too_long, fault_from, floor_of, log_fault}
 use Rattle.mb_model.proofs.Options.{or_none, then_none}
 use Rattle.mb_model.proofs.UsableLaws.{not_refused, map_none}
-use Rattle.mb_known.proofs.Cases.{or_false}
+use Rattle.mb_host_laws.proofs.Cases.{or_false}
 use Rattle.mb_fitting.proofs.Room.{weight}
 use Rattle.mb_fitting.proofs.Sizes.{length8, length16, floor_cert_short, stable_short, prepare_short, commit_short, bare_checkpoint_short, bare_change_short, bare_new_view_short, enter_short, open_short, opened_short, join_short}
 

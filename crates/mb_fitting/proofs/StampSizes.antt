@@ -33,12 +33,12 @@ use Rattle.mb_steps.specs.Arises.{Makes, Arises}
 use Rattle.mb_steps.proofs.StepHeldEvidence.{announce_seen}
 use Rattle.mb_steps.proofs.StepHeldStable.{changes_usable}
 use Rattle.mb_steps.proofs.StepPlanBases.{IsUsable}
-use Rattle.mb_theory.proofs.KeptForms.{mapped_keep}
-use Rattle.mb_known.proofs.Cases.{all_more}
-use Rattle.mb_known.proofs.Rests.{Each}
+use Rattle.mb_host_laws.proofs.KeptForms.{mapped_keep}
+use Rattle.mb_host_laws.proofs.Cases.{all_more}
+use Rattle.mb_host_laws.specs.Rests.{Each}
 use Rattle.mb_fitting.specs.Fitting.{HasValues, HasRoom}
 use Rattle.mb_fitting.proofs.Changes.{changes_fit}
-use Rattle.mb_known.proofs.DistinctHosts.{chosen_members}
+use Rattle.mb_host_laws.proofs.DistinctHosts.{chosen_members}
 use Rattle.mb_fitting.proofs.Logs.{proof_fits}
 use Rattle.mb_fitting.proofs.ReadKnown.{AllKnown}
 use Rattle.mb_fitting.proofs.Room.{weight, count_take, KeepsRoom, room_now}

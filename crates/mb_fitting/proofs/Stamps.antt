@@ -36,12 +36,12 @@ use Rattle.mb_model.specs.Sending.{signed, next_ui}
 use Rattle.mb_model.proofs.Options.{if_some, map_some}
 use Rattle.mb_steps.specs.Arises.{Makes, Serves, Adds}
 use Rattle.mb_steps.proofs.StepHeldEvidence.{announce_seen, open_seen}
-use Rattle.mb_known.proofs.Cases.{all_right, some_is}
-use Rattle.mb_known.proofs.Executing.{MayExecute, may_execute}
-use Rattle.mb_known.proofs.Found.{opened_plan, commit_shape}
-use Rattle.mb_known.proofs.OwnKnown.{KnownStamp, Known}
-use Rattle.mb_known.proofs.OwnMade.{windowed}
-use Rattle.mb_known.proofs.Rests.{Each}
+use Rattle.mb_host_laws.proofs.Cases.{all_right, some_is}
+use Rattle.mb_host_laws.proofs.Executing.{MayExecute, may_execute}
+use Rattle.mb_host_laws.proofs.Found.{opened_plan, commit_shape}
+use Rattle.mb_host_laws.proofs.OwnKnown.{KnownStamp, Known}
+use Rattle.mb_host_laws.proofs.OwnMade.{windowed}
+use Rattle.mb_host_laws.specs.Rests.{Each}
 use Rattle.mb_fitting.specs.Fitting.{HasRoom, HasValues}
 use Rattle.mb_fitting.proofs.ReadKnown.{AnyClaim, AnyText, AllKnown}
 use Rattle.mb_fitting.proofs.Batches.{slot_fits, next_batch_fits}

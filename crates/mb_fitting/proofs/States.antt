@@ -24,9 +24,9 @@ use Rattle.mb_model.specs.Execution.{part_in, if_restored, state_from, state_of,
 use Rattle.mb_model.specs.Stable.{low_of}
 use Rattle.mb_model.proofs.Options.{or_some, if_some}
 use Rattle.mb_steps.proofs.StepPlanBases.{all_found, all_any}
-use Rattle.mb_known.proofs.Cases.{all_taken}
-use Rattle.mb_known.proofs.Rests.{Each}
-use Rattle.mb_known.proofs.Yields.{IsYield, bytes_yield, checked_yield, repeat_yield}
+use Rattle.mb_host_laws.proofs.Cases.{all_taken}
+use Rattle.mb_host_laws.specs.Rests.{Each}
+use Rattle.mb_reading_laws.proofs.Yields.{IsYield, bytes_yield, checked_yield, repeat_yield}
 use Rattle.mb_fitting.specs.Fitting.{FitsLast, FitsTable, KeepsStates, HasBytes, HasValues, ComesOfRead}
 use Rattle.mb_fitting.proofs.Batches.{got}
 

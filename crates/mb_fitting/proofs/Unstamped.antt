@@ -5,8 +5,8 @@ use Rattle.mb_msg.specs.declared.message.Message.TheVariants as message
 use Rattle.mb_model.specs.Histories.{Entry, Accepted, Stamped, Jumped, Closed, History, Identity}
 use Rattle.mb_model.specs.Sending.{Progress}
 use Rattle.mb_model.specs.Given.{give}
-use Rattle.mb_theory.proofs.KeptByEvents.{is_plain, state_keeps}
-use Rattle.mb_theory.proofs.Walks.{KeepsGiven, give_keeps as walked}
+use Rattle.mb_host_laws.proofs.KeptByEvents.{is_plain, state_keeps}
+use Rattle.mb_host_laws.proofs.Walks.{KeepsGiven, give_keeps as walked}
 use Rattle.mb_searches.specs.Speaks.{is_stamp}
 
 pub plain_unstamped : (e : Entry) → is_plain e ≡ true → is_stamp e ≡ false

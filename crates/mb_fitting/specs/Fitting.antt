@@ -16,8 +16,8 @@ use Rattle.mb_model.specs.Histories.{Entry, Accepted, Stamped, Jumped, Served, E
 use Rattle.mb_model.specs.Held.{view_limit}
 use Rattle.mb_model.specs.OwnLog.{own_log, is_normal}
 use Rattle.mb_model.specs.UsableLogs.{normal_limit, other_limit}
-use Rattle.mb_known.proofs.FloorsReached.{IsPlaced}
-use Rattle.mb_known.proofs.Rests.{Each, Rests}
+use Rattle.mb_host_laws.specs.Placed.{IsPlaced}
+use Rattle.mb_host_laws.specs.Rests.{Each, Rests}
 
 -- ---- gates
 

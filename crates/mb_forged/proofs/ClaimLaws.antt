@@ -7,8 +7,8 @@ use Rattle.mb_parts.specs.Bares.{Bare, bare_bytes}
 use Rattle.mb_parts.specs.Claims.{Claim}
 use Rattle.mb_model.specs.Verified.{verifies}
 use Rattle.mb_schedule.specs.declared.schedule.Schedule.{Schedule}
-use Rattle.mb_theory.specs.World.{World}
-use Rattle.mb_theory.specs.WorldRecord.{issued}
+use Rattle.mb_world_model.specs.World.{World}
+use Rattle.mb_world_model.specs.WorldRecord.{issued}
 use Rattle.mb_model.specs.Inside.{sender_claim}
 use Rattle.mb_forged.specs.declared.checker.ForgedClaim.{ForgedClaim}
 use Rattle.mb_forged.specs.Checks.{told, first_forged}

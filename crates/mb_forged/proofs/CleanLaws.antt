@@ -18,10 +18,10 @@ use Rattle.mb_msg.specs.Spelling.{spelling}
 use Rattle.mb_model.specs.Verified.{verifies}
 use Rattle.mb_schedule.specs.declared.schedule.Schedule.{Schedule}
 use Rattle.mb_schedule.specs.Limits.{is_faulty, is_faulty_client}
-use Rattle.mb_theory.specs.World.{World, stamps}
-use Rattle.mb_theory.specs.WorldRecord.{issued}
+use Rattle.mb_world_model.specs.World.{World, stamps}
+use Rattle.mb_world_model.specs.WorldRecord.{issued}
 use Rattle.mb_model.specs.Inside.{claims_in, requests_in}
-use Rattle.mb_theory.specs.Forged.{is_forged_claim, forged_claim, is_forged_request, has_forged_tag, IsUnforged}
+use Rattle.mb_world_model.specs.Forged.{is_forged_claim, forged_claim, is_forged_request, has_forged_tag, IsUnforged}
 use Rattle.mb_forged.specs.Checks.{MadeMore}
 
 -- ---- tests that fewer pass

@@ -7,7 +7,7 @@ use Rattle.mb_base.specs.Spelling.{number}
 use Rattle.mb_msg.specs.declared.message.Message.{Message}
 use Rattle.mb_msg.specs.declared.message.Message.TheVariants as message
 use Rattle.mb_msg.specs.Spelling.{kind_of, spelling}
-use Rattle.mb_theory.specs.World.{is_tagged_message}
+use Rattle.mb_world_model.specs.World.{is_tagged_message}
 
 pub first_is : (m : Message) → slice_get (spelling m) 0 ≡ Some (kind_of m)
 unfolding spelling number

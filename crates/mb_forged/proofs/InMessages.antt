@@ -15,9 +15,9 @@ use Rattle.mb_msg.specs.declared.message.Message.TheVariants as message
 use Rattle.mb_msg.specs.Stamps.{as_stamped}
 use Rattle.mb_model.specs.Compared.{inside_some}
 use Rattle.mb_schedule.specs.declared.schedule.Schedule.{Schedule}
-use Rattle.mb_theory.specs.World.{World}
+use Rattle.mb_world_model.specs.World.{World}
 use Rattle.mb_model.specs.Inside.{claims_in_stamped, stamped_claims, claims_in, requests_in}
-use Rattle.mb_theory.specs.Forged.{has_forged_tag}
+use Rattle.mb_world_model.specs.Forged.{has_forged_tag}
 use Rattle.mb_forged.specs.Checks.{own_claim}
 
 pub own_behind : (s : Shape) (m : Message) → ((x : Log) → m ≡ message.Log x → ⊥) → inside_some (claims_in_stamped s) (as_stamped m) ++ own_claim m ≡ claims_in s m

@@ -17,7 +17,7 @@ use Rattle.mb_parts.specs.Counters.{at_counter}
 use Rattle.mb_parts.specs.Issued.{is_issued}
 use Rattle.mb_msg.specs.declared.message.Message.{Message}
 use Rattle.mb_msg.specs.Spelling.{spelling}
-use Rattle.mb_theory.specs.World.{update}
+use Rattle.mb_world_model.specs.World.{update}
 use Rattle.mb_forged.specs.declared.ledger.Ledger.{Ledger}
 use Rattle.mb_forged.specs.Asked.{HoldsAsked}
 use Rattle.mb_forged.specs.Ledgers.{Keeps, has_bytes}

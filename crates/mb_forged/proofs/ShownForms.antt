@@ -15,8 +15,8 @@ use Rattle.mb_msg.specs.declared.message.Body.TheVariants.{Whole}
 use Rattle.mb_msg.specs.Fits.{FitsShown, FitsStamped, shown_limit}
 use Rattle.mb_model.specs.OwnLog.{behind, behind_opening, behind_change, kept_forms, as_shown}
 use Rattle.mb_model.specs.Plans.{no_base}
-use Rattle.mb_theory.proofs.KeptForms.{opening_fits, shown_fits}
-use Rattle.mb_theory.proofs.Lists.{all_reverse}
+use Rattle.mb_host_laws.proofs.KeptForms.{opening_fits, shown_fits}
+use Rattle.mb_model.proofs.Lists.{all_reverse}
 use Rattle.mb_forged.specs.Contents.{placeholder, unstamped, change_of, is_opening, entry_of, entries_of}
 
 -- ---- one message

@@ -15,8 +15,8 @@ use Rattle.mb_parts.specs.declared.certificates.Evidence.{Evidence}
 use Rattle.mb_parts.specs.declared.certificates.EvidenceMember.{EvidenceMember}
 use Rattle.mb_parts.specs.Claims.{Claim, stable_claims, floor_claims}
 use Rattle.mb_schedule.specs.declared.schedule.Schedule.{Schedule}
-use Rattle.mb_theory.specs.World.{World}
-use Rattle.mb_theory.specs.Forged.{is_forged_claim, is_forged_request}
+use Rattle.mb_world_model.specs.World.{World}
+use Rattle.mb_world_model.specs.Forged.{is_forged_claim, is_forged_request}
 use Rattle.mb_forged.specs.declared.checker.Checker.{Checker}
 use Rattle.mb_forged.specs.declared.checker.ForgedClaim.{ForgedClaim}
 use Rattle.mb_forged.specs.Checks.{AsksIn, told, first_forged, enter_claims}

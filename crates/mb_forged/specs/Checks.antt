@@ -25,8 +25,8 @@ use Rattle.mb_forged.specs.declared.checker.Checker.{Checker}
 use Rattle.mb_forged.specs.declared.checker.ForgedClaim.{ForgedClaim}
 use Rattle.mb_forged.specs.Ledgers.{KeepsWorld}
 use Rattle.mb_schedule.specs.declared.schedule.Schedule.{Schedule}
-use Rattle.mb_theory.specs.World.{World, stamps}
-use Rattle.mb_theory.specs.Forged.{is_forged_claim}
+use Rattle.mb_world_model.specs.World.{World, stamps}
+use Rattle.mb_world_model.specs.Forged.{is_forged_claim}
 
 -- for each client, its own pen
 abbrev pub ArePens : Schedule → List Signer → Type 0

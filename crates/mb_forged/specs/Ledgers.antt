@@ -17,7 +17,7 @@ use Rattle.mb_msg.specs.Spelling.{spelling}
 use Rattle.mb_forged.specs.declared.ledger.Ledger.{Ledger}
 use Rattle.mb_forged.specs.Asked.{HoldsAsked}
 use Rattle.mb_schedule.specs.declared.schedule.Schedule.{Schedule}
-use Rattle.mb_theory.specs.World.{World, stamps}
+use Rattle.mb_world_model.specs.World.{World, stamps}
 
 -- The bytes stand in the set.
 abbrev pub has_bytes : BTreeSet (Vec ℕ Global) → Bytes → Bool

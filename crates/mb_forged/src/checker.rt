@@ -37,7 +37,7 @@ impl<'a> Checker<'a> {
     ghost use Rattle.mb_parts.specs.Bares.{Bare, bare_bytes};
     ghost use Rattle.mb_parts.specs.Fits.{FitsBare};
     ghost use Rattle.mb_schedule.specs.declared.schedule.Schedule.{Schedule};
-    ghost use Rattle.mb_theory.specs.World.{World};
+    ghost use Rattle.mb_world_model.specs.World.{World};
     ghost use Rattle.mb_forged.specs.Checks.{AsksIn, first_forged};
 
     /// A claim that verifies and is not issued. What is issued needs no verifying.

@@ -11,8 +11,8 @@ ghost use Rattle.mb_msg.specs.Stamps.{as_stamped, ui_of as uis, ui_of_shown, bar
 ghost use Rattle.mb_msg.specs.Fits.{FitsFields, FitsStamped, FitsShown, FitsCommit, FitsOpen, FitsJoin, FitsChangeBody, FitsViewChange, FitsNewViewBody, FitsLog};
 ghost use Rattle.mb_model.specs.Compared.{inside_some};
 ghost use Rattle.mb_schedule.specs.declared.schedule.Schedule.{Schedule};
-ghost use Rattle.mb_theory.specs.World.{World};
-ghost use Rattle.mb_theory.specs.Forged.{forged_claim};
+ghost use Rattle.mb_world_model.specs.World.{World};
+ghost use Rattle.mb_world_model.specs.Forged.{forged_claim};
 ghost use Rattle.mb_model.specs.Inside.{sender_claim, named_claim, open_claims, join_claims, claims_in_shown, shown_claims, change_claims, member_claims, new_view_claims, claims_in_stamped, stamped_claims, claims_in};
 ghost use Rattle.mb_msg.specs.declared.message.Message.TheVariants as kind;
 ghost use Rattle.mb_forged.specs.Checks.{AsksIn, FitsClaim, stable_claim, floor_claim, enter_claim, enter_claims, own_claim, commit_claims, first_forged, told};

@@ -9,7 +9,7 @@ ghost use Rattle.mb_msg.specs.declared.stamped.Stamped.TheVariants as stamped;
 ghost use Rattle.mb_msg.specs.AsStamped.{stamped_digest};
 ghost use Rattle.mb_msg.specs.Fits.{FitsFields, FitsStamped, shown_limit};
 ghost use Rattle.mb_model.specs.OwnLog.{behind_opening, as_shown};
-ghost use Rattle.mb_theory.specs.FaultyHosts.{prepare_with, commit_for, checkpoint_with};
+ghost use Rattle.mb_world_model.specs.FaultyHosts.{prepare_with, commit_for, checkpoint_with};
 ghost use Rattle.mb_forged.specs.Contents.{unstamped, change_of, is_opening, entry_of, entries_of};
 
 use mb_base::{Digest, Items, NoMemory, Pos, Shape, Ui, View};

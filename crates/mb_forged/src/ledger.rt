@@ -6,7 +6,7 @@ ghost use Rattle.mb_base.specs.Shapes.{host_count};
 ghost use Rattle.mb_base.specs.Spelling.{IsBytes};
 ghost use Rattle.mb_msg.specs.declared.message.Message.{Message as MessageData};
 ghost use Rattle.mb_msg.specs.Spelling.{spelling};
-ghost use Rattle.mb_theory.specs.World.{is_tagged_message};
+ghost use Rattle.mb_world_model.specs.World.{is_tagged_message};
 
 use crate::asked::Asked;
 use mb_base::{Counter, Duplicate, Host, Items, NoMemory, Shape, put_u8};
@@ -49,7 +49,7 @@ impl Ledger {
     ghost use Rattle.mb_msg.specs.Fits.{Fits};
     ghost use Rattle.mb_msg.specs.Spelling.{spelling};
     ghost use Rattle.mb_model.specs.Sending.{Letter};
-    ghost use Rattle.mb_theory.specs.World.{update, with_tagged};
+    ghost use Rattle.mb_world_model.specs.World.{update, with_tagged};
     ghost use Rattle.mb_forged.specs.Ledgers.{Keeps};
 
     /// Nothing was made.

@@ -7,8 +7,8 @@ ghost use Rattle.mb_msg.specs.declared.message.Message.TheVariants as kind;
 ghost use Rattle.mb_msg.specs.Bodies.{FitsBody, inside_whole};
 ghost use Rattle.mb_msg.specs.Fits.{Fits, FitsStamped, FitsShown, FitsOpenParts, FitsViewChange, FitsNewViewBody};
 ghost use Rattle.mb_schedule.specs.declared.schedule.Schedule.{Schedule};
-ghost use Rattle.mb_theory.specs.World.{World};
-ghost use Rattle.mb_theory.specs.Forged.{is_forged_request, is_forged_reply, is_forged_wish, has_forged_tag};
+ghost use Rattle.mb_world_model.specs.World.{World};
+ghost use Rattle.mb_world_model.specs.Forged.{is_forged_request, is_forged_reply, is_forged_wish, has_forged_tag};
 ghost use Rattle.mb_model.specs.Inside.{batch_requests, open_requests, shown_requests, change_requests, stamped_requests};
 ghost use Rattle.mb_forged.specs.Checks.{AsksIn};
 

@@ -30,13 +30,14 @@ use Rattle.mb_model.specs.Histories as entry
 use Rattle.mb_model.specs.Held.{wish_in, wish_of, change_in, arrived, changes_of, enter_of, answers, enters_for, opened_by, new_view_in, new_view_of, evidence_shown, with_news, is_news, evidence_of, plan_in_open, plan_in_new_view, plan_in, plan_held, plan_from, gives_plan, is_current}
 use Rattle.mb_model.specs.Stable.{checkpoint_in, checkpoint_by, checkpoint_of}
 use Rattle.mb_model.specs.Execution.{state_of, pending, if_above, if_fresh, parts_after}
-use Rattle.mb_model.proofs.Members.{In, in_contained}
+use Rattle.mb_model.specs.Members.{In}
+use Rattle.mb_model.proofs.Members.{in_contained}
 use Rattle.mb_model.proofs.Options.{or_some, if_some, map_some}
-use Rattle.mb_theory.specs.KeepsTables.{IsChange, IsEnter, IsCheckpoint, outdoes, is_enter_of, is_open_of, is_checkpoint_of, is_execution_of}
-use Rattle.mb_theory.specs.FindsTables.{Came, CameLast, IsNewView, AsksFor, ShowsEvidence, BringsPlan, FindsEnters, FindsSnapshots}
+use Rattle.mb_promise.specs.KeepsTables.{IsChange, IsEnter, IsCheckpoint, outdoes, is_enter_of, is_open_of, is_checkpoint_of, is_execution_of}
+use Rattle.mb_promise.specs.FindsTables.{Came, CameLast, IsNewView, AsksFor, ShowsEvidence, BringsPlan, FindsEnters, FindsSnapshots}
 use Rattle.mb_found.proofs.FoundMembers.{of_filter, of_found}
 use Rattle.mb_line.proofs.Executions.{in_parts}
-use Rattle.mb_known.proofs.Cases.{some_is, whole_is, not_le}
+use Rattle.mb_host_laws.proofs.Cases.{some_is, whole_is, not_le}
 
 -- ---- what came earlier came
 

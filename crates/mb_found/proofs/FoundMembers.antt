@@ -8,7 +8,7 @@ use Rattle.std.proofs.lemmas.List.{length-take-le}
 use Rattle.mb_base.specs.Shapes.{tally}
 use Rattle.mb_model.specs.Stable.{first_agreed}
 use Rattle.mb_model.proofs.Options.{option_cases}
-use Rattle.mb_model.proofs.Members.{In}
+use Rattle.mb_model.specs.Members.{In}
 use Rattle.mb_steps.proofs.StepPotential.{tally_same}
 
 -- counted from the first host on

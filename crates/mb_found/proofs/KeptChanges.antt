@@ -12,9 +12,10 @@ use Rattle.mb_msg.specs.declared.change.Enter.{Enter}
 use Rattle.mb_msg.specs.declared.stamped.Stamped.TheVariants as stamped
 use Rattle.mb_model.specs.Histories.{Entry, Accepted, Stamped, History, Identity, view_of}
 use Rattle.mb_model.specs.Held.{change_in, arrived, changes_of, enter_of, answers, enters_for}
-use Rattle.mb_model.proofs.Members.{In, in_left, in_right, contained}
-use Rattle.mb_theory.proofs.DueOrders.{in_range}
-use Rattle.mb_theory.specs.KeepsTables.{NoneIs, is_change_of, is_enter_of, IsEnter, KeepsChanges, KeepsOwnChanges, KeepsEnters}
+use Rattle.mb_model.specs.Members.{In}
+use Rattle.mb_model.proofs.Members.{in_left, in_right, contained}
+use Rattle.mb_each_host.proofs.DueOrders.{in_range}
+use Rattle.mb_promise.specs.KeepsTables.{NoneIs, is_change_of, is_enter_of, IsEnter, KeepsChanges, KeepsOwnChanges, KeepsEnters}
 
 -- ---- members of lists
 

@@ -12,7 +12,7 @@ use Rattle.mb_msg.specs.declared.transfer.Log.{Log}
 use Rattle.mb_msg.specs.declared.stamped.Stamped.TheVariants as stamped
 use Rattle.mb_model.specs.Histories.{Entry, Accepted, Stamped, History, Identity, view_of}
 use Rattle.mb_model.specs.Held.{opened_by, new_view_in, new_view_of, plan_in, plan_in_open, plan_held, is_plan_of, gives_plan, plan_from, evidence_of, evidence_view, is_current, is_news, with_news}
-use Rattle.mb_theory.specs.KeepsTables.{NoneIs, is_open_of, is_new_view, may_bring_plan, may_bring_evidence, IsNews, LacksPlan, KeepsOpens, KeepsNewViews, KeepsOwnNewViews, KeepsPlans, KeepsOwnPlans, KeepsPlansOfOpens, KeepsEvidence, KeepsEvidenceOfJoins, KeepsEvidenceOfLogs, KeepsOwnEvidence}
+use Rattle.mb_promise.specs.KeepsTables.{NoneIs, is_open_of, is_new_view, may_bring_plan, may_bring_evidence, IsNews, LacksPlan, KeepsOpens, KeepsNewViews, KeepsOwnNewViews, KeepsPlans, KeepsOwnPlans, KeepsPlansOfOpens, KeepsEvidence, KeepsEvidenceOfJoins, KeepsEvidenceOfLogs, KeepsOwnEvidence}
 
 module _ {S : Type 0} (self : Identity S) where
   -- ---- OPENs

@@ -11,7 +11,7 @@ use Rattle.mb_model.specs.Histories.{Accepted, Executed, Installed, DroppedParts
 use Rattle.mb_model.specs.Stable.{low_of}
 use Rattle.mb_model.specs.States.{parts_of, part_count}
 use Rattle.mb_model.specs.Execution.{state_of, part_of, part_in, part_held, missing, parts_after}
-use Rattle.mb_theory.specs.KeepsTables.{NoneIs, empties, is_execution_of, KeepsParts, KeepsSnapshots}
+use Rattle.mb_promise.specs.KeepsTables.{NoneIs, empties, is_execution_of, KeepsParts, KeepsSnapshots}
 
 found_passes : (p : ℕ → Bool) (l : List ℕ) (i : ℕ) → find p l ≡ Some i → p i ≡ true
 found_passes p [] i e = absurd cc

@@ -10,7 +10,7 @@ use Rattle.mb_msg.specs.declared.stamped.Stamped.TheVariants as stamped
 use Rattle.mb_model.specs.Histories.{Entry, Accepted, Stamped, Served, Installed, LostPatience, History, Identity, view_of}
 use Rattle.mb_model.specs.Execution.{pending}
 use Rattle.mb_model.specs.Held.{wish_of}
-use Rattle.mb_theory.specs.KeepsTables.{NoneIs, outdoes, StaysFresh, KeepsRequests, IsChange, KeepsWishes, KeepsWishesOfChanges, KeepsOwnWishes}
+use Rattle.mb_promise.specs.KeepsTables.{NoneIs, outdoes, StaysFresh, KeepsRequests, IsChange, KeepsWishes, KeepsWishesOfChanges, KeepsOwnWishes}
 
 module _ {S : Type 0} (self : Identity S) where
   -- ---- requests

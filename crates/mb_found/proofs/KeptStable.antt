@@ -16,7 +16,7 @@ use Rattle.mb_model.proofs.Options.{option_cases}
 use Rattle.mb_steps.proofs.StepPotential.{tally_same, further_both}
 use Rattle.mb_views.proofs.PlanMoments.{low_grows}
 use Rattle.mb_found.proofs.FoundMembers.{passes, as_many, some_in, filter_more, agreement}
-use Rattle.mb_theory.specs.KeepsTables.{NoneIs, is_checkpoint_of, IsCheckpoint, names_state, KeepsCheckpoints, RaisesByCheckpoints, RaisesByJoins, RaisesByLogs}
+use Rattle.mb_promise.specs.KeepsTables.{NoneIs, is_checkpoint_of, IsCheckpoint, names_state, KeepsCheckpoints, RaisesByCheckpoints, RaisesByJoins, RaisesByLogs}
 
 -- ---- where f+1 CHECKPOINTs name one state, they make a certificate
 

@@ -1,6 +1,6 @@
 -- What came to a host is found in what it holds: all of it.
 use Rattle.mb_model.specs.Histories.{History, Identity}
-use Rattle.mb_theory.specs.KeepsTables.{KeepsTables}
+use Rattle.mb_promise.specs.KeepsTables.{KeepsTables}
 use Rattle.mb_views.proofs.PlanMoments.{base_below}
 use Rattle.mb_found.proofs.KeptRequests.{keeps_requests, keeps_wishes, keeps_wishes_of_changes, keeps_own_wishes}
 use Rattle.mb_found.proofs.KeptParts.{keeps_parts, keeps_snapshots}

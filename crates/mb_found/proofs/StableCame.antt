@@ -14,13 +14,13 @@ use Rattle.mb_msg.specs.declared.stamped.Stamped.TheVariants as stamped
 use Rattle.mb_model.specs.Histories.{Entry, Accepted, Stamped, History, Identity}
 use Rattle.mb_model.specs.Held.{plan_in, plan_held}
 use Rattle.mb_model.specs.Stable.{checkpoint_of, first_agreed, checkpoints_at, same_state, stable_cert, agreed_at, agreed_above, plan_base, further, learnt_in, stable_of}
-use Rattle.mb_model.proofs.Members.{In}
+use Rattle.mb_model.specs.Members.{In}
 use Rattle.mb_model.proofs.Options.{or_some, if_some}
 use Rattle.mb_steps.proofs.StepPotential.{tally_same}
-use Rattle.mb_theory.specs.KeepsTables.{names_state}
-use Rattle.mb_theory.specs.FindsTables.{Came, BringsPlan, ShowsStable, FindsStable}
-use Rattle.mb_known.proofs.Cases.{some_is}
-use Rattle.mb_known.proofs.HeldStable.{agreed_shape}
+use Rattle.mb_promise.specs.KeepsTables.{names_state}
+use Rattle.mb_promise.specs.FindsTables.{Came, BringsPlan, ShowsStable, FindsStable}
+use Rattle.mb_host_laws.proofs.Cases.{some_is}
+use Rattle.mb_host_laws.proofs.HeldStable.{agreed_shape}
 use Rattle.mb_found.proofs.FoundMembers.{passes, as_many, filter_more, of_filter, of_take}
 use Rattle.mb_found.proofs.KeptStable.{names, agreed_place}
 use Rattle.mb_found.proofs.WhatCame.{and_then_at}

@@ -2,9 +2,9 @@
 use Rattle.mb_model.specs.Histories.{History, Identity}
 use Rattle.mb_model.specs.Held.{wish_of, changes_of}
 use Rattle.mb_model.proofs.Members.{in_contained}
-use Rattle.mb_theory.specs.FindsTables.{FindsTables}
-use Rattle.mb_theory.specs.World.{System, self_of}
-use Rattle.mb_theory.specs.WorldSteps.{world}
+use Rattle.mb_promise.specs.FindsTables.{FindsTables}
+use Rattle.mb_world_model.specs.World.{System, self_of}
+use Rattle.mb_world_model.specs.WorldSteps.{world}
 use Rattle.mb_found.proofs.EntriesCame.{requests_came, wishes_came, changes_came, finds_enters, opens_came, new_views_came, evidence_came, plans_came, checkpoints_came, snapshots_came}
 use Rattle.mb_found.proofs.StableCame.{finds_stable}
 use Rattle.std.proofs.Common.{ℕ, refl}

@@ -13,13 +13,13 @@ use Rattle.mb_model.specs.Histories.{Entry, Accepted, Stamped, History, Identity
 use Rattle.mb_model.specs.Held.{change_in, arrived, changes_of, new_view_in, new_view_of, evidence_shown, evidence_view, with_news, is_news, is_current, evidence_of, plan_in, plan_in_new_view, plan_in_open, gives_plan, plan_held}
 use Rattle.mb_model.proofs.Members.{in_left, in_right, contained, in_contained}
 use Rattle.mb_model.proofs.Options.{if_some, option_cases}
-use Rattle.mb_theory.specs.KeepsTables.{IsChange}
-use Rattle.mb_theory.specs.FindsTables.{IsNewView, ShowsEvidence, BringsPlan}
-use Rattle.mb_theory.specs.ReplacesTables.{IsInTime, IsInTimeAndAbove, ReplacesTables}
-use Rattle.mb_theory.specs.World.{System, self_of}
-use Rattle.mb_theory.specs.WorldSteps.{world}
-use Rattle.mb_known.proofs.Cases.{some_is}
-use Rattle.mb_known.proofs.Found.{gives_current}
+use Rattle.mb_promise.specs.KeepsTables.{IsChange}
+use Rattle.mb_promise.specs.FindsTables.{IsNewView, ShowsEvidence, BringsPlan}
+use Rattle.mb_promise.specs.ReplacesTables.{IsInTime, IsInTimeAndAbove, ReplacesTables}
+use Rattle.mb_world_model.specs.World.{System, self_of}
+use Rattle.mb_world_model.specs.WorldSteps.{world}
+use Rattle.mb_host_laws.proofs.Cases.{some_is}
+use Rattle.mb_host_laws.proofs.Found.{gives_current}
 use Rattle.mb_found.proofs.EntriesCame.{change_said, new_view_said, plan_said, shown_said}
 use Rattle.mb_found.proofs.KeptChanges.{in_filter}
 

@@ -28,14 +28,14 @@ use Rattle.mb_model.specs.Stable.{low_of}
 use Rattle.mb_model.specs.Positions.{batch_from, slot_of_prepare, slot_of_plan, slot_of_open, slot_by, slot_vote, vote_with, vote_by, counts_opens, open_vote, open_vote_by, in_window, counts_at, slot_in, vote_of}
 use Rattle.mb_model.specs.Execution.{part_of, part_in}
 use Rattle.mb_model.proofs.Options.{or_some, if_some, map_some}
-use Rattle.mb_theory.specs.World.{System, self_of}
-use Rattle.mb_theory.specs.WorldSteps.{world}
-use Rattle.mb_theory.specs.NothingLeft.{IsInWindow}
-use Rattle.mb_theory.specs.KeepsTables.{empties}
-use Rattle.mb_theory.specs.OwnStamps.{carried_slot, carried_vote}
-use Rattle.mb_theory.specs.WhatCame.{IsSlotOf, Carries, SaysSlot, IsVoteAt, SaysVote, IsOpenVote, SlotCame, VoteCame, PartCame, FindsWhatCame}
-use Rattle.mb_theory.proofs.Words.{window_says}
-use Rattle.mb_known.proofs.Cases.{some_is, whole_is}
+use Rattle.mb_world_model.specs.World.{System, self_of}
+use Rattle.mb_world_model.specs.WorldSteps.{world}
+use Rattle.mb_promise.specs.NothingLeft.{IsInWindow}
+use Rattle.mb_promise.specs.KeepsTables.{empties}
+use Rattle.mb_promise.specs.OwnStamps.{carried_slot, carried_vote}
+use Rattle.mb_promise.specs.WhatCame.{IsSlotOf, Carries, SaysSlot, IsVoteAt, SaysVote, IsOpenVote, SlotCame, VoteCame, PartCame, FindsWhatCame}
+use Rattle.mb_each_host.proofs.Words.{window_says}
+use Rattle.mb_host_laws.proofs.Cases.{some_is, whole_is}
 
 -- ---- one entry
 

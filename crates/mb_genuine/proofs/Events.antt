@@ -22,12 +22,12 @@ use Rattle.mb_schedule.specs.declared.schedule.WorldEvent.{WorldEvent}
 use Rattle.mb_schedule.specs.declared.schedule.WorldEvent.TheVariants.{Ask, Give, Take, Raw, Patience, Nudge, Sign, TagReply, TagWish, StampPrepare, StampCommit, StampCheckpoint, StampChange, StampAs, StampRaw}
 use Rattle.mb_schedule.specs.Limits.{is_faulty, is_faulty_client, EventFits}
 use Rattle.mb_model.specs.Inside.{claims_in, requests_in}
-use Rattle.mb_theory.specs.World.{World, System, FaultyStamp, self_of, update, numbered, read, made, request_of, client_reads, heard, give_client, give_host, signal, with_tagged}
-use Rattle.mb_theory.specs.WorldEvents.{IsCorrect}
-use Rattle.mb_theory.specs.WorldSteps.{where_faulty, with_message, happens}
-use Rattle.mb_theory.specs.FaultyHosts.{reply_of_host, wish_of_host, prepare_with, checkpoint_with, stamp_some, stamp_content, content, misfit, batch_from, prepare_of}
-use Rattle.mb_known.proofs.Grown.{Grows}
-use Rattle.mb_known.proofs.Cases.{some_is}
+use Rattle.mb_world_model.specs.World.{World, System, FaultyStamp, self_of, update, numbered, read, made, request_of, client_reads, heard, give_client, give_host, signal, with_tagged}
+use Rattle.mb_world_model.specs.WorldEvents.{IsCorrect}
+use Rattle.mb_world_model.specs.WorldSteps.{where_faulty, with_message, happens}
+use Rattle.mb_world_model.specs.FaultyHosts.{reply_of_host, wish_of_host, prepare_with, checkpoint_with, stamp_some, stamp_content, content, misfit, batch_from, prepare_of}
+use Rattle.mb_world_laws.proofs.Grown.{Grows}
+use Rattle.mb_host_laws.proofs.Cases.{some_is}
 use Rattle.mb_genuine.specs.NoneForged.{IsInner}
 use Rattle.mb_genuine.proofs.Ready.{read_is}
 use Rattle.mb_genuine.proofs.ReadAgain.{request_again, read_fields}

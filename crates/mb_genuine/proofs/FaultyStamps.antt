@@ -31,18 +31,18 @@ use Rattle.mb_msg.specs.Stamps.{as_stamped, as_message, bare_of, ui_of, with_ui}
 use Rattle.mb_msg.proofs.Injective.{bare_fits}
 use Rattle.mb_msg.proofs.Messages.{as_message_fits}
 use Rattle.mb_model.specs.Batches.{batch_bytes_limit, has_place}
-use Rattle.mb_model.proofs.Members.{In}
+use Rattle.mb_model.specs.Members.{In}
 use Rattle.mb_steps.proofs.StepPlanBases.{all_append}
 use Rattle.mb_steps.proofs.StepRounds.{ui_under, bare_under}
 use Rattle.mb_schedule.specs.declared.schedule.Schedule.{Schedule}
 use Rattle.mb_schedule.specs.Limits.{is_faulty}
 use Rattle.mb_model.specs.Inside.{sender_claim, claims_in_stamped, stamped_claims, stamped_requests, requests_in}
-use Rattle.mb_theory.specs.World.{World, FaultyStamp, numbered, read, message_at, stamps}
-use Rattle.mb_theory.specs.WorldRecord.{issued}
-use Rattle.mb_theory.specs.FaultyHosts.{request_in, prepare_with, checkpoint_with, faulty_ui, bare_bytes_of, stamp_content, content, request_at, misfit, batch_from}
-use Rattle.mb_known.proofs.Cases.{all_left, all_more, some_is, then_some_of}
-use Rattle.mb_known.proofs.Grown.{Grows, issued_grows}
-use Rattle.mb_known.proofs.ReadFits.{read_fits}
+use Rattle.mb_world_model.specs.World.{World, FaultyStamp, numbered, read, message_at, stamps}
+use Rattle.mb_world_model.specs.WorldRecord.{issued}
+use Rattle.mb_world_model.specs.FaultyHosts.{request_in, prepare_with, checkpoint_with, faulty_ui, bare_bytes_of, stamp_content, content, request_at, misfit, batch_from}
+use Rattle.mb_host_laws.proofs.Cases.{all_left, all_more, some_is, then_some_of}
+use Rattle.mb_world_laws.proofs.Grown.{Grows, issued_grows}
+use Rattle.mb_reading_laws.proofs.ReadFits.{read_fits}
 use Rattle.mb_genuine.proofs.Forms.{OfStamped, from_message, as_whole}
 use Rattle.mb_genuine.proofs.ReadAgain.{read_fields}
 use Rattle.mb_genuine.proofs.Ready.{read_is}

@@ -14,8 +14,8 @@ use Rattle.mb_msg.specs.Stamps.{as_message, bare_of, ui_of}
 use Rattle.mb_model.specs.OwnLog.{behind_opening, behind_change, kept_forms, as_shown, first_packed}
 use Rattle.mb_steps.proofs.StepPlanBases.{all_append}
 use Rattle.mb_model.specs.Inside.{sender_claim, open_body_claims, open_claims, claims_in_stamped, shown_claims, stamped_claims, claims_in, shown_requests, stamped_requests, requests_in}
-use Rattle.mb_theory.proofs.KeptForms.{forms_keep, first_keep}
-use Rattle.mb_known.proofs.Cases.{all_left, all_right}
+use Rattle.mb_host_laws.proofs.KeptForms.{forms_keep, first_keep}
+use Rattle.mb_host_laws.proofs.Cases.{all_left, all_right}
 
 module _ (s : Shape) (P : Claim → Type 0) (Q : Request → Type 0) where
   -- All certificates have the one property, and all requests the other.

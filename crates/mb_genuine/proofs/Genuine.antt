@@ -14,15 +14,16 @@ use Rattle.mb_msg.specs.declared.stamped.Stamped.TheVariants as stamped
 use Rattle.mb_msg.specs.Spelling.{spelling}
 use Rattle.mb_msg.specs.Stamps.{as_message}
 use Rattle.mb_model.specs.Verified.{verifies, is_rightly_tagged}
-use Rattle.mb_model.proofs.Members.{In, any_in}
+use Rattle.mb_model.specs.Members.{In}
+use Rattle.mb_model.proofs.Members.{any_in}
 use Rattle.mb_schedule.specs.declared.schedule.Schedule.{Schedule}
 use Rattle.mb_schedule.specs.Limits.{is_faulty, is_faulty_client}
 use Rattle.mb_model.specs.Inside.{claims_in, requests_in}
-use Rattle.mb_theory.specs.World.{World}
-use Rattle.mb_theory.specs.WorldRecord.{issued}
-use Rattle.mb_theory.specs.Forged.{is_forged_claim, forged_claim, was_asked, is_forged_request, was_tagged, has_forged_tag}
-use Rattle.mb_known.proofs.Cases.{all_more}
-use Rattle.mb_known.proofs.Grown.{Grows, WasAsked, issued_grows}
+use Rattle.mb_world_model.specs.World.{World}
+use Rattle.mb_world_model.specs.WorldRecord.{issued}
+use Rattle.mb_world_model.specs.Forged.{is_forged_claim, forged_claim, was_asked, is_forged_request, was_tagged, has_forged_tag}
+use Rattle.mb_host_laws.proofs.Cases.{all_more}
+use Rattle.mb_world_laws.proofs.Grown.{Grows, WasAsked, issued_grows}
 use Rattle.mb_genuine.proofs.Forms.{OfMessage}
 
 pub any_of : {A : Type 0} (t : A → Bool) (l : List A) (x : A) → In l x → t x ≡ true → list_any t l ≡ true

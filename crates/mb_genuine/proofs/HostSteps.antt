@@ -20,19 +20,20 @@ use Rattle.mb_model.specs.Histories.{Accepted, Stamped, Jumped, Closed, Served, 
 use Rattle.mb_model.specs.HostStep.{transition}
 use Rattle.mb_model.specs.Making.{log_for}
 use Rattle.mb_model.specs.Sending.{Letter}
-use Rattle.mb_model.proofs.Members.{In, all_in}
+use Rattle.mb_model.specs.Members.{In}
+use Rattle.mb_model.proofs.Members.{all_in}
 use Rattle.mb_schedule.specs.declared.schedule.Schedule.{Schedule}
 use Rattle.mb_model.specs.Inside.{claims_in, requests_in}
-use Rattle.mb_theory.specs.World.{World, System, self_of, read, with_tagged, is_tagged_message}
-use Rattle.mb_theory.specs.WorldEvents.{IsCorrect}
-use Rattle.mb_theory.specs.Forged.{was_tagged}
-use Rattle.mb_known.proofs.AllKnown.{all_known}
-use Rattle.mb_known.proofs.Cases.{each_in}
-use Rattle.mb_known.proofs.Grown.{Grows, IsGivenTo, IsHashed, HasStrings, RestsIn}
-use Rattle.mb_known.proofs.Knows.{accepted_issued}
-use Rattle.mb_known.proofs.OwnKnown.{Known}
-use Rattle.mb_known.proofs.Parts.{part_requests}
-use Rattle.mb_known.proofs.Rests.{Each, Rests}
+use Rattle.mb_world_model.specs.World.{World, System, self_of, read, with_tagged, is_tagged_message}
+use Rattle.mb_world_model.specs.WorldEvents.{IsCorrect}
+use Rattle.mb_world_model.specs.Forged.{was_tagged}
+use Rattle.mb_world_laws.proofs.AllKnown.{all_known}
+use Rattle.mb_host_laws.proofs.Cases.{each_in}
+use Rattle.mb_world_laws.proofs.Grown.{Grows, IsGivenTo, IsHashed, HasStrings, RestsIn}
+use Rattle.mb_world_laws.proofs.Knows.{accepted_issued}
+use Rattle.mb_host_laws.proofs.OwnKnown.{Known}
+use Rattle.mb_host_laws.proofs.Parts.{part_requests}
+use Rattle.mb_host_laws.specs.Rests.{Each, Rests}
 use Rattle.mb_fitting.proofs.Letters.{stamps_sent, log_sent}
 use Rattle.mb_genuine.proofs.Forms.{OfMessage, OfStamped, as_whole}
 use Rattle.mb_genuine.proofs.Searches.{AllCarried}

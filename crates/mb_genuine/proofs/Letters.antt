@@ -14,10 +14,10 @@ use Rattle.mb_model.specs.Making.{log_for}
 use Rattle.mb_model.specs.CarriedOut.{serve_all, slot_for}
 use Rattle.mb_model.specs.Given.{stored_reply}
 use Rattle.mb_model.specs.HostStep.{transition}
-use Rattle.mb_model.proofs.Members.{In}
+use Rattle.mb_model.specs.Members.{In}
 use Rattle.mb_steps.proofs.StepPlanBases.{all_append}
-use Rattle.mb_known.proofs.Cases.{all_more}
-use Rattle.mb_theory.proofs.Walks.{is_plain, KeepsMoves, serves_keep, events_by, event_keeps}
+use Rattle.mb_host_laws.proofs.Cases.{all_more}
+use Rattle.mb_host_laws.proofs.Walks.{is_plain, KeepsMoves, serves_keep, events_by, event_keeps}
 
 -- It is plain, or a reply.
 abbrev pub is_bare : Message → Bool

@@ -8,14 +8,15 @@ use Rattle.mb_msg.specs.Spelling.{spelling}
 use Rattle.mb_model.specs.Sending.{Letter}
 use Rattle.mb_model.specs.HostStep.{transition}
 use Rattle.mb_model.proofs.ShapesFit.{shape_fits}
-use Rattle.mb_model.proofs.Members.{In, in_contained}
+use Rattle.mb_model.specs.Members.{In}
+use Rattle.mb_model.proofs.Members.{in_contained}
 use Rattle.mb_schedule.specs.declared.schedule.WorldEvent.{WorldEvent}
 use Rattle.mb_schedule.specs.Limits.{IsSchedule}
-use Rattle.mb_theory.specs.World.{World, System, self_of, read}
-use Rattle.mb_theory.specs.WorldSteps.{happens, world}
-use Rattle.mb_theory.specs.Stops.{IsUnstopped}
-use Rattle.mb_known.proofs.Grown.{Grows}
-use Rattle.mb_known.proofs.Standings.{before_last, passage}
+use Rattle.mb_world_model.specs.World.{World, System, self_of, read}
+use Rattle.mb_world_model.specs.WorldSteps.{happens, world}
+use Rattle.mb_world_model.specs.Stops.{IsUnstopped}
+use Rattle.mb_world_laws.proofs.Grown.{Grows}
+use Rattle.mb_world_laws.proofs.Standings.{before_last, passage}
 use Rattle.mb_genuine.specs.NoneForged.{AreInner, NoneIsForged}
 use Rattle.mb_genuine.proofs.Ready.{IsReady, ready}
 use Rattle.mb_genuine.proofs.Genuine.{IsGenuine, genuine_grows, no_claim_forged, no_tag_forged}

@@ -10,11 +10,11 @@ use Rattle.mb_msg.specs.declared.message.Message.{Message}
 use Rattle.mb_msg.specs.declared.message.Message.TheVariants as message
 use Rattle.mb_schedule.specs.declared.schedule.WorldEvent.{WorldEvent}
 use Rattle.mb_schedule.specs.declared.schedule.WorldEvent.TheVariants.{Ask, Give, Take, Raw, Patience, Nudge, Sign, TagReply, TagWish, StampPrepare, StampCommit, StampCheckpoint, StampChange, StampAs, StampRaw}
-use Rattle.mb_theory.specs.World.{World, System, nothing_happened}
-use Rattle.mb_theory.specs.WorldSteps.{happens, after, world}
-use Rattle.mb_theory.specs.Forged.{forged_claim, has_forged_tag}
-use Rattle.mb_theory.specs.Stops.{WorldStop, Forged, ForgedTag, event_number, delivered_message, name_stop, missing_stop, kind_stop, stop_of, IsUnstopped}
-use Rattle.mb_known.proofs.Standings.{before_last}
+use Rattle.mb_world_model.specs.World.{World, System, nothing_happened}
+use Rattle.mb_world_model.specs.WorldSteps.{happens, after, world}
+use Rattle.mb_world_model.specs.Forged.{forged_claim, has_forged_tag}
+use Rattle.mb_world_model.specs.Stops.{WorldStop, Forged, ForgedTag, event_number, delivered_message, name_stop, missing_stop, kind_stop, stop_of, IsUnstopped}
+use Rattle.mb_world_laws.proofs.Standings.{before_last}
 use Rattle.mb_make.specs.Soaks.{with_events}
 use Rattle.mb_genuine.specs.Reached.{IsReached}
 use Rattle.mb_genuine.proofs.SameWorlds.{misfit_same, happens_same, world_same, at_front, at_end}

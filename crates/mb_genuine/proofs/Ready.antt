@@ -14,17 +14,17 @@ use Rattle.mb_model.proofs.ShapesFit.{shape_fits}
 use Rattle.mb_steps.proofs.OwnListsOrdered.{own_lists}
 use Rattle.mb_steps.specs.Arises.{Arises, IsWhole}
 use Rattle.mb_steps.proofs.StepEventsArise.{after_arises}
-use Rattle.mb_theory.specs.WorldEvents.{IsCorrect}
-use Rattle.mb_theory.specs.World.{World, System, self_of}
+use Rattle.mb_world_model.specs.WorldEvents.{IsCorrect}
+use Rattle.mb_world_model.specs.World.{World, System, self_of}
 use Rattle.mb_model.specs.Inside.{if_read}
-use Rattle.mb_theory.specs.WorldSteps.{world}
-use Rattle.mb_theory.specs.Stops.{IsUnstopped}
-use Rattle.mb_known.proofs.Cases.{some_is}
-use Rattle.mb_known.proofs.FactsOf.{left_in}
-use Rattle.mb_known.proofs.Grown.{IsGivenTo}
-use Rattle.mb_known.proofs.ReadFits.{read_fits}
-use Rattle.mb_known.proofs.Standings.{Standing, standing}
-use Rattle.mb_known.proofs.Unspent.{unspent_in}
+use Rattle.mb_world_model.specs.WorldSteps.{world}
+use Rattle.mb_world_model.specs.Stops.{IsUnstopped}
+use Rattle.mb_host_laws.proofs.Cases.{some_is}
+use Rattle.mb_world_laws.proofs.FactsOf.{left_in}
+use Rattle.mb_world_laws.proofs.Grown.{IsGivenTo}
+use Rattle.mb_reading_laws.proofs.ReadFits.{read_fits}
+use Rattle.mb_world_laws.proofs.Standings.{Standing, standing}
+use Rattle.mb_world_laws.proofs.Unspent.{unspent_in}
 use Rattle.mb_searches.specs.Sound.{IsSound}
 use Rattle.mb_searches.proofs.Sound.{begins_sound}
 use Rattle.mb_searches.proofs.SoundRules.{transition_sound}

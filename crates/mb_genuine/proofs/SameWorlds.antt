@@ -10,9 +10,9 @@ use Rattle.mb_model.specs.Batches.{has_place}
 use Rattle.mb_schedule.specs.declared.schedule.Name.TheVariants as name
 use Rattle.mb_schedule.specs.declared.schedule.WorldEvent.{WorldEvent}
 use Rattle.mb_schedule.specs.declared.schedule.WorldEvent.TheVariants.{Ask, Give, Take, Raw, Patience, Nudge, Sign, TagReply, TagWish, StampPrepare, StampCommit, StampCheckpoint, StampChange, StampAs, StampRaw}
-use Rattle.mb_theory.specs.World.{World, System, numbered, give_client, give_host, signal}
-use Rattle.mb_theory.specs.WorldSteps.{with_message, happens, after, world}
-use Rattle.mb_theory.specs.FaultyHosts.{request_at, misfit}
+use Rattle.mb_world_model.specs.World.{World, System, numbered, give_client, give_host, signal}
+use Rattle.mb_world_model.specs.WorldSteps.{with_message, happens, after, world}
+use Rattle.mb_world_model.specs.FaultyHosts.{request_at, misfit}
 use Rattle.mb_make.specs.Draws.{Generator, draw}
 use Rattle.mb_make.specs.Soaks.{with_events, generator_after, event_drawn, events_drawn}
 

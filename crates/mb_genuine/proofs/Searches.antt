@@ -40,10 +40,10 @@ use Rattle.mb_model.proofs.Options.{or_some, if_some, map_some}
 use Rattle.mb_steps.proofs.StepOwnSteady.{found_slot}
 use Rattle.mb_steps.proofs.StepPlanBases.{all_append, all_filter, all_found, all_any}
 use Rattle.mb_model.specs.Inside.{batch_requests, open_requests, shown_requests, change_requests, stamped_requests, requests_in}
-use Rattle.mb_known.proofs.Cases.{all_left, all_right, all_taken, some_is, then_some_of, whole_is}
-use Rattle.mb_known.proofs.Found.{above_is, all_newest}
-use Rattle.mb_known.proofs.PlanShows.{ShowsSound, plan_holds}
-use Rattle.mb_known.proofs.Rests.{Each}
+use Rattle.mb_host_laws.proofs.Cases.{all_left, all_right, all_taken, some_is, then_some_of, whole_is}
+use Rattle.mb_host_laws.proofs.Found.{above_is, all_newest}
+use Rattle.mb_host_laws.proofs.PlanShows.{ShowsSound, plan_holds}
+use Rattle.mb_host_laws.specs.Rests.{Each}
 use Rattle.mb_fitting.proofs.Batches.{got}
 use Rattle.mb_genuine.proofs.Forms.{OfMessage, OfStamped, from_message}
 

@@ -5,18 +5,19 @@ use Rattle.mb_msg.specs.declared.message.Message.{Message}
 use Rattle.mb_msg.specs.Spelling.{spelling}
 use Rattle.mb_model.specs.HostStep.{transition}
 use Rattle.mb_model.specs.Sending.{Letter}
-use Rattle.mb_model.proofs.Members.{In, in_contained}
+use Rattle.mb_model.specs.Members.{In}
+use Rattle.mb_model.proofs.Members.{in_contained}
 use Rattle.mb_schedule.specs.declared.schedule.Schedule.{Schedule}
 use Rattle.mb_schedule.specs.declared.schedule.WorldEvent.{WorldEvent}
-use Rattle.mb_theory.specs.World.{World, System, self_of, read}
-use Rattle.mb_theory.specs.WorldEvents.{IsCorrect}
-use Rattle.mb_theory.specs.WorldSteps.{happens, world}
-use Rattle.mb_theory.specs.EventsStep.{arrival, MakesStep}
-use Rattle.mb_theory.proofs.StepsMade.{happens_so}
-use Rattle.mb_theory.specs.Stops.{stop_of}
-use Rattle.mb_theory.specs.Forged.{IsUnforged}
-use Rattle.mb_known.proofs.Grown.{Grows}
-use Rattle.mb_known.proofs.Standings.{before_last, passage}
+use Rattle.mb_world_model.specs.World.{World, System, self_of, read}
+use Rattle.mb_world_model.specs.WorldEvents.{IsCorrect}
+use Rattle.mb_world_model.specs.WorldSteps.{happens, world}
+use Rattle.mb_world_model.specs.EventsStep.{arrival, MakesStep}
+use Rattle.mb_world_laws.proofs.StepsMade.{happens_so}
+use Rattle.mb_world_model.specs.Stops.{stop_of}
+use Rattle.mb_world_model.specs.Forged.{IsUnforged}
+use Rattle.mb_world_laws.proofs.Grown.{Grows}
+use Rattle.mb_world_laws.proofs.Standings.{before_last, passage}
 use Rattle.mb_make.specs.Soaks.{with_events}
 use Rattle.mb_genuine.specs.Reached.{IsReached}
 use Rattle.mb_genuine.specs.SentUnforged.{SentIsUnforged}

@@ -24,20 +24,21 @@ use Rattle.mb_msg.proofs.Messages.{message_again}
 use Rattle.mb_msg.proofs.Sizes.{request_short, small_request}
 use Rattle.mb_model.specs.Batches.{batch_bytes_limit, has_place}
 use Rattle.mb_model.proofs.ShapesFit.{shape_fits}
-use Rattle.mb_model.proofs.Members.{In, contained}
+use Rattle.mb_model.specs.Members.{In}
+use Rattle.mb_model.proofs.Members.{contained}
 use Rattle.mb_schedule.specs.declared.schedule.Schedule.{Schedule}
 use Rattle.mb_schedule.specs.declared.schedule.WorldEvent.{WorldEvent}
 use Rattle.mb_schedule.specs.declared.schedule.WorldEvent.TheVariants.{Give, Take, Patience, Nudge, StampPrepare}
 use Rattle.mb_schedule.specs.Limits.{max_text}
 use Rattle.mb_schedule.specs.Limits.{is_faulty, is_faulty_client, EventFits, IsSchedule}
-use Rattle.mb_theory.specs.World.{World, System, numbered, read, message_at, nothing_happened, request_of}
+use Rattle.mb_world_model.specs.World.{World, System, numbered, read, message_at, nothing_happened, request_of}
 use Rattle.mb_model.specs.Inside.{if_read}
-use Rattle.mb_theory.specs.WorldSteps.{happens, after, world}
-use Rattle.mb_theory.specs.FaultyHosts.{misfit}
-use Rattle.mb_theory.specs.Forged.{forged_claim, has_forged_tag, IsUnforged}
-use Rattle.mb_theory.specs.Stops.{Forged, ForgedTag, stop_of, event_number, to_correct, IsUnstopped}
-use Rattle.mb_known.proofs.Cases.{some_is, then_some_of}
-use Rattle.mb_known.proofs.ReadFits.{read_fits}
+use Rattle.mb_world_model.specs.WorldSteps.{happens, after, world}
+use Rattle.mb_world_model.specs.FaultyHosts.{misfit}
+use Rattle.mb_world_model.specs.Forged.{forged_claim, has_forged_tag, IsUnforged}
+use Rattle.mb_world_model.specs.Stops.{Forged, ForgedTag, stop_of, event_number, to_correct, IsUnstopped}
+use Rattle.mb_host_laws.proofs.Cases.{some_is, then_some_of}
+use Rattle.mb_reading_laws.proofs.ReadFits.{read_fits}
 use Rattle.mb_make.specs.Draws.{Generator, stepped, detail, put, ask, draw}
 use Rattle.mb_make.specs.Soaks.{to_host_or_client, played, generator_after, event_drawn, soak, IsSoaked}
 use Rattle.mb_genuine.specs.NoneForged.{IsInner, AreInner}

@@ -43,14 +43,14 @@ use Rattle.mb_steps.specs.Arises.{Arises, Makes}
 use Rattle.mb_steps.proofs.StepHeldEvidence.{announce_seen}
 use Rattle.mb_steps.proofs.StepPlanBases.{all_append}
 use Rattle.mb_model.specs.Inside.{open_body_claims, change_claims, member_claims, new_view_claims, shown_claims, stamped_claims, claims_in, batch_requests, open_requests, shown_requests, change_requests, stamped_requests, requests_in}
-use Rattle.mb_known.proofs.Cases.{all_flat, all_reverse, all_taken}
-use Rattle.mb_known.proofs.Found.{opened_plan, commit_shape}
-use Rattle.mb_known.proofs.HeldFloors.{floor_good}
-use Rattle.mb_known.proofs.HeldStable.{stable_good}
-use Rattle.mb_known.proofs.HeldViews.{evidence_good}
-use Rattle.mb_known.proofs.OwnKnown.{GoodStable, KnownStamp, Known}
-use Rattle.mb_known.proofs.PlanFits.{OfBody}
-use Rattle.mb_known.proofs.Rests.{Each}
+use Rattle.mb_host_laws.proofs.Cases.{all_flat, all_reverse, all_taken}
+use Rattle.mb_host_laws.proofs.Found.{opened_plan, commit_shape}
+use Rattle.mb_host_laws.proofs.HeldFloors.{floor_good}
+use Rattle.mb_host_laws.proofs.HeldStable.{stable_good}
+use Rattle.mb_host_laws.proofs.HeldViews.{evidence_good}
+use Rattle.mb_host_laws.proofs.OwnKnown.{GoodStable, KnownStamp, Known}
+use Rattle.mb_host_laws.proofs.PlanFits.{OfBody}
+use Rattle.mb_host_laws.specs.Rests.{Each}
 use Rattle.mb_genuine.proofs.Forms.{OfMessage, OfStamped, OfShown, all_kept, all_shown, all_packed}
 use Rattle.mb_genuine.proofs.Searches.{OfBatch, OfMember, AllCarried, slot_carried, next_batch_carried, chosen_carried, plan_at_carried}
 

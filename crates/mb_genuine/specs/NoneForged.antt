@@ -6,10 +6,10 @@ use Rattle.mb_schedule.specs.declared.schedule.WorldEvent.{WorldEvent}
 use Rattle.mb_schedule.specs.declared.schedule.WorldEvent.TheVariants.{Raw, StampCommit, StampChange, StampRaw}
 use Rattle.mb_schedule.specs.declared.schedule.Schedule.{Schedule}
 use Rattle.mb_schedule.specs.Limits.{IsSchedule}
-use Rattle.mb_theory.specs.World.{System, read}
-use Rattle.mb_theory.specs.WorldSteps.{world}
-use Rattle.mb_theory.specs.Forged.{IsUnforged}
-use Rattle.mb_theory.specs.Stops.{IsUnstopped}
+use Rattle.mb_world_model.specs.World.{System, read}
+use Rattle.mb_world_model.specs.WorldSteps.{world}
+use Rattle.mb_world_model.specs.Forged.{IsUnforged}
+use Rattle.mb_world_model.specs.Stops.{IsUnstopped}
 
 -- It is asked, delivered or signalled, or a faulty host or client makes a message of its own: a request, a reply, a wish; or it stamps a PREPARE of requests
 -- that are there, a CHECKPOINT, or the content of a message that was made. Raw bytes may be anything; the COMMIT of another's PREPARE names a certificate of

@@ -6,12 +6,12 @@ use Rattle.mb_msg.specs.Spelling.{spelling}
 use Rattle.mb_model.specs.HostStep.{transition}
 use Rattle.mb_model.specs.Sending.{Letter}
 use Rattle.mb_schedule.specs.declared.schedule.WorldEvent.{WorldEvent}
-use Rattle.mb_theory.specs.World.{World, System, self_of, read}
-use Rattle.mb_theory.specs.WorldEvents.{IsCorrect}
-use Rattle.mb_theory.specs.WorldSteps.{happens}
-use Rattle.mb_theory.specs.EventsStep.{arrival}
-use Rattle.mb_theory.specs.Stops.{stop_of}
-use Rattle.mb_theory.specs.Forged.{IsUnforged}
+use Rattle.mb_world_model.specs.World.{World, System, self_of, read}
+use Rattle.mb_world_model.specs.WorldEvents.{IsCorrect}
+use Rattle.mb_world_model.specs.WorldSteps.{happens}
+use Rattle.mb_world_model.specs.EventsStep.{arrival}
+use Rattle.mb_world_model.specs.Stops.{stop_of}
+use Rattle.mb_world_model.specs.Forged.{IsUnforged}
 use Rattle.mb_genuine.specs.Reached.{IsReached}
 
 -- In a world that is reached let an event come to a correct host, and let nothing stop it. Then in whatever is read of a message that the host sends in its

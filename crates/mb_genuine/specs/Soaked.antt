@@ -2,9 +2,9 @@
 use Rattle.std.specs.Prelude.{◌≡◌, ℕ, ◌≤◌, ◌<◌, length, Some, slice_get}
 use Rattle.mb_schedule.specs.Limits.{max_text}
 use Rattle.mb_schedule.specs.Limits.{IsSchedule}
-use Rattle.mb_theory.specs.World.{System}
-use Rattle.mb_theory.specs.WorldSteps.{world}
-use Rattle.mb_theory.specs.Stops.{IsUnstopped}
+use Rattle.mb_world_model.specs.World.{System}
+use Rattle.mb_world_model.specs.WorldSteps.{world}
+use Rattle.mb_world_model.specs.Stops.{IsUnstopped}
 use Rattle.mb_make.specs.Soaks.{event_drawn, soak, IsSoaked}
 
 module _ {S : Type 0} (system : System S) (seed n : ℕ) where

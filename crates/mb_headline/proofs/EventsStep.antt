@@ -12,11 +12,11 @@ use Rattle.mb_schedule.specs.declared.schedule.Name.TheVariants as name
 use Rattle.mb_schedule.specs.declared.schedule.WorldEvent.{WorldEvent}
 use Rattle.mb_schedule.specs.declared.schedule.WorldEvent.TheVariants.{Ask, Give, Take, Raw, Patience, Nudge, Sign, TagReply, TagWish, StampPrepare, StampCommit, StampCheckpoint, StampChange, StampAs, StampRaw}
 use Rattle.mb_schedule.specs.Limits.{is_faulty, is_faulty_client}
-use Rattle.mb_theory.specs.World.{numbered, World, System, steps, give_host, signal, made, request_of}
-use Rattle.mb_theory.specs.FaultyHosts.{stamp_content, stamp_bytes, content, prepare_of, commit_for, checkpoint_with, change_after, reply_of_host, wish_of_host}
-use Rattle.mb_theory.specs.WorldSteps.{where_faulty, with_message, happens}
-use Rattle.mb_theory.specs.EventsStep.{arrival, EventsStep}
-use Rattle.mb_theory.proofs.StepsMade.{happens_so}
+use Rattle.mb_world_model.specs.World.{numbered, World, System, steps, give_host, signal, made, request_of}
+use Rattle.mb_world_model.specs.FaultyHosts.{stamp_content, stamp_bytes, content, prepare_of, commit_for, checkpoint_with, change_after, reply_of_host, wish_of_host}
+use Rattle.mb_world_model.specs.WorldSteps.{where_faulty, with_message, happens}
+use Rattle.mb_world_model.specs.EventsStep.{arrival, EventsStep}
+use Rattle.mb_world_laws.proofs.StepsMade.{happens_so}
 use Rattle.mb_line.proofs.Moves.{client_same, taken_same, stamp_same}
 
 module _ {S : Type 0} (system : System S) where

@@ -4,10 +4,10 @@ use Rattle.mb_base.specs.Shapes.{Bytes}
 use Rattle.mb_parts.specs.declared.batch.Batch.{Batch}
 use Rattle.mb_model.specs.Histories.{History}
 use Rattle.mb_schedule.specs.declared.schedule.WorldEvent.{WorldEvent}
-use Rattle.mb_theory.specs.World.{World, System, self_of}
-use Rattle.mb_theory.specs.NothingLeft.{HasExecuted, Executes}
-use Rattle.mb_theory.specs.AllDue.{LeavesNothing}
-use Rattle.mb_theory.specs.ExecutesAtOnce.{Brings, ExecutesBehind, ExecutesAtOnce}
+use Rattle.mb_world_model.specs.World.{World, System, self_of}
+use Rattle.mb_promise.specs.NothingLeft.{HasExecuted, Executes}
+use Rattle.mb_promise.specs.AllDue.{LeavesNothing}
+use Rattle.mb_promise.specs.ExecutesAtOnce.{Brings, ExecutesBehind, ExecutesAtOnce}
 use Rattle.mb_headline.proofs.EventsStep.{events_step}
 
 module _ {S : Type 0} (system : System S) (w : World) where

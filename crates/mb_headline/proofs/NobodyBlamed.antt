@@ -47,12 +47,12 @@ use Rattle.mb_model.specs.Given.{Answer, answer_unless, closing, jump, floor_sho
 use Rattle.mb_model.specs.Positions.{is_behind}
 use Rattle.mb_model.specs.HostStep.{low_rose, with_fetch, finished_where, on_bytes, transition}
 use Rattle.mb_model.proofs.Options.{option_cases, map_some}
-use Rattle.mb_theory.specs.WorldEvents.{IsCorrect}
-use Rattle.mb_theory.specs.World.{World, Seen, OfHost, System, self_of}
-use Rattle.mb_theory.specs.Bounds.{IsBlameless}
-use Rattle.mb_theory.specs.EventsStep.{MakesStep}
-use Rattle.mb_theory.specs.NoEventBlames.{stamps_in, is_blame, NoEventBlames}
-use Rattle.mb_theory.proofs.KeptByEvents.{execution_keeps}
+use Rattle.mb_world_model.specs.WorldEvents.{IsCorrect}
+use Rattle.mb_world_model.specs.World.{World, Seen, OfHost, System, self_of}
+use Rattle.mb_promise.specs.Bounds.{IsBlameless}
+use Rattle.mb_world_model.specs.EventsStep.{MakesStep}
+use Rattle.mb_promise.specs.NoEventBlames.{stamps_in, is_blame, NoEventBlames}
+use Rattle.mb_host_laws.proofs.KeptByEvents.{execution_keeps}
 use Rattle.mb_headline.proofs.EventsStep.{events_step}
 
 -- ---- refusals that are no blame

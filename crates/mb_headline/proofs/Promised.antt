@@ -1,10 +1,10 @@
 -- All promises hold of each world that nothing stopped, while no two of its hashed strings share a digest.
-use Rattle.mb_theory.specs.World.{self_of}
-use Rattle.mb_theory.specs.WorldSteps.{world}
-use Rattle.mb_theory.specs.AllDue.{HostsLeaveNothing}
-use Rattle.mb_theory.specs.CarriedOut.{HasCarriedOut}
-use Rattle.mb_theory.specs.Headline.{HostsStayOne}
-use Rattle.mb_theory.proofs.CarriedOut.{hosts_carry_out}
+use Rattle.mb_world_model.specs.World.{self_of}
+use Rattle.mb_world_model.specs.WorldSteps.{world}
+use Rattle.mb_promise.specs.AllDue.{HostsLeaveNothing}
+use Rattle.mb_promise.specs.CarriedOut.{HasCarriedOut}
+use Rattle.mb_promise.specs.Headline.{HostsStayOne}
+use Rattle.mb_each_host.proofs.CarriedOut.{hosts_carry_out}
 use Rattle.mb_views.proofs.InWorlds.{worlds_agree}
 use Rattle.mb_line.specs.Worlds.{HasOneList}
 use Rattle.mb_line.proofs.InWorlds.{worlds_have_one_list}

@@ -1,13 +1,13 @@
 -- What is promised of the events of a schedule, each promise by itself.
 use Rattle.std.specs.Prelude.{ℕ, ◌≤◌, length}
 use Rattle.mb_schedule.specs.Limits.{IsSchedule}
-use Rattle.mb_theory.specs.Hashed.{HashesApart}
-use Rattle.mb_theory.specs.World.{System}
-use Rattle.mb_theory.specs.WorldSteps.{world}
-use Rattle.mb_theory.specs.Stops.{IsUnstopped}
-use Rattle.mb_theory.specs.EventsStep.{EventsStep}
-use Rattle.mb_theory.specs.ExecutesAtOnce.{ExecutesAtOnce}
-use Rattle.mb_theory.specs.NoEventBlames.{NoEventBlames}
+use Rattle.mb_world_model.specs.Hashed.{HashesApart}
+use Rattle.mb_world_model.specs.World.{System}
+use Rattle.mb_world_model.specs.WorldSteps.{world}
+use Rattle.mb_world_model.specs.Stops.{IsUnstopped}
+use Rattle.mb_world_model.specs.EventsStep.{EventsStep}
+use Rattle.mb_promise.specs.ExecutesAtOnce.{ExecutesAtOnce}
+use Rattle.mb_promise.specs.NoEventBlames.{NoEventBlames}
 
 -- In each world, whoever is faulty and whatever is forged, each event that may be next is a step of the correct host to which it comes.
 abbrev pub EventsAreSteps : Type 0 → Type 0

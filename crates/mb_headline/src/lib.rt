@@ -1,8 +1,8 @@
 //! The promise about all hosts, whole: they stay one, whoever is faulty. It holds no code.
 #![tactic(auto)]
 
-ghost use Rattle.mb_theory.specs.Headline.{HostsStayOne};
-ghost use Rattle.mb_theory.specs.AllDue.{HostsLeaveNothing};
+ghost use Rattle.mb_promise.specs.Headline.{HostsStayOne};
+ghost use Rattle.mb_promise.specs.AllDue.{HostsLeaveNothing};
 ghost use Rattle.mb_headline.specs.Worlds.{EventsAreSteps, VotesExecuteAtOnce, NoEventIsBlame};
 
 /// After any events no correct host has left anything undone that is due, whoever else is faulty and whatever is forged: it has ordered, committed,

@@ -10,10 +10,10 @@ use Rattle.mb_parts.specs.declared.certificates.FloorCert.{FloorCert}
 use Rattle.mb_msg.specs.declared.normal.Checkpoint.{Checkpoint}
 use Rattle.mb_model.specs.Histories.{History, Identity}
 use Rattle.mb_model.specs.Stable.{first_agreed, KeptFloor, floor_in_body, kept_floor, checkpoints_at, same_state, stable_cert, agreed_at, same_kept, floor_cert, kept_floors, floor_at}
-use Rattle.mb_model.proofs.Members.{In}
+use Rattle.mb_model.specs.Members.{In}
 use Rattle.mb_model.proofs.Options.{map_some, option_cases}
 use Rattle.mb_steps.proofs.StepHeldEvidence.{then_some_of}
-use Rattle.mb_known.proofs.Cases.{not_both}
+use Rattle.mb_host_laws.proofs.Cases.{not_both}
 use Rattle.mb_msg.specs.Bodies.{whole_body}
 
 -- where so many agree with a member, some are the first that agree

@@ -1,12 +1,12 @@
 -- Logs of correct hosts keep their limits, and correct hosts are never blamed, after each event.
 use Rattle.std.proofs.Common.{ℕ}
-use Rattle.mb_theory.specs.WorldEvents.{IsCorrect}
-use Rattle.mb_theory.specs.World.{System}
-use Rattle.mb_theory.specs.WorldSteps.{world}
-use Rattle.mb_theory.specs.Bounds.{AreBounded, IsBlameless}
-use Rattle.mb_theory.proofs.LogLimits.{hosts_keep_limits}
-use Rattle.mb_known.proofs.Rests.{Each}
-use Rattle.mb_known.proofs.Facts.{Facts}
+use Rattle.mb_world_model.specs.WorldEvents.{IsCorrect}
+use Rattle.mb_world_model.specs.World.{System}
+use Rattle.mb_world_model.specs.WorldSteps.{world}
+use Rattle.mb_promise.specs.Bounds.{AreBounded, IsBlameless}
+use Rattle.mb_each_host.proofs.LogLimits.{hosts_keep_limits}
+use Rattle.mb_host_laws.specs.Rests.{Each}
+use Rattle.mb_world_laws.proofs.Facts.{Facts}
 use Rattle.mb_views.proofs.Prefixes.{sound_list}
 use Rattle.mb_views.proofs.Follows.{JumpsLed}
 use Rattle.mb_justified.proofs.NeverClosed.{never_closed}

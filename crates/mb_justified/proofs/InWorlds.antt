@@ -1,13 +1,13 @@
 -- Executions are justified, limits are kept and nobody correct is blamed, in each world that nothing stopped.
 use Rattle.std.proofs.Common.{ℕ}
-use Rattle.mb_theory.specs.Hashed.{HashesApart}
-use Rattle.mb_theory.specs.WorldEvents.{IsCorrect}
-use Rattle.mb_theory.specs.World.{World}
-use Rattle.mb_theory.specs.WorldSteps.{world}
-use Rattle.mb_theory.specs.Stops.{IsUnstopped}
-use Rattle.mb_known.proofs.Rests.{Each}
-use Rattle.mb_known.proofs.Facts.{Facts}
-use Rattle.mb_known.proofs.FactsOf.{facts_in}
+use Rattle.mb_world_model.specs.Hashed.{HashesApart}
+use Rattle.mb_world_model.specs.WorldEvents.{IsCorrect}
+use Rattle.mb_world_model.specs.World.{World}
+use Rattle.mb_world_model.specs.WorldSteps.{world}
+use Rattle.mb_world_model.specs.Stops.{IsUnstopped}
+use Rattle.mb_host_laws.specs.Rests.{Each}
+use Rattle.mb_world_laws.proofs.Facts.{Facts}
+use Rattle.mb_world_laws.proofs.FactsOf.{facts_in}
 use Rattle.mb_views.proofs.Follows.{JumpsLed}
 use Rattle.mb_views.proofs.Jumps.{jumps_led}
 use Rattle.mb_views.proofs.Agreed.{consistent}

@@ -1,11 +1,11 @@
 -- All that correct hosts executed and installed is justified by what they stamped and what they were given.
 use Rattle.std.proofs.Common.{ℕ}
-use Rattle.mb_theory.specs.WorldEvents.{IsCorrect}
-use Rattle.mb_theory.specs.World.{World, System}
-use Rattle.mb_theory.specs.WorldRecord.{IsConsistent}
-use Rattle.mb_theory.specs.Justification.{IsJustified}
-use Rattle.mb_known.proofs.Rests.{Each}
-use Rattle.mb_known.proofs.Facts.{Facts}
+use Rattle.mb_world_model.specs.WorldEvents.{IsCorrect}
+use Rattle.mb_world_model.specs.World.{World, System}
+use Rattle.mb_world_model.specs.WorldRecord.{IsConsistent}
+use Rattle.mb_promise.specs.Justification.{IsJustified}
+use Rattle.mb_host_laws.specs.Rests.{Each}
+use Rattle.mb_world_laws.proofs.Facts.{Facts}
 use Rattle.mb_views.proofs.Follows.{JumpsLed}
 use Rattle.mb_justified.proofs.JustifiedSlots.{executed_justified}
 use Rattle.mb_justified.proofs.JustifiedStates.{installed_justified}

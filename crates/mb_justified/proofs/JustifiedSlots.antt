@@ -23,25 +23,25 @@ use Rattle.mb_agreement.proofs.Stays.{is_vote_is}
 use Rattle.mb_steps.proofs.StepOwnFloor.{open_from}
 use Rattle.mb_steps.proofs.StepOwnList.{stands_here}
 use Rattle.mb_steps.proofs.StepOwnStamped.{steady}
-use Rattle.mb_theory.specs.WorldEvents.{IsCorrect}
-use Rattle.mb_theory.specs.World.{World, System, self_of}
-use Rattle.mb_theory.specs.WorldRecord.{issued, plans, prefix, IsConsistent}
-use Rattle.mb_theory.specs.Justification.{IsVoteGiven, IsVoted, IsJustifiedSlot}
-use Rattle.mb_known.proofs.Rests.{Each}
-use Rattle.mb_known.proofs.Facts.{Facts}
+use Rattle.mb_world_model.specs.WorldEvents.{IsCorrect}
+use Rattle.mb_world_model.specs.World.{World, System, self_of}
+use Rattle.mb_world_model.specs.WorldRecord.{issued, plans, prefix, IsConsistent}
+use Rattle.mb_promise.specs.Justification.{IsVoteGiven, IsVoted, IsJustifiedSlot}
+use Rattle.mb_host_laws.specs.Rests.{Each}
+use Rattle.mb_world_laws.proofs.Facts.{Facts}
 use Rattle.mb_views.proofs.Prefixes.{prefix_said}
 use Rattle.mb_views.proofs.Follows.{JumpsLed}
 use Rattle.mb_line.proofs.CountedVotes.{IsVoteIn, counted_vote}
 use Rattle.mb_line.proofs.OneVote.{stands_voted}
 use Rattle.mb_views.proofs.AcceptedIn.{passes_as}
-use Rattle.mb_known.proofs.Moments.{IsPast, past_tail, each_at, past_numbered, arises_by, past_past}
+use Rattle.mb_host_laws.proofs.Moments.{IsPast, past_tail, each_at, past_numbered, arises_by, past_past}
 use Rattle.mb_justified.proofs.FirstHosts.{FirstHosts, first_hosts}
 use Rattle.mb_views.proofs.GateGiven.{IsGateGiven, gate_given, takes_given}
 use Rattle.mb_justified.proofs.VoterGiven.{IsVoter, other_vote}
 use Rattle.mb_justified.proofs.SlotBatches.{slot_sound}
 use Rattle.mb_parts.specs.declared.batch.Batch.{Batch}
 use Rattle.mb_model.specs.Service.{batch_of}
-use Rattle.mb_known.proofs.Executing.{IsExecution}
+use Rattle.mb_host_laws.proofs.Executing.{IsExecution}
 use Rattle.mb_line.proofs.Executions.{executed_so}
 
 module _ {S : Type 0} (system : System S) (w : World) (f : Facts system w) (jumps : (h : ℕ) → IsCorrect system.schedule h → Each (JumpsLed system w f) (w.histories h))

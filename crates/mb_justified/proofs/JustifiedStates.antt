@@ -16,19 +16,20 @@ use Rattle.mb_model.specs.Verified.{verifies}
 use Rattle.mb_model.specs.States.{state_digest}
 use Rattle.mb_model.specs.Histories.{Installed, History, Identity}
 use Rattle.mb_model.specs.Stable.{stable_of}
-use Rattle.mb_model.proofs.Members.{In, in_contained}
+use Rattle.mb_model.specs.Members.{In}
+use Rattle.mb_model.proofs.Members.{in_contained}
 use Rattle.mb_steps.specs.Arises.{Arises}
 use Rattle.mb_steps.proofs.StepHeldStable.{stable_checks}
 use Rattle.mb_model.specs.Inside.{claims_in}
-use Rattle.mb_theory.specs.WorldEvents.{IsCorrect}
-use Rattle.mb_theory.specs.World.{World, System, self_of}
-use Rattle.mb_theory.specs.Justification.{IsKnown, IsJustifiedState}
-use Rattle.mb_known.proofs.Cases.{all_holds}
-use Rattle.mb_known.proofs.Facts.{Facts}
-use Rattle.mb_known.proofs.Grown.{IsGivenTo}
+use Rattle.mb_world_model.specs.WorldEvents.{IsCorrect}
+use Rattle.mb_world_model.specs.World.{World, System, self_of}
+use Rattle.mb_promise.specs.Justification.{IsKnown, IsJustifiedState}
+use Rattle.mb_host_laws.proofs.Cases.{all_holds}
+use Rattle.mb_world_laws.proofs.Facts.{Facts}
+use Rattle.mb_world_laws.proofs.Grown.{IsGivenTo}
 use Rattle.mb_views.proofs.EvidenceHost.{issued_host}
 use Rattle.mb_line.proofs.Executions.{in_past}
-use Rattle.mb_known.proofs.Moments.{IsPast, past_tail, arises_by}
+use Rattle.mb_host_laws.proofs.Moments.{IsPast, past_tail, arises_by}
 use Rattle.mb_line.proofs.StateDigests.{IsCertified, certified}
 use Rattle.mb_views.proofs.KnownMembers.{all_known}
 

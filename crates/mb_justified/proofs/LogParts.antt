@@ -27,15 +27,15 @@ use Rattle.mb_model.specs.Stable.{log_floor, floor_counter}
 use Rattle.mb_model.specs.OwnLog.{own_log, log_start}
 use Rattle.mb_model.proofs.Options.{if_some}
 use Rattle.mb_steps.proofs.StepPotential.{start_bounded}
-use Rattle.mb_theory.specs.WorldEvents.{IsCorrect}
-use Rattle.mb_theory.specs.World.{World, System, self_of}
-use Rattle.mb_theory.specs.WorldRecord.{issued}
-use Rattle.mb_known.proofs.Cases.{some_has, map_append}
-use Rattle.mb_known.proofs.Rests.{Each}
-use Rattle.mb_known.proofs.Facts.{Facts, IsKnownBody}
+use Rattle.mb_world_model.specs.WorldEvents.{IsCorrect}
+use Rattle.mb_world_model.specs.World.{World, System, self_of}
+use Rattle.mb_world_model.specs.WorldRecord.{issued}
+use Rattle.mb_host_laws.proofs.Cases.{some_has, map_append}
+use Rattle.mb_host_laws.specs.Rests.{Each}
+use Rattle.mb_world_laws.proofs.Facts.{Facts, IsKnownBody}
 use Rattle.mb_views.proofs.Prefixes.{prefix_said}
 use Rattle.mb_views.proofs.Follows.{IsLed, JumpsLed}
-use Rattle.mb_known.proofs.Moments.{IsPast, past_said}
+use Rattle.mb_host_laws.proofs.Moments.{IsPast, past_said}
 use Rattle.mb_views.proofs.Certified.{certified_led}
 use Rattle.mb_justified.proofs.NeverClosed.{same_end}
 use Rattle.mb_justified.proofs.NoneAgreed.{IsLowFloor, low_floor}

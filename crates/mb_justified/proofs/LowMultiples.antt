@@ -23,13 +23,13 @@ use Rattle.mb_msg.specs.declared.message.Body.TheVariants.{Whole}
 use Rattle.mb_model.proofs.Options.{or_some, if_some}
 use Rattle.mb_steps.specs.Arises.{Adds, JustExecuted}
 use Rattle.mb_steps.proofs.StepHeldEvidence.{some_is, then_some_of}
-use Rattle.mb_theory.specs.WorldEvents.{IsCorrect}
-use Rattle.mb_theory.specs.World.{World, System, self_of}
-use Rattle.mb_known.proofs.Cases.{some_or}
-use Rattle.mb_known.proofs.Facts.{Facts}
-use Rattle.mb_known.proofs.Moments.{IsPast, past_tail, each_at}
-use Rattle.mb_known.proofs.Parts.{accepted_fits}
-use Rattle.mb_known.proofs.Executing.{IsExecution}
+use Rattle.mb_world_model.specs.WorldEvents.{IsCorrect}
+use Rattle.mb_world_model.specs.World.{World, System, self_of}
+use Rattle.mb_host_laws.proofs.Cases.{some_or}
+use Rattle.mb_world_laws.proofs.Facts.{Facts}
+use Rattle.mb_host_laws.proofs.Moments.{IsPast, past_tail, each_at}
+use Rattle.mb_world_laws.proofs.AcceptedParts.{accepted_fits}
+use Rattle.mb_host_laws.proofs.Executing.{IsExecution}
 use Rattle.mb_line.proofs.Executions.{executed_so}
 use Rattle.mb_views.proofs.PlanMoments.{low_grows}
 use Rattle.mb_views.proofs.HeldSound.{held_sound}

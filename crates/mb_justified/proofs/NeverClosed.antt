@@ -22,18 +22,18 @@ use Rattle.mb_model.specs.Histories.{Closed, History, origin, taken_of, gate, cl
 use Rattle.mb_model.specs.GateChecks.{stamp_claim}
 use Rattle.mb_steps.specs.OwnLists.{AreNumbered}
 use Rattle.mb_steps.proofs.StepOwnStamped.{steady}
-use Rattle.mb_theory.specs.WorldEvents.{IsCorrect}
-use Rattle.mb_theory.specs.World.{World, System, self_of}
-use Rattle.mb_theory.specs.WorldRecord.{issued}
-use Rattle.mb_known.proofs.Cases.{not_both, some_is}
-use Rattle.mb_known.proofs.Rests.{Each, IsConvicting, IsPart}
-use Rattle.mb_known.proofs.Grown.{IsGivenTo}
-use Rattle.mb_known.proofs.Knows.{own_claim_in, part_claims}
-use Rattle.mb_known.proofs.Facts.{Facts}
+use Rattle.mb_world_model.specs.WorldEvents.{IsCorrect}
+use Rattle.mb_world_model.specs.World.{World, System, self_of}
+use Rattle.mb_world_model.specs.WorldRecord.{issued}
+use Rattle.mb_host_laws.proofs.Cases.{not_both, some_is}
+use Rattle.mb_host_laws.specs.Rests.{Each, IsConvicting, IsPart}
+use Rattle.mb_world_laws.proofs.Grown.{IsGivenTo}
+use Rattle.mb_host_laws.proofs.PartClaims.{own_claim_in, part_claims}
+use Rattle.mb_world_laws.proofs.Facts.{Facts}
 use Rattle.mb_views.proofs.Prefixes.{prefix_said}
 use Rattle.mb_views.proofs.Follows.{IsFollowing, JumpsLed, follows}
 use Rattle.mb_views.proofs.CorrectOne.{issued_said}
-use Rattle.mb_known.proofs.Moments.{IsPast, each_at, past_tail, past_said, past_numbered}
+use Rattle.mb_host_laws.proofs.Moments.{IsPast, each_at, past_tail, past_said, past_numbered}
 use Rattle.mb_views.proofs.Floors.{arises_then}
 
 -- ---- lists that end alike

@@ -23,12 +23,12 @@ use Rattle.mb_model.proofs.Options.{or_some, option_cases}
 use Rattle.mb_steps.specs.Arises.{Arises, Adds}
 use Rattle.mb_steps.proofs.StepHeldEvidence.{some_is}
 use Rattle.mb_steps.proofs.StepPotential.{further_both, grown_low}
-use Rattle.mb_theory.specs.WorldEvents.{IsCorrect}
-use Rattle.mb_theory.specs.World.{World, System, self_of}
-use Rattle.mb_known.proofs.Facts.{Facts}
-use Rattle.mb_known.proofs.Moments.{IsPast, past_tail, arises_by, past_past}
+use Rattle.mb_world_model.specs.WorldEvents.{IsCorrect}
+use Rattle.mb_world_model.specs.World.{World, System, self_of}
+use Rattle.mb_world_laws.proofs.Facts.{Facts}
+use Rattle.mb_host_laws.proofs.Moments.{IsPast, past_tail, arises_by, past_past}
 use Rattle.mb_views.proofs.PlanMoments.{low_since}
-use Rattle.mb_theory.proofs.FloorCerts.{floor_certifies}
+use Rattle.mb_host_laws.proofs.FloorCerts.{floor_certifies}
 use Rattle.mb_justified.proofs.LowMultiples.{IsPlaced, placed, next_multiple, low_multiple, agreed_place}
 use Rattle.mb_justified.proofs.AgreedFloors.{agreed_if_floor}
 

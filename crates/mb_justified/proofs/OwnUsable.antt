@@ -34,20 +34,21 @@ use Rattle.mb_steps.specs.OwnLists.{AreNumbered}
 use Rattle.mb_model.specs.Sending.{next_ui}
 use Rattle.mb_model.specs.Making.{view_change}
 use Rattle.mb_model.specs.EnabledRules.{ChangeView, change_enabled, target}
-use Rattle.mb_model.proofs.Members.{In, in_contained}
+use Rattle.mb_model.specs.Members.{In}
+use Rattle.mb_model.proofs.Members.{in_contained}
 use Rattle.mb_model.proofs.Options.{if_some}
 use Rattle.mb_steps.proofs.StepHeldStable.{stable_checks}
 use Rattle.mb_steps.proofs.StepOwnList.{stands_here}
 use Rattle.mb_steps.proofs.StepOwnStamped.{steady}
 use Rattle.mb_steps.proofs.StepPotential.{not_above}
-use Rattle.mb_theory.proofs.LogLimits.{InLimits}
-use Rattle.mb_theory.specs.WorldEvents.{IsCorrect}
-use Rattle.mb_theory.specs.World.{World, System, self_of}
-use Rattle.mb_known.proofs.Cases.{same_whole, not_le, map_append}
-use Rattle.mb_known.proofs.Rests.{Each}
-use Rattle.mb_known.proofs.Facts.{Facts, IsKnownBody}
+use Rattle.mb_each_host.proofs.LogLimits.{InLimits}
+use Rattle.mb_world_model.specs.WorldEvents.{IsCorrect}
+use Rattle.mb_world_model.specs.World.{World, System, self_of}
+use Rattle.mb_host_laws.proofs.Cases.{same_whole, not_le, map_append}
+use Rattle.mb_host_laws.specs.Rests.{Each}
+use Rattle.mb_world_laws.proofs.Facts.{Facts, IsKnownBody}
 use Rattle.mb_views.proofs.Follows.{JumpsLed}
-use Rattle.mb_known.proofs.Moments.{IsPast, past_tail, past_numbered, WasStamped, was_stamped, entry_stamped}
+use Rattle.mb_host_laws.proofs.Moments.{IsPast, past_tail, past_numbered, WasStamped, was_stamped, entry_stamped}
 use Rattle.mb_views.proofs.ShownLists.{newest_again}
 use Rattle.mb_justified.proofs.ShownForms.{shown_forms, kept_shown, first_shown, forms_bare, forms_length}
 use Rattle.mb_justified.proofs.UsableEntries.{AreOwnEntries, no_entry_fault}

@@ -23,17 +23,18 @@ use Rattle.mb_model.specs.UsableLogs.{height}
 use Rattle.mb_model.specs.OwnLog.{as_shown}
 use Rattle.mb_model.specs.Histories.{Stamped, History, Identity, said, stamped as all_stamped}
 use Rattle.mb_model.specs.Stable.{low_of}
-use Rattle.mb_model.proofs.Members.{In, all_in, in_map}
+use Rattle.mb_model.specs.Members.{In}
+use Rattle.mb_model.proofs.Members.{all_in, in_map}
 use Rattle.mb_model.proofs.Options.{or_some, map_some, if_some}
 use Rattle.mb_steps.specs.Arises.{Arises, Makes}
-use Rattle.mb_theory.specs.WorldEvents.{IsCorrect}
-use Rattle.mb_theory.specs.World.{World, System, self_of}
-use Rattle.mb_theory.specs.WorldRecord.{plans}
-use Rattle.mb_known.proofs.Cases.{slice_bound, some_is}
-use Rattle.mb_known.proofs.Facts.{Facts}
+use Rattle.mb_world_model.specs.WorldEvents.{IsCorrect}
+use Rattle.mb_world_model.specs.World.{World, System, self_of}
+use Rattle.mb_world_model.specs.WorldRecord.{plans}
+use Rattle.mb_host_laws.proofs.Cases.{slice_bound, some_is}
+use Rattle.mb_world_laws.proofs.Facts.{Facts}
 use Rattle.mb_views.proofs.Planned.{plans_known}
 use Rattle.mb_views.proofs.KnownPlans.{stable_base}
-use Rattle.mb_known.proofs.Moments.{IsPast, past_tail, each_at, arises_by, stamped_by}
+use Rattle.mb_host_laws.proofs.Moments.{IsPast, past_tail, each_at, arises_by, stamped_by}
 use Rattle.mb_views.proofs.PlanMoments.{low_since}
 use Rattle.mb_views.proofs.HeldSound.{held_sound}
 use Rattle.mb_views.proofs.OwnSeen.{SeenOpen, seen_open, own_height}

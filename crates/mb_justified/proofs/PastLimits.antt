@@ -5,11 +5,11 @@ use Rattle.mb_msg.specs.declared.message.Message.TheVariants as message
 use Rattle.mb_msg.specs.declared.stamped.Stamped.{Stamped as StampedMessage}
 use Rattle.mb_model.specs.Histories.{Entry, Accepted, Stamped, Served, Executed, History, Identity}
 use Rattle.mb_model.specs.OwnLog.{is_normal, has_room}
-use Rattle.mb_theory.specs.World.{System, self_of}
-use Rattle.mb_theory.specs.WorldSteps.{world}
-use Rattle.mb_theory.proofs.LogLimits.{stamped_same, state_same, executed_same, InLimits, begins_in_limits, same_limits, normal_limits, change_limits}
-use Rattle.mb_theory.proofs.KeptByEvents.{is_plain, IsKept, event_keeps, execution_keeps, state_keeps}
-use Rattle.mb_theory.proofs.KeptByWorlds.{world_keeps}
+use Rattle.mb_world_model.specs.World.{System, self_of}
+use Rattle.mb_world_model.specs.WorldSteps.{world}
+use Rattle.mb_each_host.proofs.LogLimits.{stamped_same, state_same, executed_same, InLimits, begins_in_limits, same_limits, normal_limits, change_limits}
+use Rattle.mb_host_laws.proofs.KeptByEvents.{is_plain, IsKept, event_keeps, execution_keeps, state_keeps}
+use Rattle.mb_world_laws.proofs.KeptByWorlds.{world_keeps}
 
 module _ {S : Type 0} (self : Identity S) where
   -- at all moments of a history but its beginning

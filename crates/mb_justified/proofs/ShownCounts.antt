@@ -7,7 +7,7 @@ use Rattle.mb_msg.specs.declared.stamped.Stamped.{Stamped as StampedMessage}
 use Rattle.mb_msg.specs.declared.stamped.Stamped.TheVariants as stamped
 use Rattle.mb_model.specs.UsableLogs.{is_normal_kind}
 use Rattle.mb_model.specs.OwnLog.{is_normal, as_shown}
-use Rattle.mb_known.proofs.Cases.{map_append}
+use Rattle.mb_host_laws.proofs.Cases.{map_append}
 use Rattle.mb_justified.proofs.ShownForms.{shorten_where, opens, shown_forms}
 
 pub mapped_reverse : {A B : Type 0} (g : A → B) (l : List A) → map g (reverse l) ≡ reverse (map g l)

@@ -29,21 +29,21 @@ use Rattle.mb_model.proofs.Options.{or_some, map_some, if_some}
 use Rattle.mb_steps.specs.Arises.{Arises}
 use Rattle.mb_steps.proofs.StepOwnList.{own_passed}
 use Rattle.mb_steps.proofs.StepOwnStamped.{steady}
-use Rattle.mb_theory.specs.WorldEvents.{IsCorrect}
-use Rattle.mb_theory.specs.World.{World, System, self_of}
-use Rattle.mb_known.proofs.Cases.{not_false, some_is}
-use Rattle.mb_known.proofs.Found.{above_is}
-use Rattle.mb_known.proofs.Facts.{Facts}
-use Rattle.mb_known.proofs.Moments.{IsPast, past_tail, arises_by}
+use Rattle.mb_world_model.specs.WorldEvents.{IsCorrect}
+use Rattle.mb_world_model.specs.World.{World, System, self_of}
+use Rattle.mb_host_laws.proofs.Cases.{not_false, some_is}
+use Rattle.mb_host_laws.proofs.Found.{above_is}
+use Rattle.mb_world_laws.proofs.Facts.{Facts}
+use Rattle.mb_host_laws.proofs.Moments.{IsPast, past_tail, arises_by}
 use Rattle.mb_views.proofs.SoundPlans.{AreTagged}
 use Rattle.mb_views.proofs.HeldSound.{held_sound}
 use Rattle.mb_views.proofs.OwnSeen.{SeenPrepare, seen_prepare, SeenOpen, seen_open}
 use Rattle.mb_parts.specs.declared.batch.Batch.{Batch}
 use Rattle.mb_model.specs.Batches.{first_batch}
 use Rattle.mb_model.specs.Verified.{is_rightly_tagged}
-use Rattle.mb_known.proofs.FirstBatches.{first_all}
+use Rattle.mb_host_laws.proofs.FirstBatches.{first_all}
 use Rattle.mb_line.proofs.ExecutedSound.{fresh_is}
-use Rattle.mb_theory.proofs.Lists.{all_at}
+use Rattle.mb_model.proofs.Lists.{all_at}
 
 module _ {S : Type 0} (self : Identity S) where
   abbrev IsTaggedRequest : Request → Type 0

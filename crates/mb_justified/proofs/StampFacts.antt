@@ -21,11 +21,11 @@ use Rattle.mb_model.specs.Stable.{low_of}
 use Rattle.mb_model.specs.Making.{prepare, commit, view_change, new_view, enter, opening, join, checkpoint}
 use Rattle.mb_steps.specs.Arises.{Arises, Makes}
 use Rattle.mb_steps.proofs.StepHeldEvidence.{own_claim}
-use Rattle.mb_theory.specs.WorldEvents.{IsCorrect}
-use Rattle.mb_theory.specs.World.{World, System, self_of}
-use Rattle.mb_known.proofs.Cases.{each_in}
-use Rattle.mb_known.proofs.Facts.{Facts}
-use Rattle.mb_known.proofs.Moments.{IsPast, past_tail, WasStamped, was_stamped, past_past, arises_by}
+use Rattle.mb_world_model.specs.WorldEvents.{IsCorrect}
+use Rattle.mb_world_model.specs.World.{World, System, self_of}
+use Rattle.mb_host_laws.proofs.Cases.{each_in}
+use Rattle.mb_world_laws.proofs.Facts.{Facts}
+use Rattle.mb_host_laws.proofs.Moments.{IsPast, past_tail, WasStamped, was_stamped, past_past, arises_by}
 use Rattle.mb_views.proofs.PlanMoments.{low_since}
 use Rattle.mb_views.proofs.HeldSound.{IsSoundPlan, held_sound}
 use Rattle.mb_views.proofs.OwnSeen.{SeenCommit, seen_commit, SeenPrepare, seen_prepare, SeenOpen, seen_open, own_height}

@@ -28,14 +28,14 @@ use Rattle.mb_model.specs.Histories.{Entry, Accepted, Stamped, History, Identity
 use Rattle.mb_model.specs.Held.{opened_by, plan_held, plan_of_view, plan_at}
 use Rattle.mb_model.specs.Positions.{batch_from, slot_vote, slot_of_open, vote_with, vote_by, counts_opens, open_vote, counts_at, open_vote_by, vote_of}
 use Rattle.mb_model.proofs.Options.{or_some, map_some, if_some}
-use Rattle.mb_theory.specs.WorldEvents.{IsCorrect}
-use Rattle.mb_theory.specs.World.{World, System, self_of}
-use Rattle.mb_theory.specs.WorldRecord.{plans}
-use Rattle.mb_known.proofs.Cases.{some_is}
-use Rattle.mb_known.proofs.Rests.{Each}
-use Rattle.mb_known.proofs.Facts.{Facts}
+use Rattle.mb_world_model.specs.WorldEvents.{IsCorrect}
+use Rattle.mb_world_model.specs.World.{World, System, self_of}
+use Rattle.mb_world_model.specs.WorldRecord.{plans}
+use Rattle.mb_host_laws.proofs.Cases.{some_is}
+use Rattle.mb_host_laws.specs.Rests.{Each}
+use Rattle.mb_world_laws.proofs.Facts.{Facts}
 use Rattle.mb_views.proofs.Follows.{JumpsLed}
-use Rattle.mb_known.proofs.Moments.{IsPast, past_tail}
+use Rattle.mb_host_laws.proofs.Moments.{IsPast, past_tail}
 use Rattle.mb_views.proofs.HeldPlans.{held_plan_known}
 use Rattle.mb_parts.specs.declared.batch.Batch.{Batch}
 

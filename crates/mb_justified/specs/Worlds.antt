@@ -1,12 +1,12 @@
 -- What correct hosts did is justified and within its limits, and they are never blamed, in each world of a schedule.
 use Rattle.std.specs.Prelude.{◌≡◌, ℕ, ◌≤◌, length}
-use Rattle.mb_theory.specs.Hashed.{HashesApart}
+use Rattle.mb_world_model.specs.Hashed.{HashesApart}
 use Rattle.mb_schedule.specs.Limits.{IsSchedule}
-use Rattle.mb_theory.specs.World.{World, System}
-use Rattle.mb_theory.specs.WorldSteps.{world}
-use Rattle.mb_theory.specs.Stops.{IsUnstopped}
-use Rattle.mb_theory.specs.Justification.{IsJustified}
-use Rattle.mb_theory.specs.Bounds.{AreBounded, IsBlameless}
+use Rattle.mb_world_model.specs.World.{World, System}
+use Rattle.mb_world_model.specs.WorldSteps.{world}
+use Rattle.mb_world_model.specs.Stops.{IsUnstopped}
+use Rattle.mb_promise.specs.Justification.{IsJustified}
+use Rattle.mb_promise.specs.Bounds.{AreBounded, IsBlameless}
 
 -- What correct hosts executed and installed is justified, their logs and votes keep their limits, and they are never blamed.
 pub record HoldsOfTheCorrect {S : Type 0} (system : System S) (w : World) : Type 0 where

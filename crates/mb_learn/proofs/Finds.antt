@@ -4,7 +4,7 @@ use Rattle.std.specs.Option.{option_or}
 use Rattle.std.proofs.lemmas.Bool.{cases_Bool}
 use Rattle.std.proofs.lemmas.Option.{same_Some, none-some}
 use Rattle.std.proofs.lemmas.List.Folds.{find-append}
-use Rattle.mb_model.proofs.Members.{In}
+use Rattle.mb_model.specs.Members.{In}
 use Rattle.mb_learn.proofs.Going.{taken_next}
 use Rattle.mb_learn.proofs.Tests.{true_false}
 

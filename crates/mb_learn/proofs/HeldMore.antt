@@ -24,7 +24,8 @@ use Rattle.mb_msg.specs.declared.stamped.Shown.{Shown}
 use Rattle.mb_msg.specs.declared.stamped.Shown.TheVariants as shown
 use Rattle.mb_model.specs.Committed.{Plans, PlanText}
 use Rattle.mb_model.specs.Verified.{are_rightly_tagged}
-use Rattle.mb_model.proofs.Members.{In, in_contained, contained, all_in}
+use Rattle.mb_model.specs.Members.{In}
+use Rattle.mb_model.proofs.Members.{in_contained, contained, all_in}
 use Rattle.mb_learn.specs.declared.batches.Batches.{Batches}
 use Rattle.mb_learn.specs.declared.checkpoints.Checkpoints.{Checkpoints}
 use Rattle.mb_learn.specs.declared.follower.Follower.{Follower}

@@ -8,7 +8,8 @@ use Rattle.mb_base.specs.Shapes.{Bytes, host_count, quorum, tally}
 use Rattle.mb_base.specs.declared.shape.Shape.{Shape}
 use Rattle.mb_usig.specs.Tags.{same_bytes}
 use Rattle.mb_usig.proofs.Laws.{same_bytes-true}
-use Rattle.mb_model.proofs.Members.{In, in_contained, contained, any_in, all_in}
+use Rattle.mb_model.specs.Members.{In}
+use Rattle.mb_model.proofs.Members.{in_contained, contained, any_in, all_in}
 use Rattle.mb_model.proofs.Quorums.{tally_some}
 use Rattle.mb_learn.specs.declared.checkpoints.Said.{Said}
 use Rattle.mb_learn.specs.declared.difference.Difference.{Difference}

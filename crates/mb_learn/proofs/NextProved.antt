@@ -18,7 +18,8 @@ use Rattle.mb_parts.specs.Counters.{at_counter}
 use Rattle.mb_msg.specs.declared.stamped.Shown.{Shown}
 use Rattle.mb_model.specs.declared.known.Vote.{Vote}
 use Rattle.mb_model.specs.Committed.{leads}
-use Rattle.mb_model.proofs.Members.{In, any_in, all_in}
+use Rattle.mb_model.specs.Members.{In}
+use Rattle.mb_model.proofs.Members.{any_in, all_in}
 use Rattle.mb_model.proofs.Quorums.{tally_some}
 use Rattle.mb_learn.specs.declared.follower.Follower.{Follower}
 use Rattle.mb_learn.specs.declared.heard.Heard.{Heard}

@@ -18,7 +18,8 @@ use Rattle.mb_msg.specs.declared.stamped.Shown.{Shown}
 use Rattle.mb_msg.specs.declared.stamped.Shown.TheVariants as shown
 use Rattle.mb_model.specs.Committed.{PlanText}
 use Rattle.mb_model.specs.Verified.{are_rightly_tagged}
-use Rattle.mb_model.proofs.Members.{In, in_contained, contained, in_left, in_right}
+use Rattle.mb_model.specs.Members.{In}
+use Rattle.mb_model.proofs.Members.{in_contained, contained, in_left, in_right}
 use Rattle.mb_learn.specs.declared.batches.Batches.{Batches}
 use Rattle.mb_learn.specs.declared.plans.Plans.{Plans as PlanTable}
 use Rattle.mb_learn.specs.Held.{is_stamped, is_body_of_plan, shows_plan, plan_text, plan_shown, plan_of_first, known_plans, ShowsBatch, IsHeld}

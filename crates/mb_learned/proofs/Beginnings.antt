@@ -17,12 +17,13 @@ use Rattle.mb_parts.proofs.Counters.{StandsAt, at_split}
 use Rattle.mb_msg.specs.declared.message.Message.{Message}
 use Rattle.mb_model.specs.Compared.{inside_some}
 use Rattle.mb_model.specs.Verified.{verifies}
-use Rattle.mb_model.proofs.Members.{In, in_contained, contained}
+use Rattle.mb_model.specs.Members.{In}
+use Rattle.mb_model.proofs.Members.{in_contained, contained}
 use Rattle.mb_model.specs.Inside.{claims_in}
-use Rattle.mb_theory.specs.World.{World, System, read}
-use Rattle.mb_theory.specs.WorldRecord.{issued, prefix, IsConsistent}
-use Rattle.mb_known.proofs.Facts.{Facts}
-use Rattle.mb_known.proofs.Grown.{IsGivenTo}
+use Rattle.mb_world_model.specs.World.{World, System, read}
+use Rattle.mb_world_model.specs.WorldRecord.{issued, prefix, IsConsistent}
+use Rattle.mb_world_laws.proofs.Facts.{Facts}
+use Rattle.mb_world_laws.proofs.Grown.{IsGivenTo}
 use Rattle.mb_audit.specs.Stamps.{claims_of, claims_among}
 use Rattle.mb_audited.specs.Blame.{given_to}
 use Rattle.mb_audited.proofs.Blame.{in_turned, from_flat, same_end}

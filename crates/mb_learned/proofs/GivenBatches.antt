@@ -35,13 +35,14 @@ use Rattle.mb_model.specs.Committed.{PlanText}
 use Rattle.mb_model.specs.Compared.{inside_some}
 use Rattle.mb_model.specs.UsableLogs.{is_comparable_body, is_plan_body}
 use Rattle.mb_model.specs.Verified.{verifies}
-use Rattle.mb_model.proofs.Members.{In, in_contained, contained, in_left, in_right, in_map, all_in}
-use Rattle.mb_theory.specs.Hashed.{HashesApart}
+use Rattle.mb_model.specs.Members.{In}
+use Rattle.mb_model.proofs.Members.{in_contained, contained, in_left, in_right, in_map, all_in}
+use Rattle.mb_world_model.specs.Hashed.{HashesApart}
 use Rattle.mb_model.specs.Inside.{body_in, open_bodies, floor_bodies, shown_bodies, bodies_in_change, change_bodies, stamped_bodies, bodies_in, strings_in, requests_in, claims_in}
-use Rattle.mb_theory.specs.World.{World, System, read}
-use Rattle.mb_theory.specs.WorldRecord.{plans_of}
-use Rattle.mb_known.proofs.Facts.{Facts}
-use Rattle.mb_known.proofs.Grown.{IsGivenTo}
+use Rattle.mb_world_model.specs.World.{World, System, read}
+use Rattle.mb_world_model.specs.WorldRecord.{plans_of}
+use Rattle.mb_world_laws.proofs.Facts.{Facts}
+use Rattle.mb_world_laws.proofs.Grown.{IsGivenTo}
 use Rattle.mb_views.proofs.Planned.{FitsBase, plans_known}
 use Rattle.mb_audited.specs.Blame.{given_to}
 use Rattle.mb_audited.proofs.Blame.{in_turned, from_flat}

@@ -29,7 +29,8 @@ use Rattle.mb_msg.specs.declared.change.Open.{Open}
 use Rattle.mb_msg.specs.declared.normal.Commit.{Commit}
 use Rattle.mb_msg.specs.Reading.{message_of}
 use Rattle.mb_model.specs.Compared.{inside_some}
-use Rattle.mb_model.proofs.Members.{In, in_left, in_right}
+use Rattle.mb_model.specs.Members.{In}
+use Rattle.mb_model.proofs.Members.{in_left, in_right}
 use Rattle.mb_model.specs.Inside.{named_claim, open_body_claims, open_claims, join_claims, shown_claims, change_claims, member_claims, new_view_claims, stamped_claims, claims_in, if_read}
 use Rattle.mb_audit.specs.Stamps.{claims_of, claims_among}
 use Rattle.mb_learn.proofs.Finds.{in_either}

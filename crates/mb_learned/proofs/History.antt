@@ -27,19 +27,20 @@ use Rattle.mb_model.specs.Positions.{exec_of}
 use Rattle.mb_model.specs.Service.{Machine, Served, start, is_fresh, served, served_each, served_all, batch_of}
 use Rattle.mb_model.specs.States.{parts_of, state_digest}
 use Rattle.mb_model.specs.Verified.{verifies}
-use Rattle.mb_model.proofs.Members.{In, any_in, contained}
+use Rattle.mb_model.specs.Members.{In}
+use Rattle.mb_model.proofs.Members.{any_in, contained}
 use Rattle.mb_model.proofs.Quorums.{quorum_has_correct}
 use Rattle.mb_agreement.proofs.Agree.{agrees}
 use Rattle.mb_schedule.specs.Limits.{is_faulty}
-use Rattle.mb_theory.specs.Hashed.{HashesApart}
-use Rattle.mb_theory.specs.Headline.{IsService}
-use Rattle.mb_theory.specs.Safety.{IsSafe, after_line}
-use Rattle.mb_theory.specs.World.{World, System, self_of}
-use Rattle.mb_theory.specs.WorldEvents.{IsCorrect}
-use Rattle.mb_theory.specs.WorldRecord.{issued, prefix, plans, IsConsistent}
-use Rattle.mb_theory.proofs.Lists.{get_there, take_next}
-use Rattle.mb_known.proofs.Facts.{Facts}
-use Rattle.mb_known.proofs.Rests.{Each}
+use Rattle.mb_world_model.specs.Hashed.{HashesApart}
+use Rattle.mb_promise.specs.Headline.{IsService}
+use Rattle.mb_promise.specs.Safety.{IsSafe, after_line}
+use Rattle.mb_world_model.specs.World.{World, System, self_of}
+use Rattle.mb_world_model.specs.WorldEvents.{IsCorrect}
+use Rattle.mb_world_model.specs.WorldRecord.{issued, prefix, plans, IsConsistent}
+use Rattle.mb_model.proofs.Lists.{get_there, take_next}
+use Rattle.mb_world_laws.proofs.Facts.{Facts}
+use Rattle.mb_host_laws.specs.Rests.{Each}
 use Rattle.mb_views.proofs.CorrectOne.{IsStamped, issued_stamped}
 use Rattle.mb_views.proofs.Follows.{JumpsLed}
 use Rattle.mb_line.proofs.Along.{IsOnLine, on_line, within, along, between}

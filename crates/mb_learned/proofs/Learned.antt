@@ -3,12 +3,12 @@ use Rattle.std.proofs.Common.{ℕ}
 use Rattle.mb_model.proofs.Members.{in_contained, contained, in_left}
 use Rattle.mb_base.specs.Shapes.{Bytes}
 use Rattle.std.specs.Prelude.{List, ◌++◌}
-use Rattle.mb_theory.specs.Hashed.{HashesApart}
-use Rattle.mb_theory.specs.Stops.{IsUnstopped}
-use Rattle.mb_theory.specs.World.{World}
-use Rattle.mb_theory.specs.WorldSteps.{world}
-use Rattle.mb_known.proofs.Facts.{Facts}
-use Rattle.mb_known.proofs.FactsOf.{facts_in}
+use Rattle.mb_world_model.specs.Hashed.{HashesApart}
+use Rattle.mb_world_model.specs.Stops.{IsUnstopped}
+use Rattle.mb_world_model.specs.World.{World}
+use Rattle.mb_world_model.specs.WorldSteps.{world}
+use Rattle.mb_world_laws.proofs.Facts.{Facts}
+use Rattle.mb_world_laws.proofs.FactsOf.{facts_in}
 use Rattle.mb_views.proofs.Agreed.{consistent}
 use Rattle.mb_views.proofs.Jumps.{jumps_led}
 use Rattle.mb_line.proofs.AskedFits.{asked_fits}

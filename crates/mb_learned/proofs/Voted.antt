@@ -19,10 +19,10 @@ use Rattle.mb_model.specs.Votes.{is_vote}
 use Rattle.mb_model.proofs.Options.{if_some, map_some}
 use Rattle.mb_agreement.proofs.Stays.{is_vote_is}
 use Rattle.mb_agreement.proofs.WholeLists.{open_is, has_plan}
-use Rattle.mb_theory.specs.Hashed.{HashesApart}
-use Rattle.mb_theory.specs.World.{World, System}
-use Rattle.mb_theory.specs.WorldRecord.{issued, prefix, plan_with_digest, plans_of, plans, IsConsistent}
-use Rattle.mb_known.proofs.Facts.{Facts}
+use Rattle.mb_world_model.specs.Hashed.{HashesApart}
+use Rattle.mb_world_model.specs.World.{World, System}
+use Rattle.mb_world_model.specs.WorldRecord.{issued, prefix, plan_with_digest, plans_of, plans, IsConsistent}
+use Rattle.mb_world_laws.proofs.Facts.{Facts}
 use Rattle.mb_line.proofs.OneVote.{stands_voted}
 use Rattle.mb_learn.specs.Held.{known_plans}
 use Rattle.mb_learn.specs.Lists.{has_vote}

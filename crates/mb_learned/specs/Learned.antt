@@ -16,13 +16,13 @@ use Rattle.mb_model.specs.Committed.{IsCommitted}
 use Rattle.mb_model.specs.Service.{batch_of}
 use Rattle.mb_schedule.specs.declared.schedule.Schedule.{Schedule}
 use Rattle.mb_schedule.specs.Limits.{IsSchedule}
-use Rattle.mb_theory.specs.Hashed.{HashesApart}
-use Rattle.mb_theory.specs.Headline.{IsService}
-use Rattle.mb_theory.specs.Stops.{IsUnstopped}
-use Rattle.mb_theory.specs.World.{World, System}
-use Rattle.mb_theory.specs.WorldEvents.{IsCorrect}
-use Rattle.mb_theory.specs.WorldRecord.{plans, prefix}
-use Rattle.mb_theory.specs.WorldSteps.{world}
+use Rattle.mb_world_model.specs.Hashed.{HashesApart}
+use Rattle.mb_promise.specs.Headline.{IsService}
+use Rattle.mb_world_model.specs.Stops.{IsUnstopped}
+use Rattle.mb_world_model.specs.World.{World, System}
+use Rattle.mb_world_model.specs.WorldEvents.{IsCorrect}
+use Rattle.mb_world_model.specs.WorldRecord.{plans, prefix}
+use Rattle.mb_world_model.specs.WorldSteps.{world}
 use Rattle.mb_audited.specs.Blame.{given_to}
 use Rattle.mb_learn.specs.Proved.{IsLearnt, DiffersAt}
 use Rattle.mb_learn.specs.Shown.{shown_among}

@@ -20,23 +20,23 @@ use Rattle.mb_model.specs.Stable.{low_of}
 use Rattle.mb_model.specs.Positions.{exec_of, in_window, slot_in, position_limit}
 use Rattle.mb_model.specs.Execution.{state_of, state_from, if_restored}
 use Rattle.mb_parts.specs.Fits.{FitsRequest}
-use Rattle.mb_model.proofs.Members.{In}
+use Rattle.mb_model.specs.Members.{In}
 use Rattle.mb_model.proofs.Options.{if_some}
 use Rattle.mb_model.specs.CarriedOut.{just_served}
 use Rattle.mb_model.proofs.ServiceLaws.{each_push, served_push}
 use Rattle.mb_steps.specs.Arises.{Serves, Arises, IsWhole}
 use Rattle.mb_steps.proofs.StepArises.{none_served}
-use Rattle.mb_theory.specs.Headline.{IsService}
-use Rattle.mb_theory.specs.WorldEvents.{IsCorrect}
-use Rattle.mb_theory.specs.World.{World, System, self_of}
-use Rattle.mb_theory.specs.Safety.{after_line}
-use Rattle.mb_theory.proofs.Lists.{get_there, take_next}
-use Rattle.mb_known.proofs.Rests.{Each}
-use Rattle.mb_known.proofs.Facts.{Facts}
+use Rattle.mb_promise.specs.Headline.{IsService}
+use Rattle.mb_world_model.specs.WorldEvents.{IsCorrect}
+use Rattle.mb_world_model.specs.World.{World, System, self_of}
+use Rattle.mb_promise.specs.Safety.{after_line}
+use Rattle.mb_model.proofs.Lists.{get_there, take_next}
+use Rattle.mb_host_laws.specs.Rests.{Each}
+use Rattle.mb_world_laws.proofs.Facts.{Facts}
 use Rattle.mb_views.proofs.Follows.{JumpsLed}
-use Rattle.mb_known.proofs.Moments.{IsPast, past_tail}
+use Rattle.mb_host_laws.proofs.Moments.{IsPast, past_tail}
 use Rattle.mb_line.proofs.OneExecuted.{executed_batch, one_executed}
-use Rattle.mb_known.proofs.Executing.{IsExecution}
+use Rattle.mb_host_laws.proofs.Executing.{IsExecution}
 use Rattle.mb_line.proofs.Executions.{executed_so, past_adds, in_past, exec_rises}
 use Rattle.mb_line.proofs.WholeBatches.{IsUnbroken, IsWholeAll, unbroken_back, IsClosed, closes}
 use Rattle.mb_line.proofs.Marks.{requests_of, each_same}

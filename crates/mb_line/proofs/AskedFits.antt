@@ -16,17 +16,17 @@ use Rattle.mb_msg.specs.Reading.{message_of}
 use Rattle.mb_msg.specs.Spelling.{spelling}
 use Rattle.mb_msg.specs.Stamps.{as_stamped}
 use Rattle.mb_model.specs.Clients.{Asker, Taken, Waiting, Accepted, BadTag, OtherSeq, taken, left_by, takes}
-use Rattle.mb_model.proofs.Members.{In}
+use Rattle.mb_model.specs.Members.{In}
 use Rattle.mb_schedule.specs.declared.schedule.Name.TheVariants as name
 use Rattle.mb_schedule.specs.declared.schedule.WorldEvent.{WorldEvent}
 use Rattle.mb_schedule.specs.declared.schedule.WorldEvent.TheVariants.{Ask, Give, Take, Raw, Patience, Nudge, Sign, TagReply, TagWish, StampPrepare, StampCommit, StampCheckpoint, StampChange, StampAs, StampRaw}
 use Rattle.mb_schedule.specs.declared.schedule.Schedule.{Schedule}
 use Rattle.mb_schedule.specs.Limits.{is_faulty, is_faulty_client, EventFits, IsSchedule}
-use Rattle.mb_theory.specs.World.{numbered, World, System, give_host, give_client, client_reads, heard, signal, made, request_of}
-use Rattle.mb_theory.specs.FaultyHosts.{stamp_some, stamp_content, stamp_bytes, content, prepare_of, commit_for, checkpoint_with, change_after, reply_of_host, wish_of_host}
-use Rattle.mb_theory.specs.WorldSteps.{where_faulty, with_message, stamps_some, happens, after, world}
-use Rattle.mb_theory.specs.Stops.{stop_of, IsUnstopped}
-use Rattle.mb_known.proofs.Standings.{before_last}
+use Rattle.mb_world_model.specs.World.{numbered, World, System, give_host, give_client, client_reads, heard, signal, made, request_of}
+use Rattle.mb_world_model.specs.FaultyHosts.{stamp_some, stamp_content, stamp_bytes, content, prepare_of, commit_for, checkpoint_with, change_after, reply_of_host, wish_of_host}
+use Rattle.mb_world_model.specs.WorldSteps.{where_faulty, with_message, stamps_some, happens, after, world}
+use Rattle.mb_world_model.specs.Stops.{stop_of, IsUnstopped}
+use Rattle.mb_world_laws.proofs.Standings.{before_last}
 use Rattle.mb_line.proofs.AskerWorlds.{AskerMoves, after_moves as askers_move}
 
 module _ {S : Type 0} (system : System S) where

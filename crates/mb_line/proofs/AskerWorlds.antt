@@ -19,21 +19,22 @@ use Rattle.mb_msg.specs.Stamps.{as_stamped}
 use Rattle.mb_model.specs.Clients.{asks, is_right, takes}
 use Rattle.mb_model.proofs.Options.{or_none}
 use Rattle.mb_model.proofs.ShapesFit.{shape_fits}
-use Rattle.mb_model.proofs.Members.{In, any_in}
+use Rattle.mb_model.specs.Members.{In}
+use Rattle.mb_model.proofs.Members.{any_in}
 use Rattle.mb_schedule.specs.declared.schedule.Name.TheVariants as name
 use Rattle.mb_schedule.specs.declared.schedule.WorldEvent.{WorldEvent}
 use Rattle.mb_schedule.specs.declared.schedule.WorldEvent.TheVariants.{Ask, Give, Take, Raw, Patience, Nudge, Sign, TagReply, TagWish, StampPrepare, StampCommit, StampCheckpoint, StampChange, StampAs, StampRaw}
 use Rattle.mb_schedule.specs.declared.schedule.Schedule.{Schedule}
 use Rattle.mb_schedule.specs.Limits.{is_faulty, is_faulty_client, IsSchedule}
-use Rattle.mb_theory.specs.World.{update, numbered, World, System, read, give_host, give_client, client_reads, heard, signal, made, request_of}
+use Rattle.mb_world_model.specs.World.{update, numbered, World, System, read, give_host, give_client, client_reads, heard, signal, made, request_of}
 use Rattle.mb_model.specs.Inside.{if_read}
-use Rattle.mb_theory.specs.FaultyHosts.{stamp_some, stamp_content, stamp_bytes, content, prepare_of, commit_for, checkpoint_with, change_after, reply_of_host, wish_of_host}
-use Rattle.mb_theory.specs.Forged.{was_tagged, has_forged_tag}
-use Rattle.mb_theory.specs.Stops.{ForgedTag, WorldStop, stop_of, name_stop, missing_stop, kind_stop, forged_stop, tag_stop, event_number, delivered_message, IsUnstopped}
-use Rattle.mb_theory.specs.WorldSteps.{where_faulty, with_message, stamps_some, happens, after, world}
-use Rattle.mb_known.proofs.Cases.{untrue, third_holds}
-use Rattle.mb_known.proofs.ReadFits.{read_fits}
-use Rattle.mb_known.proofs.Standings.{before_last, passage}
+use Rattle.mb_world_model.specs.FaultyHosts.{stamp_some, stamp_content, stamp_bytes, content, prepare_of, commit_for, checkpoint_with, change_after, reply_of_host, wish_of_host}
+use Rattle.mb_world_model.specs.Forged.{was_tagged, has_forged_tag}
+use Rattle.mb_world_model.specs.Stops.{ForgedTag, WorldStop, stop_of, name_stop, missing_stop, kind_stop, forged_stop, tag_stop, event_number, delivered_message, IsUnstopped}
+use Rattle.mb_world_model.specs.WorldSteps.{where_faulty, with_message, stamps_some, happens, after, world}
+use Rattle.mb_host_laws.proofs.Cases.{untrue, third_holds}
+use Rattle.mb_reading_laws.proofs.ReadFits.{read_fits}
+use Rattle.mb_world_laws.proofs.Standings.{before_last, passage}
 use Rattle.mb_line.proofs.Askers.{AskerStands, stands_more, stands_first, stands_asks, stands_takes}
 
 module _ {S : Type 0} (system : System S) where

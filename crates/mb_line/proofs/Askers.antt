@@ -15,11 +15,12 @@ use Rattle.mb_msg.specs.Fits.{FitsReply}
 use Rattle.mb_msg.specs.Spelling.{spelling}
 use Rattle.mb_model.specs.Clients.{Asker, no_asker, asks, agrees, agreeing, counted, is_right, is_awaited, completes, taken, takes}
 use Rattle.mb_model.proofs.Quorums.{quorum_has_correct}
-use Rattle.mb_model.proofs.Members.{In, any_in, all_in}
+use Rattle.mb_model.specs.Members.{In}
+use Rattle.mb_model.proofs.Members.{any_in, all_in}
 use Rattle.mb_schedule.specs.declared.schedule.Schedule.{Schedule}
 use Rattle.mb_schedule.specs.Limits.{is_faulty}
-use Rattle.mb_theory.specs.WorldEvents.{IsCorrect}
-use Rattle.mb_known.proofs.Cases.{not_true}
+use Rattle.mb_world_model.specs.WorldEvents.{IsCorrect}
+use Rattle.mb_host_laws.proofs.Cases.{not_true}
 use Rattle.mb_model.proofs.PlanLaws.{one_more}
 
 -- ---- lists of different hosts

@@ -26,9 +26,10 @@ use Rattle.mb_msg.specs.Bodies.{FitsBody, inside_whole}
 use Rattle.mb_msg.specs.Spelling.{change_body_bytes, new_view_body_bytes}
 use Rattle.mb_msg.specs.Fits.{FitsFields, FitsShown, FitsChangeBody, FitsMember, FitsNewViewBody, FitsOpenBody}
 use Rattle.mb_model.specs.Compared.{inside_some}
-use Rattle.mb_model.proofs.Members.{In, in_right, in_map}
+use Rattle.mb_model.specs.Members.{In}
+use Rattle.mb_model.proofs.Members.{in_right, in_map}
 use Rattle.mb_model.specs.Inside.{batch_requests, open_requests, shown_requests, change_requests, requests_in, body_in, open_bodies, shown_bodies, bodies_in_change, change_bodies, bodies_in, floor_bodies}
-use Rattle.mb_known.proofs.Cases.{all_flat, flat_in}
+use Rattle.mb_host_laws.proofs.Cases.{all_flat, flat_in}
 use Rattle.mb_line.proofs.Executions.{in_parts}
 
 -- ---- the batches

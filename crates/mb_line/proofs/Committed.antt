@@ -34,18 +34,18 @@ use Rattle.mb_model.proofs.Options.{or_some, if_some, map_some}
 use Rattle.mb_steps.proofs.StepHeldEvidence.{prepare_by_primary}
 use Rattle.mb_agreement.proofs.Stays.{is_vote_is}
 use Rattle.mb_agreement.proofs.WholeLists.{prepare_is, open_is}
-use Rattle.mb_theory.specs.WorldEvents.{IsCorrect}
-use Rattle.mb_theory.specs.World.{World, System, self_of}
-use Rattle.mb_theory.specs.WorldRecord.{issued, prefix, plans, IsConsistent}
-use Rattle.mb_known.proofs.Cases.{some_is}
-use Rattle.mb_known.proofs.Rests.{Each}
-use Rattle.mb_known.proofs.Facts.{Facts}
+use Rattle.mb_world_model.specs.WorldEvents.{IsCorrect}
+use Rattle.mb_world_model.specs.World.{World, System, self_of}
+use Rattle.mb_world_model.specs.WorldRecord.{issued, prefix, plans, IsConsistent}
+use Rattle.mb_host_laws.proofs.Cases.{some_is}
+use Rattle.mb_host_laws.specs.Rests.{Each}
+use Rattle.mb_world_laws.proofs.Facts.{Facts}
 use Rattle.mb_views.proofs.Follows.{JumpsLed}
-use Rattle.mb_known.proofs.Moments.{IsPast, past_tail}
+use Rattle.mb_host_laws.proofs.Moments.{IsPast, past_tail}
 use Rattle.mb_views.proofs.Floors.{arises_then}
 use Rattle.mb_line.proofs.OneVote.{stands_voted}
 use Rattle.mb_line.proofs.CountedVotes.{accepted_there, stamped_there, counted_vote}
-use Rattle.mb_known.proofs.Executing.{IsExecution}
+use Rattle.mb_host_laws.proofs.Executing.{IsExecution}
 use Rattle.mb_line.proofs.Executions.{executed_so}
 use Rattle.mb_parts.specs.declared.batch.Batch.{Batch}
 use Rattle.mb_model.specs.Service.{batch_of}

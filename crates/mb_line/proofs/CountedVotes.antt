@@ -40,17 +40,17 @@ use Rattle.mb_model.proofs.Options.{or_some, if_some, map_some}
 use Rattle.mb_steps.specs.Arises.{Makes}
 use Rattle.mb_steps.proofs.StepOwnList.{own_passed}
 use Rattle.mb_steps.proofs.StepOwnStamped.{steady}
-use Rattle.mb_theory.specs.WorldEvents.{IsCorrect}
-use Rattle.mb_theory.specs.World.{World, System, self_of}
-use Rattle.mb_theory.specs.WorldRecord.{prefix, plans}
-use Rattle.mb_known.proofs.Cases.{some_is}
-use Rattle.mb_known.proofs.Rests.{Each}
-use Rattle.mb_known.proofs.Facts.{Facts}
+use Rattle.mb_world_model.specs.WorldEvents.{IsCorrect}
+use Rattle.mb_world_model.specs.World.{World, System, self_of}
+use Rattle.mb_world_model.specs.WorldRecord.{prefix, plans}
+use Rattle.mb_host_laws.proofs.Cases.{some_is}
+use Rattle.mb_host_laws.specs.Rests.{Each}
+use Rattle.mb_world_laws.proofs.Facts.{Facts}
 use Rattle.mb_views.proofs.Follows.{JumpsLed}
-use Rattle.mb_known.proofs.Moments.{IsPast, past_tail}
+use Rattle.mb_host_laws.proofs.Moments.{IsPast, past_tail}
 use Rattle.mb_views.proofs.Floors.{arises_then}
 use Rattle.mb_views.proofs.Prefixes.{prefix_said}
-use Rattle.mb_known.proofs.OwnIssued.{own_stamp}
+use Rattle.mb_world_laws.proofs.OwnIssued.{own_stamp}
 use Rattle.mb_views.proofs.AcceptedIn.{passes_as, accepted_in_prefix}
 use Rattle.mb_views.proofs.HeldPlans.{IsPlanKnown, plan_at_known}
 use Rattle.mb_parts.specs.declared.batch.Batch.{Batch}

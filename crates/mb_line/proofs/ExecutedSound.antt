@@ -35,29 +35,31 @@ use Rattle.mb_model.specs.Sending.{next_ui}
 use Rattle.mb_model.specs.Making.{prepare, commit, opening}
 use Rattle.mb_model.specs.EnabledRules.{Open, Commit, Prepare, open_with, may_open, open_enabled, next_position, with_batch, commit_enabled, greatest_in_slots, window, unordered, prepare_enabled, may_order, unordered_of}
 use Rattle.mb_model.proofs.Options.{or_some, if_some, map_some}
-use Rattle.mb_model.proofs.Members.{In, all_in}
+use Rattle.mb_model.specs.Members.{In}
+use Rattle.mb_model.proofs.Members.{all_in}
 use Rattle.mb_steps.specs.Arises.{Makes}
 use Rattle.mb_model.specs.Inside.{requests_in, body_in, strings_in, bodies_in}
-use Rattle.mb_theory.specs.WorldEvents.{IsCorrect}
-use Rattle.mb_theory.specs.World.{World, System, self_of}
-use Rattle.mb_known.proofs.Cases.{not_false, some_is, all_more}
-use Rattle.mb_known.proofs.Found.{above_is, opened_plan}
-use Rattle.mb_known.proofs.Rests.{Each}
-use Rattle.mb_known.proofs.Facts.{Facts}
+use Rattle.mb_world_model.specs.WorldEvents.{IsCorrect}
+use Rattle.mb_world_model.specs.World.{World, System, self_of}
+use Rattle.mb_host_laws.proofs.Cases.{not_false, some_is, all_more}
+use Rattle.mb_host_laws.proofs.Found.{above_is, opened_plan}
+use Rattle.mb_host_laws.specs.Rests.{Each}
+use Rattle.mb_world_laws.proofs.Facts.{Facts}
 use Rattle.mb_views.proofs.Follows.{JumpsLed}
-use Rattle.mb_known.proofs.Moments.{IsPast, past_tail, each_at}
+use Rattle.mb_host_laws.proofs.Moments.{IsPast, past_tail, each_at}
 use Rattle.mb_views.proofs.Floors.{arises_then}
 use Rattle.mb_line.proofs.CountedVotes.{other_sender}
 use Rattle.mb_line.proofs.SoundBatches.{OfStamped, IsSoundRequest, IsOwn, brought, own_tail, brought_request, IsSoundBatch}
 use Rattle.mb_line.proofs.HeldBatches.{plan_at_sound}
-use Rattle.mb_theory.proofs.Lists.{in_at}
+use Rattle.mb_model.proofs.Lists.{in_at}
 use Rattle.mb_msg.specs.Bodies.{whole_body, inside_whole, body_digest}
 use Rattle.mb_parts.specs.Spelling.{batch_bytes}
-use Rattle.mb_known.proofs.Executing.{IsExecution}
+use Rattle.mb_host_laws.proofs.Executing.{IsExecution}
 use Rattle.mb_line.proofs.Executions.{executed_so}
-use Rattle.mb_known.proofs.Parts.{accepted_fits, body_string}
+use Rattle.mb_world_laws.proofs.AcceptedParts.{accepted_fits}
+use Rattle.mb_host_laws.proofs.Parts.{body_string}
 use Rattle.mb_model.specs.Passed.{PassesBody}
-use Rattle.mb_known.proofs.FirstBatches.{first_fits, first_all}
+use Rattle.mb_host_laws.proofs.FirstBatches.{first_fits, first_all}
 use Rattle.mb_model.specs.Batches.{first_batch}
 use Rattle.mb_line.proofs.Batches.{shown_batches}
 use Rattle.mb_parts.specs.declared.batch.Batch.{Batch}

@@ -3,10 +3,11 @@ use Rattle.std.proofs.Common.{◌≡◌, ◌+◌, ◌≤◌, ◌<◌, ◌⊎◌,
 use Rattle.mb_msg.specs.declared.event.Slot.{Slot}
 use Rattle.mb_model.specs.Histories.{Entry, Accepted, Stamped, Jumped, Closed, Served, Executed, Installed, DroppedParts, LostPatience, Nudged, History, Identity}
 use Rattle.mb_model.specs.Positions.{exec_of}
-use Rattle.mb_model.proofs.Members.{In, in_right}
+use Rattle.mb_model.specs.Members.{In}
+use Rattle.mb_model.proofs.Members.{in_right}
 use Rattle.mb_steps.specs.Arises.{Executes, Adds, Arises}
-use Rattle.mb_known.proofs.Moments.{IsPast}
-use Rattle.mb_known.proofs.Executing.{IsExecution, execution}
+use Rattle.mb_host_laws.proofs.Moments.{IsPast}
+use Rattle.mb_host_laws.proofs.Executing.{IsExecution, execution}
 
 pub in_parts : {A : Type 0} (a b : List A) (x : A) → In (a ++ b) x → In a x ⊎ In b x
 in_parts [] b x i = inr i

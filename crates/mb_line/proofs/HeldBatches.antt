@@ -29,18 +29,19 @@ use Rattle.mb_model.specs.Sending.{next_ui}
 use Rattle.mb_model.specs.Making.{new_view}
 use Rattle.mb_model.proofs.Options.{or_some, or_none, then_none, if_some, map_some}
 use Rattle.mb_model.proofs.UsableLaws.{map_none}
-use Rattle.mb_model.proofs.Members.{In, in_left, in_right}
+use Rattle.mb_model.specs.Members.{In}
+use Rattle.mb_model.proofs.Members.{in_left, in_right}
 use Rattle.mb_steps.specs.Arises.{Makes}
 use Rattle.mb_steps.proofs.StepHeldEvidence.{announce_seen}
 use Rattle.mb_steps.proofs.StepPlanBases.{all_filter, all_found, all_any}
-use Rattle.mb_theory.specs.WorldEvents.{IsCorrect}
-use Rattle.mb_theory.specs.World.{World, System, self_of}
-use Rattle.mb_known.proofs.Cases.{all_taken, member, not_false, some_is, whole_is}
-use Rattle.mb_known.proofs.Found.{gives_current}
-use Rattle.mb_known.proofs.Rests.{Each}
-use Rattle.mb_known.proofs.Facts.{Facts}
+use Rattle.mb_world_model.specs.WorldEvents.{IsCorrect}
+use Rattle.mb_world_model.specs.World.{World, System, self_of}
+use Rattle.mb_host_laws.proofs.Cases.{all_taken, member, not_false, some_is, whole_is}
+use Rattle.mb_host_laws.proofs.Found.{gives_current}
+use Rattle.mb_host_laws.specs.Rests.{Each}
+use Rattle.mb_world_laws.proofs.Facts.{Facts}
 use Rattle.mb_views.proofs.Follows.{JumpsLed}
-use Rattle.mb_known.proofs.Moments.{IsPast, past_tail}
+use Rattle.mb_host_laws.proofs.Moments.{IsPast, past_tail}
 use Rattle.mb_views.proofs.Floors.{arises_then}
 use Rattle.mb_line.proofs.PlanBatches.{plan_all, plan_body_tagged}
 use Rattle.mb_line.proofs.SoundBatches.{OfChange, logs_all, whole_none, IsOwn, brought_all, usable_change, own_tail, changes_sound, IsSoundBatch}

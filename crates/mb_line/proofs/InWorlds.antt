@@ -1,10 +1,10 @@
 -- There is one list in each world that nothing stopped, and accepted results are the service's.
 use Rattle.std.proofs.Common.{ℕ}
-use Rattle.mb_theory.specs.Hashed.{HashesApart}
-use Rattle.mb_theory.specs.WorldSteps.{world}
-use Rattle.mb_theory.specs.Stops.{IsUnstopped}
-use Rattle.mb_known.proofs.Facts.{Facts}
-use Rattle.mb_known.proofs.FactsOf.{facts_in}
+use Rattle.mb_world_model.specs.Hashed.{HashesApart}
+use Rattle.mb_world_model.specs.WorldSteps.{world}
+use Rattle.mb_world_model.specs.Stops.{IsUnstopped}
+use Rattle.mb_world_laws.proofs.Facts.{Facts}
+use Rattle.mb_world_laws.proofs.FactsOf.{facts_in}
 use Rattle.mb_line.specs.Worlds.{WorldsHaveOneList}
 use Rattle.mb_line.proofs.SafeWorlds.{safe_from}
 use Rattle.mb_line.proofs.ServedWorlds.{results_from}

@@ -28,20 +28,21 @@ use Rattle.mb_model.specs.States.{digest_string, part_digests, state_digest, par
 use Rattle.mb_model.specs.Execution.{state_of}
 use Rattle.mb_model.specs.Sending.{next_ui}
 use Rattle.mb_model.specs.Making.{floors_under, checkpoint, present_parts}
-use Rattle.mb_model.proofs.Members.{In, contained, in_map}
+use Rattle.mb_model.specs.Members.{In}
+use Rattle.mb_model.proofs.Members.{contained, in_map}
 use Rattle.mb_steps.specs.Arises.{JustExecuted, Makes}
 use Rattle.mb_steps.proofs.StepHeldStable.{stable_checks}
 use Rattle.mb_schedule.specs.Limits.{is_faulty}
-use Rattle.mb_theory.specs.WorldEvents.{IsCorrect}
-use Rattle.mb_theory.specs.World.{World, System, self_of}
-use Rattle.mb_theory.specs.WorldRecord.{issued}
-use Rattle.mb_known.proofs.Cases.{all_holds}
+use Rattle.mb_world_model.specs.WorldEvents.{IsCorrect}
+use Rattle.mb_world_model.specs.World.{World, System, self_of}
+use Rattle.mb_world_model.specs.WorldRecord.{issued}
+use Rattle.mb_host_laws.proofs.Cases.{all_holds}
 use Rattle.mb_views.proofs.EvidenceHost.{issued_host}
-use Rattle.mb_known.proofs.Rests.{Each}
-use Rattle.mb_known.proofs.Facts.{Facts}
+use Rattle.mb_host_laws.specs.Rests.{Each}
+use Rattle.mb_world_laws.proofs.Facts.{Facts}
 use Rattle.mb_views.proofs.Follows.{JumpsLed}
 use Rattle.mb_views.proofs.CorrectOne.{correct_one, IsStamped, issued_stamped}
-use Rattle.mb_known.proofs.Moments.{IsPast, past_tail, each_at}
+use Rattle.mb_host_laws.proofs.Moments.{IsPast, past_tail, each_at}
 use Rattle.mb_views.proofs.Floors.{arises_then}
 use Rattle.mb_views.proofs.Certified.{IsCheckpoint, checkpoint_said}
 use Rattle.mb_line.proofs.StableIssued.{stable_issued}

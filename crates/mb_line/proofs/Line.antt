@@ -10,12 +10,13 @@ use Rattle.mb_msg.specs.declared.event.Slot.{Slot}
 use Rattle.mb_model.specs.Histories.{Entry, Accepted, Stamped, Jumped, Closed, Served, Executed, Installed, DroppedParts, LostPatience, Nudged, History}
 use Rattle.mb_model.specs.Positions.{exec_of}
 use Rattle.mb_model.specs.HostStep.{transition}
-use Rattle.mb_model.proofs.Members.{In, in_right}
+use Rattle.mb_model.specs.Members.{In}
+use Rattle.mb_model.proofs.Members.{in_right}
 use Rattle.mb_steps.specs.Arises.{Adds, Arises}
-use Rattle.mb_theory.specs.WorldEvents.{IsCorrect}
-use Rattle.mb_theory.specs.World.{World, System, self_of, extended}
-use Rattle.mb_theory.proofs.Lists.{get_last}
-use Rattle.mb_known.proofs.Moments.{IsPast, past_tail}
+use Rattle.mb_world_model.specs.WorldEvents.{IsCorrect}
+use Rattle.mb_world_model.specs.World.{World, System, self_of, extended}
+use Rattle.mb_model.proofs.Lists.{get_last}
+use Rattle.mb_host_laws.proofs.Moments.{IsPast, past_tail}
 use Rattle.mb_line.proofs.StepDone.{slots_in, IsDone, step_done}
 use Rattle.mb_line.proofs.Moves.{IsStep, Moves}
 use Rattle.mb_line.proofs.Executions.{in_parts, exec_high, exec_later}

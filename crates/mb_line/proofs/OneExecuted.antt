@@ -8,14 +8,15 @@ use Rattle.mb_msg.specs.declared.event.Slot.{Slot}
 use Rattle.mb_msg.proofs.Injective.{batch_injective}
 use Rattle.mb_model.specs.Committed.{IsCommitted}
 use Rattle.mb_model.specs.Histories.{Executed, History}
-use Rattle.mb_model.proofs.Members.{In, contained}
-use Rattle.mb_theory.specs.WorldEvents.{IsCorrect}
-use Rattle.mb_theory.specs.World.{World, System}
-use Rattle.mb_theory.specs.WorldRecord.{prefix, plans, IsConsistent}
-use Rattle.mb_known.proofs.Rests.{Each}
-use Rattle.mb_known.proofs.Facts.{Facts}
+use Rattle.mb_model.specs.Members.{In}
+use Rattle.mb_model.proofs.Members.{contained}
+use Rattle.mb_world_model.specs.WorldEvents.{IsCorrect}
+use Rattle.mb_world_model.specs.World.{World, System}
+use Rattle.mb_world_model.specs.WorldRecord.{prefix, plans, IsConsistent}
+use Rattle.mb_host_laws.specs.Rests.{Each}
+use Rattle.mb_world_laws.proofs.Facts.{Facts}
 use Rattle.mb_views.proofs.Follows.{JumpsLed}
-use Rattle.mb_known.proofs.Moments.{IsPast}
+use Rattle.mb_host_laws.proofs.Moments.{IsPast}
 use Rattle.mb_views.proofs.Agreed.{consistent, views_agree_in}
 use Rattle.mb_line.proofs.Committed.{executed_committed}
 use Rattle.mb_line.proofs.SoundBatches.{IsSoundBatch}

@@ -18,7 +18,7 @@ use Rattle.mb_agreement.specs.Agreement.{IsConsistentRecord}
 use Rattle.mb_model.specs.Committed.{Plans, vote_by, vote_in}
 use Rattle.mb_model.proofs.Options.{option_cases, if_some}
 use Rattle.mb_agreement.proofs.WholeLists.{if_is, IsPlaced, prepare_is, commit_is, open_is, vote_placed}
-use Rattle.mb_known.proofs.Cases.{not_both}
+use Rattle.mb_host_laws.proofs.Cases.{not_both}
 
 module _ (s : Shape) (secret : Bytes) (plans : Plans) (issued : Claim → Bool) (prefix : ℕ → List Bare) (facts : IsConsistentRecord s secret plans issued prefix) (g : ℕ) where
   abbrev IsOrdered : List Bare → Type 0

@@ -24,9 +24,9 @@ use Rattle.mb_model.proofs.UsableLaws.{map_none}
 use Rattle.mb_model.proofs.PlanLaws.{lowest_from}
 use Rattle.mb_steps.proofs.StepPlanBases.{all_filter}
 use Rattle.mb_model.proofs.Members.{all_in}
-use Rattle.mb_known.proofs.Cases.{some_is}
-use Rattle.mb_known.proofs.Found.{all_newest}
-use Rattle.mb_theory.proofs.Lists.{in_at}
+use Rattle.mb_host_laws.proofs.Cases.{some_is}
+use Rattle.mb_host_laws.proofs.Found.{all_newest}
+use Rattle.mb_model.proofs.Lists.{in_at}
 use Rattle.mb_line.proofs.Batches.{batch_in, batches_in_open, shown_batches}
 use Rattle.mb_model.specs.Verified.{are_rightly_tagged}
 use Rattle.mb_parts.specs.declared.batch.Batch.{Batch}

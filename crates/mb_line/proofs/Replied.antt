@@ -7,12 +7,13 @@ use Rattle.mb_model.specs.Histories.{History}
 use Rattle.mb_model.specs.Sending.{Letter}
 use Rattle.mb_model.specs.Given.{stored_reply}
 use Rattle.mb_model.specs.HostStep.{transition}
-use Rattle.mb_model.proofs.Members.{In, all_in}
+use Rattle.mb_model.specs.Members.{In}
+use Rattle.mb_model.proofs.Members.{all_in}
 use Rattle.mb_schedule.specs.Limits.{IsSchedule}
-use Rattle.mb_theory.specs.WorldEvents.{IsCorrect}
-use Rattle.mb_theory.specs.World.{World, System, self_of, with_tagged, is_tagged_message}
-use Rattle.mb_theory.specs.WorldSteps.{world}
-use Rattle.mb_known.proofs.Moments.{IsPast, past_past}
+use Rattle.mb_world_model.specs.WorldEvents.{IsCorrect}
+use Rattle.mb_world_model.specs.World.{World, System, self_of, with_tagged, is_tagged_message}
+use Rattle.mb_world_model.specs.WorldSteps.{world}
+use Rattle.mb_host_laws.proofs.Moments.{IsPast, past_past}
 use Rattle.mb_line.proofs.Walks.{is_reply}
 use Rattle.mb_line.proofs.StepDone.{IsStored, IsDone, step_done}
 use Rattle.mb_line.proofs.Moves.{IsStep, Moves, world_moves}

@@ -13,21 +13,22 @@ use Rattle.mb_model.specs.Histories.{Executed, History}
 use Rattle.mb_model.specs.Histories as entry
 use Rattle.mb_model.specs.Positions.{exec_of}
 use Rattle.mb_model.specs.CarriedOut.{just_served}
-use Rattle.mb_model.proofs.Members.{In, in_contained, contained, in_map, all_in}
+use Rattle.mb_model.specs.Members.{In}
+use Rattle.mb_model.proofs.Members.{in_contained, contained, in_map, all_in}
 use Rattle.mb_steps.specs.Arises.{Serves}
-use Rattle.mb_theory.specs.Headline.{IsService}
-use Rattle.mb_theory.specs.WorldEvents.{IsCorrect}
-use Rattle.mb_theory.specs.World.{World, System, self_of}
-use Rattle.mb_theory.specs.Safety.{after_line, after_requests, IsLineRequest, IsLineSlot, StandsAt, IsBefore, IsSafe}
-use Rattle.mb_known.proofs.Rests.{Each}
-use Rattle.mb_known.proofs.Facts.{Facts}
-use Rattle.mb_known.proofs.Moments.{IsPast, past_tail}
+use Rattle.mb_promise.specs.Headline.{IsService}
+use Rattle.mb_world_model.specs.WorldEvents.{IsCorrect}
+use Rattle.mb_world_model.specs.World.{World, System, self_of}
+use Rattle.mb_promise.specs.Safety.{after_line, after_requests, IsLineRequest, IsLineSlot, StandsAt, IsBefore, IsSafe}
+use Rattle.mb_host_laws.specs.Rests.{Each}
+use Rattle.mb_world_laws.proofs.Facts.{Facts}
+use Rattle.mb_host_laws.proofs.Moments.{IsPast, past_tail}
 use Rattle.mb_views.proofs.Follows.{JumpsLed}
 use Rattle.mb_line.proofs.StepDone.{past_whole}
 use Rattle.mb_line.proofs.WholeBatches.{IsWholeAll}
-use Rattle.mb_theory.proofs.Lists.{in_at}
-use Rattle.mb_theory.proofs.Marked.{AreMarked, marked_push, marked_same, marked_at}
-use Rattle.mb_theory.proofs.Rising.{fresh_rises}
+use Rattle.mb_model.proofs.Lists.{in_at}
+use Rattle.mb_host_laws.proofs.Marked.{AreMarked, marked_push, marked_same, marked_at}
+use Rattle.mb_host_laws.proofs.Rising.{fresh_rises}
 use Rattle.mb_line.proofs.Marks.{requests_of}
 use Rattle.mb_line.proofs.OneExecuted.{IsSound, executed_batch}
 use Rattle.mb_line.proofs.Executions.{in_past, past_in}

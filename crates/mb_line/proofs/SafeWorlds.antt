@@ -4,17 +4,17 @@
 use Rattle.std.proofs.Common.{ℕ, zero, suc, arith}
 use Rattle.mb_model.specs.Histories.{Executed}
 use Rattle.mb_model.specs.Positions.{exec_of}
-use Rattle.mb_theory.specs.Hashed.{HashesApart}
-use Rattle.mb_theory.specs.Headline.{IsService}
+use Rattle.mb_world_model.specs.Hashed.{HashesApart}
+use Rattle.mb_promise.specs.Headline.{IsService}
 use Rattle.mb_schedule.specs.Limits.{IsSchedule}
-use Rattle.mb_theory.specs.WorldEvents.{IsCorrect}
-use Rattle.mb_theory.specs.World.{World, System}
-use Rattle.mb_theory.specs.WorldSteps.{world}
-use Rattle.mb_theory.specs.Stops.{IsUnstopped}
-use Rattle.mb_theory.specs.Safety.{IsSafe}
-use Rattle.mb_known.proofs.Rests.{Each}
-use Rattle.mb_known.proofs.Standings.{Passage, before_last, passage}
-use Rattle.mb_known.proofs.Facts.{Facts}
+use Rattle.mb_world_model.specs.WorldEvents.{IsCorrect}
+use Rattle.mb_world_model.specs.World.{World, System}
+use Rattle.mb_world_model.specs.WorldSteps.{world}
+use Rattle.mb_world_model.specs.Stops.{IsUnstopped}
+use Rattle.mb_promise.specs.Safety.{IsSafe}
+use Rattle.mb_host_laws.specs.Rests.{Each}
+use Rattle.mb_world_laws.proofs.Standings.{Passage, before_last, passage}
+use Rattle.mb_world_laws.proofs.Facts.{Facts}
 use Rattle.mb_views.proofs.Follows.{JumpsLed}
 use Rattle.mb_views.proofs.Jumps.{apart_before, jumps_led}
 use Rattle.mb_line.proofs.Moves.{world_moves}

@@ -27,12 +27,12 @@ use Rattle.mb_model.specs.CarriedOut.{just_served}
 use Rattle.mb_model.specs.Clients.{agrees}
 use Rattle.mb_model.proofs.Members.{in_contained, contained, all_in}
 use Rattle.mb_model.proofs.ServiceLaws.{each_push, served_push, each_length}
-use Rattle.mb_theory.specs.WorldEvents.{IsCorrect, IsCorrectClient}
-use Rattle.mb_theory.specs.World.{World, System, self_of}
-use Rattle.mb_theory.specs.Safety.{after_line, after_requests, IsServedResult, AreServedResults, IsSafe}
-use Rattle.mb_theory.proofs.Lists.{get_there, take_next}
-use Rattle.mb_known.proofs.Facts.{Facts}
-use Rattle.mb_known.proofs.Moments.{IsPast}
+use Rattle.mb_world_model.specs.WorldEvents.{IsCorrect, IsCorrectClient}
+use Rattle.mb_world_model.specs.World.{World, System, self_of}
+use Rattle.mb_promise.specs.Safety.{after_line, after_requests, IsServedResult, AreServedResults, IsSafe}
+use Rattle.mb_model.proofs.Lists.{get_there, take_next}
+use Rattle.mb_world_laws.proofs.Facts.{Facts}
+use Rattle.mb_host_laws.proofs.Moments.{IsPast}
 use Rattle.mb_line.proofs.ReplyBytes.{wish_differs, number_same, FitsWidely, AreLike, same_reply}
 use Rattle.mb_line.proofs.Replied.{IsReplied, IsTagged, AllTagged}
 use Rattle.mb_line.proofs.Askers.{IsCounted, IsAnswer, AskerStands}

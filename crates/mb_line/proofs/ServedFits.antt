@@ -20,8 +20,8 @@ use Rattle.mb_parts.specs.Fits.{FitsText, FitsRequest}
 use Rattle.mb_model.specs.declared.known.LastReply.{LastReply}
 use Rattle.mb_model.specs.Service.{Machine, Served, no_reply, start, served, served_each, is_fresh}
 use Rattle.mb_model.specs.States.{Snapshots, is_place_of, is_size_of, last_reply_at, table_bytes, table_of, parts_of, restored, service_parts, table_part}
-use Rattle.mb_theory.specs.Headline.{state_after, IsService}
-use Rattle.mb_theory.proofs.Lists.{get_push}
+use Rattle.mb_promise.specs.Headline.{state_after, IsService}
+use Rattle.mb_model.proofs.Lists.{get_push}
 use Rattle.mb_line.proofs.Marks.{requests_of}
 use Rattle.mb_line.proofs.InstalledState.{range_length}
 

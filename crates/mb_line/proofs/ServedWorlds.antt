@@ -1,13 +1,13 @@
 -- In each world that nothing stopped accepted results are the service's, while no two of its hashed strings share a digest.
 use Rattle.std.proofs.Common.{ℕ}
-use Rattle.mb_theory.specs.Hashed.{HashesApart}
-use Rattle.mb_theory.specs.Headline.{IsService}
+use Rattle.mb_world_model.specs.Hashed.{HashesApart}
+use Rattle.mb_promise.specs.Headline.{IsService}
 use Rattle.mb_schedule.specs.Limits.{IsSchedule}
-use Rattle.mb_theory.specs.World.{World, System}
-use Rattle.mb_theory.specs.WorldSteps.{world}
-use Rattle.mb_theory.specs.Stops.{IsUnstopped}
-use Rattle.mb_theory.specs.Safety.{AreServedResults}
-use Rattle.mb_known.proofs.Facts.{Facts}
+use Rattle.mb_world_model.specs.World.{World, System}
+use Rattle.mb_world_model.specs.WorldSteps.{world}
+use Rattle.mb_world_model.specs.Stops.{IsUnstopped}
+use Rattle.mb_promise.specs.Safety.{AreServedResults}
+use Rattle.mb_world_laws.proofs.Facts.{Facts}
 use Rattle.mb_views.proofs.Jumps.{jumps_led}
 use Rattle.mb_line.proofs.Line.{LineStands}
 use Rattle.mb_line.proofs.Along.{line_fits, within, along, closed_later, along_fits}

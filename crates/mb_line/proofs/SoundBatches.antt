@@ -30,22 +30,24 @@ use Rattle.mb_model.specs.OwnLog.{behind_opening, behind_change, kept_forms, as_
 use Rattle.mb_model.specs.Sending.{next_ui}
 use Rattle.mb_model.specs.Making.{view_change}
 use Rattle.mb_model.proofs.Options.{if_some}
-use Rattle.mb_model.proofs.Members.{In, contained, in_left, in_right, all_in}
+use Rattle.mb_model.specs.Members.{In}
+use Rattle.mb_model.proofs.Members.{contained, in_left, in_right, all_in}
 use Rattle.mb_steps.specs.Arises.{Makes}
 use Rattle.mb_steps.proofs.StepPlanBases.{all_filter}
 use Rattle.mb_model.specs.Inside.{requests_in, bodies_in}
-use Rattle.mb_theory.specs.WorldEvents.{IsCorrect, IsCorrectClient}
-use Rattle.mb_theory.specs.World.{World, System, self_of}
-use Rattle.mb_theory.proofs.Lists.{all_append}
-use Rattle.mb_theory.proofs.KeptForms.{forms_keep}
-use Rattle.mb_known.proofs.Cases.{all_reverse, all_taken, same_whole, some_is, all_holds}
-use Rattle.mb_known.proofs.Rests.{Each}
-use Rattle.mb_known.proofs.Grown.{WasAsked}
-use Rattle.mb_known.proofs.Facts.{Facts}
+use Rattle.mb_world_model.specs.WorldEvents.{IsCorrect, IsCorrectClient}
+use Rattle.mb_world_model.specs.World.{World, System, self_of}
+use Rattle.mb_model.proofs.Lists.{all_append}
+use Rattle.mb_host_laws.proofs.KeptForms.{forms_keep}
+use Rattle.mb_host_laws.proofs.Cases.{all_reverse, all_taken, same_whole, some_is, all_holds}
+use Rattle.mb_host_laws.specs.Rests.{Each}
+use Rattle.mb_world_laws.proofs.Grown.{WasAsked}
+use Rattle.mb_world_laws.proofs.Facts.{Facts}
 use Rattle.mb_views.proofs.Follows.{JumpsLed}
-use Rattle.mb_known.proofs.Moments.{IsPast, past_tail, each_at}
+use Rattle.mb_host_laws.proofs.Moments.{IsPast, past_tail, each_at}
 use Rattle.mb_views.proofs.Floors.{arises_then}
-use Rattle.mb_known.proofs.Parts.{part_requests, accepted_fits, accepted_body_hashed}
+use Rattle.mb_host_laws.proofs.Parts.{part_requests}
+use Rattle.mb_world_laws.proofs.AcceptedParts.{accepted_fits, accepted_body_hashed}
 use Rattle.mb_line.proofs.PlanBatches.{AllShown, AllOfLogs, log_tagged}
 use Rattle.mb_msg.specs.Bodies.{whole_body, inside_whole}
 use Rattle.mb_line.proofs.Batches.{shown_batches, batches_fit, batches_in, IsInside, batches_inside, change_batches}

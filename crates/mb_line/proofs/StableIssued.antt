@@ -19,14 +19,14 @@ use Rattle.mb_model.specs.Stable.{stable_of}
 use Rattle.mb_model.specs.Verified.{verifies}
 use Rattle.mb_model.proofs.Members.{in_contained}
 use Rattle.mb_steps.specs.Arises.{Arises}
-use Rattle.mb_theory.specs.Justification.{IsGiven, IsKnown}
-use Rattle.mb_theory.specs.WorldEvents.{IsCorrect}
-use Rattle.mb_theory.specs.World.{World, System, self_of, stamps}
-use Rattle.mb_theory.specs.WorldRecord.{issued}
-use Rattle.mb_known.proofs.Cases.{some_is}
-use Rattle.mb_known.proofs.Found.{bytes_at, each_carries}
-use Rattle.mb_known.proofs.Facts.{Facts}
-use Rattle.mb_known.proofs.Moments.{IsPast}
+use Rattle.mb_promise.specs.Justification.{IsGiven, IsKnown}
+use Rattle.mb_world_model.specs.WorldEvents.{IsCorrect}
+use Rattle.mb_world_model.specs.World.{World, System, self_of, stamps}
+use Rattle.mb_world_model.specs.WorldRecord.{issued}
+use Rattle.mb_host_laws.proofs.Cases.{some_is}
+use Rattle.mb_host_laws.proofs.Found.{bytes_at, each_carries}
+use Rattle.mb_world_laws.proofs.Facts.{Facts}
+use Rattle.mb_host_laws.proofs.Moments.{IsPast}
 use Rattle.mb_line.proofs.Executions.{past_adds}
 use Rattle.mb_views.proofs.KnownMembers.{all_known}
 

@@ -26,15 +26,16 @@ use Rattle.mb_model.specs.States.{digest_string, part_digests, state_digest}
 use Rattle.mb_model.specs.Execution.{part_held}
 use Rattle.mb_model.specs.PlainChecks.{string_at}
 use Rattle.mb_model.specs.Passed.{PassesState}
-use Rattle.mb_model.proofs.Members.{In, contained, in_left, in_right}
-use Rattle.mb_theory.specs.Hashed.{HashesApart}
-use Rattle.mb_theory.specs.World.{World, System, self_of, state_strings_in}
-use Rattle.mb_known.proofs.Cases.{all_at}
-use Rattle.mb_known.proofs.Moments.{IsPast, past_tail, each_at, past_past}
-use Rattle.mb_known.proofs.Rests.{IsPart}
-use Rattle.mb_known.proofs.Grown.{IsGivenTo}
-use Rattle.mb_known.proofs.Facts.{Facts}
-use Rattle.mb_theory.proofs.Lists.{in_at}
+use Rattle.mb_model.specs.Members.{In}
+use Rattle.mb_model.proofs.Members.{contained, in_left, in_right}
+use Rattle.mb_world_model.specs.Hashed.{HashesApart}
+use Rattle.mb_world_model.specs.World.{World, System, self_of, state_strings_in}
+use Rattle.mb_host_laws.proofs.Cases.{all_at}
+use Rattle.mb_host_laws.proofs.Moments.{IsPast, past_tail, each_at, past_past}
+use Rattle.mb_host_laws.specs.Rests.{IsPart}
+use Rattle.mb_world_laws.proofs.Grown.{IsGivenTo}
+use Rattle.mb_world_laws.proofs.Facts.{Facts}
+use Rattle.mb_model.proofs.Lists.{in_at}
 use Rattle.mb_line.proofs.StateParts.{part_digest, part_from, stable_stays, each_held}
 
 -- ---- lists of digests

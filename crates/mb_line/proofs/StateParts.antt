@@ -16,8 +16,8 @@ use Rattle.mb_model.specs.Execution.{part_in, part_of, part_held, missing}
 use Rattle.mb_model.specs.PlainChecks.{wrong_part, string_at}
 use Rattle.mb_model.proofs.Options.{or_some, if_some}
 use Rattle.mb_steps.proofs.StepPotential.{grown_low}
-use Rattle.mb_known.proofs.Cases.{not_false, slice_bound, some_none}
-use Rattle.mb_known.proofs.Moments.{IsPast}
+use Rattle.mb_host_laws.proofs.Cases.{not_false, slice_bound, some_none}
+use Rattle.mb_host_laws.proofs.Moments.{IsPast}
 use Rattle.mb_line.proofs.StepDone.{past_whole, past_more}
 
 -- ---- lists

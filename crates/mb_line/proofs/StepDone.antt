@@ -12,10 +12,10 @@ use Rattle.mb_model.specs.Sending.{Letter, Progress, begin, write, send, to_clie
 use Rattle.mb_model.specs.CarriedOut.{serve_all, slot_for, with_slot}
 use Rattle.mb_model.specs.Given.{stored_reply}
 use Rattle.mb_model.specs.HostStep.{transition}
-use Rattle.mb_theory.proofs.Lists.{all_append}
-use Rattle.mb_known.proofs.Cases.{all_more}
-use Rattle.mb_known.proofs.Moments.{IsPast}
-use Rattle.mb_theory.proofs.Walks.{is_quiet, serves_keep}
+use Rattle.mb_model.proofs.Lists.{all_append}
+use Rattle.mb_host_laws.proofs.Cases.{all_more}
+use Rattle.mb_host_laws.proofs.Moments.{IsPast}
+use Rattle.mb_host_laws.proofs.Walks.{is_quiet, serves_keep}
 use Rattle.mb_line.proofs.Walks.{is_reply, stamp_keeps, IsWalked, walked}
 
 -- the executed slots of a piece of a history, oldest first

@@ -20,8 +20,8 @@ use Rattle.mb_model.specs.Sending.{Letter, Progress, begin, write, send, note, s
 use Rattle.mb_model.specs.CarriedOut.{serve_all, close_slot}
 use Rattle.mb_model.specs.Given.{Answer, offer_prepare, give_entries, install, stored_reply}
 use Rattle.mb_model.specs.HostStep.{wish_again, finished_where, transition}
-use Rattle.mb_theory.proofs.KeptByEvents.{served_keep}
-use Rattle.mb_theory.proofs.Walks.{is_plain, is_quiet, KeepsRules, KeepsMoves, carried_keeps, given_by, events_by, offer_keeps as offered, entries_keep as entered, finished_keeps as finished, again_keeps as wished, event_keeps}
+use Rattle.mb_host_laws.proofs.KeptByEvents.{served_keep}
+use Rattle.mb_host_laws.proofs.Walks.{is_plain, is_quiet, KeepsRules, KeepsMoves, carried_keeps, given_by, events_by, offer_keeps as offered, entries_keep as entered, finished_keeps as finished, again_keeps as wished, event_keeps}
 
 abbrev pub is_reply : Message → Bool
 is_reply (message.Reply m) = true

@@ -12,12 +12,12 @@ use Rattle.mb_model.specs.CarriedOut.{just_served}
 use Rattle.mb_model.specs.HostStep.{transition}
 use Rattle.mb_steps.specs.Arises.{Adds, Arises, IsWhole}
 use Rattle.mb_steps.proofs.StepArises.{none_served}
-use Rattle.mb_theory.specs.World.{System, self_of}
-use Rattle.mb_theory.specs.WorldSteps.{world}
-use Rattle.mb_theory.proofs.KeptByEvents.{served_keep}
-use Rattle.mb_theory.proofs.KeptByWorlds.{world_keeps}
-use Rattle.mb_known.proofs.Moments.{IsPast}
-use Rattle.mb_theory.proofs.Walks.{is_quiet}
+use Rattle.mb_world_model.specs.World.{System, self_of}
+use Rattle.mb_world_model.specs.WorldSteps.{world}
+use Rattle.mb_host_laws.proofs.KeptByEvents.{served_keep}
+use Rattle.mb_world_laws.proofs.KeptByWorlds.{world_keeps}
+use Rattle.mb_host_laws.proofs.Moments.{IsPast}
+use Rattle.mb_host_laws.proofs.Walks.{is_quiet}
 use Rattle.mb_line.proofs.Walks.{IsWalked, walked}
 use Rattle.mb_line.proofs.StepDone.{past_more}
 

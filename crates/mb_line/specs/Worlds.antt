@@ -1,12 +1,12 @@
 -- What correct hosts executed and what clients accepted, in each world of a schedule.
 use Rattle.std.specs.Prelude.{ℕ, ◌≤◌, length}
-use Rattle.mb_theory.specs.Headline.{IsService}
-use Rattle.mb_theory.specs.Hashed.{HashesApart}
+use Rattle.mb_promise.specs.Headline.{IsService}
+use Rattle.mb_world_model.specs.Hashed.{HashesApart}
 use Rattle.mb_schedule.specs.Limits.{IsSchedule}
-use Rattle.mb_theory.specs.World.{World, System}
-use Rattle.mb_theory.specs.WorldSteps.{world}
-use Rattle.mb_theory.specs.Stops.{IsUnstopped}
-use Rattle.mb_theory.specs.Safety.{IsSafe, AreServedResults}
+use Rattle.mb_world_model.specs.World.{World, System}
+use Rattle.mb_world_model.specs.WorldSteps.{world}
+use Rattle.mb_world_model.specs.Stops.{IsUnstopped}
+use Rattle.mb_promise.specs.Safety.{IsSafe, AreServedResults}
 
 -- Correct hosts executed beginnings of one list, and each result that a correct client accepted is the service's there.
 pub record HasOneList {S : Type 0} (system : System S) (w : World) : Type 0 where

@@ -6,8 +6,8 @@ use Rattle.mb_msg.specs.declared.message.Message.TheVariants as message
 use Rattle.mb_schedule.specs.declared.schedule.Schedule.{Schedule}
 use Rattle.mb_schedule.specs.declared.schedule.WorldEvent.{WorldEvent}
 use Rattle.mb_schedule.specs.declared.schedule.WorldEvent.TheVariants.{Give, Take}
-use Rattle.mb_theory.specs.World.{World, System, message_at}
-use Rattle.mb_theory.specs.WorldSteps.{world}
+use Rattle.mb_world_model.specs.World.{World, System, message_at}
+use Rattle.mb_world_model.specs.WorldSteps.{world}
 use Rattle.mb_make.specs.Draws.{Generator, seeded, draw}
 
 -- ---- what is played of a draw

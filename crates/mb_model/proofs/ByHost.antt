@@ -13,7 +13,8 @@ use Rattle.mb_parts.specs.Claims.{are_rising}
 use Rattle.mb_model.specs.Plans.{ShownLog, log_of, by_host, plan_in_order}
 use Rattle.mb_model.specs.PlanOrder.{AreOfOneEach, PlansIgnoreOrder}
 use Rattle.mb_model.proofs.Options.{option_cases}
-use Rattle.mb_model.proofs.Members.{In, in_contained, contained}
+use Rattle.mb_model.specs.Members.{In}
+use Rattle.mb_model.proofs.Members.{in_contained, contained}
 
 -- ---- a rising list
 

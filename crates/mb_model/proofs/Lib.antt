@@ -11,3 +11,4 @@ pub mod CarriedLogs
 pub mod StepOnLiterals
 pub mod RisingLists
 pub mod ShapesFit
+pub mod Lists

@@ -1,17 +1,14 @@
 -- Members of lists, by recursion.
 --
--- `In` is what `Contains` says, in a form that steps through the list. Behind both ways between the two: members of joined lists, what holds of all members
--- or of some, and members of a mapped list.
-use Rattle.std.proofs.Common.{◌≡◌, zero, suc, List, [], ◌∷◌, ◌++◌, map, refl, ap, subst, inl, inr, ◌⊎◌, arith, Bool, true}
+-- `In` is what `Contains` says. Behind both ways between the two: members of joined lists, what holds of all members or of some, and members of a
+-- mapped list.
+use Rattle.std.proofs.Common.{◌≡◌, zero, suc, List, [], ◌∷◌, ◌++◌, map, refl, ap, subst, inl, inr, arith, Bool, true}
 use Rattle.std.specs.Prelude.{Contains}
 use Rattle.std.specs.List.{AllByRecursion, list_any}
 use Rattle.std.proofs.lemmas.Bool.{or_cases}
+use Rattle.mb_model.specs.Members.{In}
 
 module _ {A : Type 0} where
-  abbrev pub In : List A → A → Type 0
-  In [] x = ⊥
-  In (y ∷ l) x = (y ≡ x) ⊎ In l x
-
   pub in_contained : (l : List A) (x : A) → Contains l x → In l x
   in_contained [] x c = let lt = c.1 in absurd (omega arith)
   in_contained (y ∷ l) x (zero, lt, at) = inl at

@@ -12,7 +12,8 @@ use Rattle.mb_base.specs.Shapes.{tally}
 use Rattle.mb_parts.specs.declared.certificates.StableCert.{StableCert}
 use Rattle.mb_parts.specs.Claims.{are_rising}
 use Rattle.mb_model.specs.Plans.{ShownLog, ShownVote, newest, opened_view, same_view, greater, highest_view, of_view, lower_vote, lowest_vote, vote_since, batches_from, base_shown, stable_of, opening_bases, greatest_position, cert_at, no_base, all_bases, base_of}
-use Rattle.mb_model.proofs.Members.{In, in_left, in_right, in_map}
+use Rattle.mb_model.specs.Members.{In}
+use Rattle.mb_model.proofs.Members.{in_left, in_right, in_map}
 use Rattle.mb_model.proofs.ByHost.{rising_tail}
 
 -- ---- a rising list of hosts is as many hosts as it is long

@@ -1,3 +1,4 @@
+pub mod Members
 pub mod Service
 pub mod Batches
 pub mod Votes

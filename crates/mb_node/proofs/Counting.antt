@@ -47,8 +47,8 @@ use Rattle.mb_model.proofs.Options.{option_cases, or_some}
 use Rattle.mb_steps.specs.Arises.{IsWhole}
 use Rattle.mb_steps.proofs.StepGivenArise.{give_arises}
 use Rattle.mb_model.proofs.ShapesFit.{shape_fits}
-use Rattle.mb_known.proofs.ReadFits.{read_fits}
-use Rattle.mb_known.proofs.Executing.{may_execute}
+use Rattle.mb_reading_laws.proofs.ReadFits.{read_fits}
+use Rattle.mb_host_laws.proofs.Executing.{may_execute}
 use Rattle.mb_searches.specs.Sound.{IsSound}
 use Rattle.mb_searches.proofs.Sound.{stays_sound}
 use Rattle.mb_searches.proofs.SoundSteps.{give_sound}

@@ -13,7 +13,7 @@ use Rattle.mb_model.specs.Histories.{History, Identity, onto}
 use Rattle.mb_steps.specs.Arises.{IsWhole}
 use Rattle.mb_sched.specs.declared.records.Entry.{Entry}
 use Rattle.mb_sched.specs.Records.{entry_text}
-use Rattle.mb_theory.proofs.Lists.{all_append}
+use Rattle.mb_model.proofs.Lists.{all_append}
 use Rattle.mb_edge.specs.Told.{with_more}
 use Rattle.mb_edge.proofs.PieceLemmas.{appended_both}
 use Rattle.mb_edge.proofs.ToldLemmas.{with_more-nil, with_more-append}

@@ -6,7 +6,7 @@ use Rattle.mb_model.specs.Clients.{Asker, no_asker}
 use Rattle.mb_schedule.specs.declared.schedule.Schedule.{Schedule}
 use Rattle.mb_client.specs.declared.asker.Asker.{Asker as Kept}
 use Rattle.mb_client.specs.Represents.{Represents}
-use Rattle.mb_theory.specs.World.{update}
+use Rattle.mb_world_model.specs.World.{update}
 use Rattle.mb_parties.specs.Askers.{AskedWithin, AreOfShape, RepresentsAskers}
 use Rattle.mb_parties.proofs.ListLaws.{each_set, each_push, update_here, update_there}
 

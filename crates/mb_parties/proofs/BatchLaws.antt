@@ -12,9 +12,9 @@ use Rattle.mb_parts.specs.Counted.{counted}
 use Rattle.mb_parts.specs.Spelling.{request_bytes}
 use Rattle.mb_model.specs.Batches.{has_place}
 use Rattle.mb_schedule.specs.declared.schedule.Schedule.{Schedule}
-use Rattle.mb_theory.specs.World.{World as WorldState}
-use Rattle.mb_theory.specs.FaultyHosts.{request_at, misfit}
-use Rattle.mb_theory.specs.Stops.{WrongKind}
+use Rattle.mb_world_model.specs.World.{World as WorldState}
+use Rattle.mb_world_model.specs.FaultyHosts.{request_at, misfit}
+use Rattle.mb_world_model.specs.Stops.{WrongKind}
 
 module _ (s : Schedule) (x : WorldState) where
   -- It goes in, and those behind it are looked at.

@@ -11,8 +11,8 @@ use Rattle.mb_model.proofs.Options.{option_cases}
 use Rattle.mb_schedule.specs.declared.schedule.Schedule.{Schedule}
 use Rattle.mb_schedule.specs.Limits.{is_faulty}
 use Rattle.mb_model.specs.Histories.{History}
-use Rattle.mb_theory.specs.World.{World as WorldState, System, FaultyStamp, read}
-use Rattle.mb_theory.specs.FaultyHosts.{stamped_after}
+use Rattle.mb_world_model.specs.World.{World as WorldState, System, FaultyStamp, read}
+use Rattle.mb_world_model.specs.FaultyHosts.{stamped_after}
 use Rattle.mb_parties.specs.declared.members.FaultyHost.{FaultyHost}
 use Rattle.mb_parties.specs.declared.members.Member.{Member}
 use Rattle.mb_parties.specs.declared.members.Member.TheVariants as member

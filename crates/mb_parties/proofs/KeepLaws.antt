@@ -15,7 +15,7 @@ use Rattle.mb_schedule.specs.declared.schedule.Schedule.{Schedule}
 use Rattle.mb_schedule.specs.Limits.{is_faulty}
 use Rattle.mb_replica.specs.declared.told.Outgoing.{Outgoing}
 use Rattle.mb_replica.specs.Told.{as_outgoing}
-use Rattle.mb_theory.specs.World.{World as WorldState, nothing_happened, FaultyStamp, update, stamps, partway}
+use Rattle.mb_world_model.specs.World.{World as WorldState, nothing_happened, FaultyStamp, update, stamps, partway}
 use Rattle.mb_forged.specs.declared.ledger.Ledger.{Ledger}
 use Rattle.mb_forged.specs.Ledgers.{Keeps, KeepsWorld}
 use Rattle.mb_parties.specs.Stamps.{bare_in, bares_of}

@@ -16,12 +16,13 @@ use Rattle.mb_msg.specs.Spelling.{spelling}
 use Rattle.mb_msg.specs.Stamps.{as_stamped, bare_of}
 use Rattle.mb_msg.proofs.Messages.{message_again}
 use Rattle.mb_model.specs.Sending.{Letter}
-use Rattle.mb_model.proofs.Members.{In, contained}
+use Rattle.mb_model.specs.Members.{In}
+use Rattle.mb_model.proofs.Members.{contained}
 use Rattle.mb_model.proofs.ShapesFit.{shape_fits}
 use Rattle.mb_schedule.specs.declared.schedule.Schedule.{Schedule}
-use Rattle.mb_theory.specs.World.{World as WorldState, update, numbered, read, stamps, is_tagged_message, with_tagged}
-use Rattle.mb_theory.proofs.Lists.{get_more}
-use Rattle.mb_theory.specs.Forged.{IsUnforged}
+use Rattle.mb_world_model.specs.World.{World as WorldState, update, numbered, read, stamps, is_tagged_message, with_tagged}
+use Rattle.mb_model.proofs.Lists.{get_more}
+use Rattle.mb_world_model.specs.Forged.{IsUnforged}
 use Rattle.mb_forged.specs.Checks.{MadeMore}
 use Rattle.mb_forged.proofs.CleanLaws.{clean_stays}
 use Rattle.mb_replica.specs.declared.told.Said.{Said}

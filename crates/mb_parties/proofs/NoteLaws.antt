@@ -17,7 +17,7 @@ use Rattle.mb_model.proofs.Options.{option_cases}
 use Rattle.mb_replica.specs.declared.told.Outgoing.{Outgoing}
 use Rattle.mb_replica.specs.declared.told.Said.{Said}
 use Rattle.mb_replica.specs.Told.{as_outgoing, said_in, said_of}
-use Rattle.mb_theory.specs.World.{update, with_tagged}
+use Rattle.mb_world_model.specs.World.{update, with_tagged}
 use Rattle.mb_forged.specs.declared.ledger.Ledger.{Ledger}
 use Rattle.mb_forged.specs.Ledgers.{Keeps}
 use Rattle.mb_parties.specs.Stamps.{bare_in}

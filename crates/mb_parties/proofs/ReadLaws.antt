@@ -6,7 +6,7 @@ use Rattle.mb_msg.specs.declared.event.Outcome.{Outcome}
 use Rattle.mb_msg.specs.declared.event.Outcome.TheVariants as outcome
 use Rattle.mb_msg.specs.declared.normal.Reply.{Reply}
 use Rattle.mb_schedule.specs.declared.schedule.Schedule.{Schedule}
-use Rattle.mb_theory.specs.World.{World as WorldState, answered, client_reads, takes_reply, Unread}
+use Rattle.mb_world_model.specs.World.{World as WorldState, answered, client_reads, takes_reply, Unread}
 use Rattle.mb_parties.specs.Replies.{reply_or}
 
 pub reads_reply : (s : Schedule) (c : ℕ) (read : Result Message ℕ) (r : Reply) (x : WorldState) → Ok r ≡ reply_or read → client_reads s c read x ≡ takes_reply s c r x

@@ -22,9 +22,9 @@ use Rattle.mb_model.specs.Sending.{no_ui}
 use Rattle.mb_searches.proofs.OwnLog.{kept_length}
 use Rattle.mb_fitting.proofs.Sizes.{length8, length64}
 use Rattle.mb_schedule.specs.declared.schedule.Schedule.{Schedule}
-use Rattle.mb_theory.specs.World.{World as WorldState}
-use Rattle.mb_theory.specs.FaultyHosts.{stamped_after, log_after, change_after, is_sendable_change, faulty_message, faulty_ui, bare_bytes_of}
-use Rattle.mb_theory.specs.Stops.{WrongKind}
+use Rattle.mb_world_model.specs.World.{World as WorldState}
+use Rattle.mb_world_model.specs.FaultyHosts.{stamped_after, log_after, change_after, is_sendable_change, faulty_message, faulty_ui, bare_bytes_of}
+use Rattle.mb_world_model.specs.Stops.{WrongKind}
 use Rattle.mb_forged.specs.Contents.{placeholder, unstamped, change_of}
 
 counted_longer : (xs : Bytes) (most : ℕ) → most < counted 0 xs → most < length xs

@@ -14,8 +14,8 @@ use Rattle.mb_steps.proofs.StepRounds.{bare_under}
 use Rattle.mb_schedule.specs.declared.schedule.Schedule.{Schedule}
 use Rattle.mb_schedule.specs.Limits.{is_faulty}
 use Rattle.mb_core.specs.declared.replica.Replica.{Replica}
-use Rattle.mb_theory.specs.World.{World as WorldState, System, FaultyStamp, update}
-use Rattle.mb_theory.specs.FaultyHosts.{bare_bytes_of, faulty_message, faulty_ui, stamp_as, stamp_content, stamp_bytes}
+use Rattle.mb_world_model.specs.World.{World as WorldState, System, FaultyStamp, update}
+use Rattle.mb_world_model.specs.FaultyHosts.{bare_bytes_of, faulty_message, faulty_ui, stamp_as, stamp_content, stamp_bytes}
 use Rattle.mb_forged.specs.Contents.{placeholder, unstamped}
 use Rattle.mb_parties.specs.declared.members.FaultyHost.{FaultyHost}
 use Rattle.mb_parties.specs.declared.members.Member.{Member}

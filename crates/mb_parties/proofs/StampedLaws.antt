@@ -23,7 +23,7 @@ use Rattle.std.specs.List.{AllByRecursion}
 use Rattle.mb_msg.specs.Fits.{Fits}
 use Rattle.mb_steps.specs.Arises.{IsWhole}
 use Rattle.mb_steps.proofs.StepPlanBases.{all_append}
-use Rattle.mb_theory.proofs.Walks.{is_plain, is_quiet, KeepsMoves, serves_keep, events_by, event_keeps}
+use Rattle.mb_host_laws.proofs.Walks.{is_plain, is_quiet, KeepsMoves, serves_keep, events_by, event_keeps}
 use Rattle.mb_searches.specs.Speaks.{is_stamp}
 use Rattle.mb_searches.specs.Sound.{IsSound}
 use Rattle.mb_searches.proofs.SoundRules.{transition_sound}

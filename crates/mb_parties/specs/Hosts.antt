@@ -2,7 +2,7 @@
 use Rattle.std.specs.Prelude.{◌≡◌, ℕ, List, Some, Result, slice_get}
 use Rattle.mb_base.specs.Shapes.{Bytes}
 use Rattle.mb_cache.specs.Represents.{machine_of, snapshots_of}
-use Rattle.mb_theory.specs.World.{System}
+use Rattle.mb_world_model.specs.World.{System}
 
 -- Its hosts are made with this service, in one of its states.
 pub record IsSystem {V : Type 0} (is_state : V → Type 0) (after : V → Bytes → V) (result : V → Bytes → Bytes) (part : V → ℕ → Bytes) (restored : List Bytes → Result V (ℕ × ℕ)) (y : System V) : Type 0 where

@@ -10,7 +10,7 @@ use Rattle.mb_schedule.specs.declared.report.HostState.{HostState}
 use Rattle.mb_schedule.specs.declared.report.ClientLine.{ClientLine}
 use Rattle.mb_schedule.specs.declared.report.LastResult.{LastResult}
 use Rattle.mb_schedule.specs.Limits.{is_faulty}
-use Rattle.mb_theory.specs.World.{World, System, self_of}
+use Rattle.mb_world_model.specs.World.{World, System, self_of}
 
 -- where a host stands
 abbrev pub state_line : {S : Type 0} → Identity S → History → HostState

@@ -9,8 +9,8 @@ use Rattle.mb_schedule.specs.declared.schedule.Schedule.{Schedule}
 use Rattle.mb_replica.specs.declared.told.Said.{Said}
 use Rattle.mb_replica.specs.declared.told.Outgoing.{Outgoing}
 use Rattle.mb_replica.specs.Told.{KnowsBytes}
-use Rattle.mb_theory.specs.World.{World, numbered, read}
-use Rattle.mb_theory.specs.Forged.{IsUnforged}
+use Rattle.mb_world_model.specs.World.{World, numbered, read}
+use Rattle.mb_world_model.specs.Forged.{IsUnforged}
 use Rattle.mb_parties.specs.declared.marks.Mark.{Mark}
 
 -- Of this message nothing is known.

@@ -13,7 +13,7 @@ use Rattle.mb_core.specs.declared.replica.Replica.{Replica}
 use Rattle.mb_replica.specs.declared.told.Told.{Told}
 use Rattle.mb_core.specs.Represents.{Represents, IsAtRest}
 use Rattle.mb_replica.specs.Represents.{IsTold}
-use Rattle.mb_theory.specs.World.{System, FaultyStamp, self_of, update}
+use Rattle.mb_world_model.specs.World.{System, FaultyStamp, self_of, update}
 use Rattle.mb_parties.specs.declared.members.FaultyHost.{FaultyHost}
 use Rattle.mb_parties.specs.declared.members.Member.{Member}
 use Rattle.mb_parties.specs.declared.members.Member.TheVariants as member

@@ -10,7 +10,7 @@ use Rattle.mb_msg.specs.Stamps.{bare_of, with_ui, as_message}
 use Rattle.mb_model.specs.Histories.{History}
 use Rattle.mb_schedule.specs.declared.schedule.Schedule.{Schedule}
 use Rattle.mb_schedule.specs.Limits.{is_faulty}
-use Rattle.mb_theory.specs.World.{System, FaultyStamp, update}
+use Rattle.mb_world_model.specs.World.{System, FaultyStamp, update}
 use Rattle.mb_parties.specs.declared.members.Stamp.{Stamp}
 use Rattle.mb_parties.specs.declared.members.Member.{Member}
 use Rattle.mb_parties.specs.Members.{RepresentsMembers}

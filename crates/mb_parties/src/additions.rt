@@ -1,7 +1,7 @@
 //! What a correct host's step adds to the messages that were made, and to the one list of executed batches.
 
 ghost use Rattle.std.specs.Prelude.{◌≡◌, ◌++◌, map, fold, OnOk};
-ghost use Rattle.mb_theory.specs.World.{extended};
+ghost use Rattle.mb_world_model.specs.World.{extended};
 
 use mb_base::{Items, NoMemory};
 use mb_msg::Slot;

@@ -7,7 +7,7 @@ ghost use Rattle.mb_parts.specs.Fits.{FitsText, FitsRequest};
 ghost use Rattle.mb_model.specs.Clients.{Asker as Asking, no_asker, asks, taken, takes};
 ghost use Rattle.mb_schedule.specs.declared.schedule.Schedule.{Schedule};
 ghost use Rattle.mb_client.specs.Represents.{as_taken};
-ghost use Rattle.mb_theory.specs.World.{request_of, update};
+ghost use Rattle.mb_world_model.specs.World.{request_of, update};
 ghost use Rattle.mb_forged.specs.Checks.{ArePens};
 ghost use Rattle.mb_msg.specs.Fits.{FitsReply};
 ghost use Rattle.mb_msg.specs.Reading.{message_of};

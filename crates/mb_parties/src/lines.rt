@@ -7,7 +7,7 @@ ghost use Rattle.mb_base.specs.declared.shape.Shape.{Shape};
 ghost use Rattle.mb_model.specs.Histories.{History};
 ghost use Rattle.mb_model.specs.Clients.{Asker as Asking};
 ghost use Rattle.mb_schedule.specs.declared.schedule.Schedule.{Schedule};
-ghost use Rattle.mb_theory.specs.World.{World as WorldState, System, self_of};
+ghost use Rattle.mb_world_model.specs.World.{World as WorldState, System, self_of};
 ghost use Rattle.mb_client.specs.Represents.{Represents};
 ghost use Rattle.mb_parties.specs.Askers.{RepresentsAskers};
 ghost use Rattle.mb_parties.specs.Members.{IsCorrectHost, IsMember, RepresentsMembers};

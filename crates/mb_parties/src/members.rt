@@ -4,7 +4,7 @@ ghost use Rattle.std.specs.Prelude.{◌≡◌, ◌<◌, ◌≤◌, false, length
 ghost use Rattle.mb_base.specs.Shapes.{host_count};
 ghost use Rattle.mb_base.specs.declared.shape.Shape.{Shape as ShapeRecord};
 ghost use Rattle.mb_model.specs.Histories.{History};
-ghost use Rattle.mb_theory.specs.World.{System, FaultyStamp};
+ghost use Rattle.mb_world_model.specs.World.{System, FaultyStamp};
 ghost use Rattle.mb_core.specs.Represents.{IsAtRest};
 ghost use Rattle.mb_replica.specs.Told.{KnowsEvent};
 ghost use Rattle.mb_core.specs.declared.replica.Replica.{Replica};

@@ -1,7 +1,7 @@
 //! The line of a refused event.
 
 ghost use Rattle.std.specs.Prelude.{◌≡◌, Some, IfOk};
-ghost use Rattle.mb_theory.specs.Refusals.{refusal_of};
+ghost use Rattle.mb_world_model.specs.Refusals.{refusal_of};
 
 use mb_base::Items;
 use mb_msg::Outcome;

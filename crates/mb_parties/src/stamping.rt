@@ -4,7 +4,7 @@ ghost use Rattle.std.specs.Prelude.{◌≡◌, ◌<◌, ◌≤◌, ◌+◌, ◌-
 ghost use Rattle.mb_msg.specs.Fits.{FitsStamped};
 ghost use Rattle.mb_model.specs.Histories.{History};
 ghost use Rattle.mb_schedule.specs.declared.schedule.Schedule.{Schedule};
-ghost use Rattle.mb_theory.specs.World.{System, FaultyStamp};
+ghost use Rattle.mb_world_model.specs.World.{System, FaultyStamp};
 ghost use Rattle.mb_parties.specs.Members.{AllRun, AreOf, IsStamper, RepresentsMembers, StampedWithin};
 ghost use Rattle.mb_parties.specs.Stamping.{IsContentStamp, IsRawStamp, StampsContent, StampsBytes, kept_stamp};
 

@@ -7,7 +7,7 @@ ghost use Rattle.mb_parts.specs.declared.request.Request.{Request};
 ghost use Rattle.mb_msg.specs.declared.message.Message.{Message as MessageData};
 ghost use Rattle.mb_model.specs.Sending.{Letter};
 ghost use Rattle.mb_replica.specs.Told.{as_outgoing};
-ghost use Rattle.mb_theory.specs.World.{update, with_tagged};
+ghost use Rattle.mb_world_model.specs.World.{update, with_tagged};
 ghost use Rattle.mb_forged.specs.Ledgers.{Keeps};
 ghost use Rattle.mb_parties.specs.Stamps.{IsReadable, IsSent, bare_in};
 

@@ -19,18 +19,19 @@ use Rattle.mb_model.specs.Positions.{slot_in, slot_at, in_window}
 use Rattle.mb_model.specs.Execution.{state_of, pending, if_above, if_fresh, if_restored, state_from}
 use Rattle.mb_model.specs.Passed.{PassesRequest}
 use Rattle.mb_model.specs.EnabledRules.{number_of, greatest, greatest_in, number_in_slot, greatest_in_slots, window, unordered_of, unordered}
-use Rattle.mb_model.proofs.Members.{In, in_contained, contained, in_left, in_right, in_map}
+use Rattle.mb_model.specs.Members.{In}
+use Rattle.mb_model.proofs.Members.{in_contained, contained, in_left, in_right, in_map}
 use Rattle.mb_model.proofs.Options.{option_cases, if_some}
 use Rattle.mb_searches.proofs.Executing.{pending_client}
 use Rattle.mb_steps.specs.Arises.{Arises}
-use Rattle.mb_theory.specs.NothingLeft.{IsFull, IsInWindow, AreBelow, IsUnordered}
-use Rattle.mb_theory.specs.World.{self_of}
-use Rattle.mb_theory.specs.WorldSteps.{world}
-use Rattle.mb_theory.proofs.DueOrders.{in_range, slot_held}
-use Rattle.mb_theory.proofs.KeptByWorlds.{world_arises}
-use Rattle.mb_theory.proofs.Words.{window_says}
-use Rattle.mb_known.proofs.Cases.{some_is}
-use Rattle.mb_known.proofs.Moments.{arises_by}
+use Rattle.mb_promise.specs.NothingLeft.{IsFull, IsInWindow, AreBelow, IsUnordered}
+use Rattle.mb_world_model.specs.World.{self_of}
+use Rattle.mb_world_model.specs.WorldSteps.{world}
+use Rattle.mb_each_host.proofs.DueOrders.{in_range, slot_held}
+use Rattle.mb_world_laws.proofs.KeptByWorlds.{world_arises}
+use Rattle.mb_each_host.proofs.Words.{window_says}
+use Rattle.mb_host_laws.proofs.Cases.{some_is}
+use Rattle.mb_host_laws.proofs.Moments.{arises_by}
 use Rattle.mb_line.proofs.Executions.{in_parts}
 use Rattle.mb_due.proofs.OrdersAll.{orders_all_that_fit}
 use Rattle.mb_results.proofs.Replies.{reply_new, reply_again, reply_other, reply_past}

@@ -8,10 +8,10 @@ use Rattle.mb_msg.specs.declared.event.Event.TheVariants as event
 use Rattle.mb_msg.specs.Stamps.{as_stamped}
 use Rattle.mb_model.specs.Histories.{Entry, Accepted, Stamped, Jumped, Closed, Served, Executed, Installed, DroppedParts, LostPatience, Nudged, History, Identity, onto, by_host, origin, taken_of, closed_at, gate}
 use Rattle.mb_schedule.specs.declared.schedule.WorldEvent.{WorldEvent}
-use Rattle.mb_theory.specs.AddsGiven.{IsDone, ComesWith, AllCome, AddsWhatCame}
-use Rattle.mb_theory.specs.World.{System, self_of}
-use Rattle.mb_theory.specs.WorldSteps.{after, world}
-use Rattle.mb_known.proofs.Cases.{some_is, some_none}
+use Rattle.mb_promise.specs.AddsGiven.{IsDone, ComesWith, AllCome, AddsWhatCame}
+use Rattle.mb_world_model.specs.World.{System, self_of}
+use Rattle.mb_world_model.specs.WorldSteps.{after, world}
+use Rattle.mb_host_laws.proofs.Cases.{some_is, some_none}
 use Rattle.mb_due.proofs.Added.{hosts_add_given}
 use Rattle.mb_pins.proofs.WorldAdds.{history_moves}
 

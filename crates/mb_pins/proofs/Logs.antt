@@ -23,12 +23,12 @@ use Rattle.mb_model.specs.PlainChecks.{resend_refusal}
 use Rattle.mb_model.specs.Given.{give_resend}
 use Rattle.mb_model.specs.HostStep.{on_bytes, transition}
 use Rattle.mb_searches.proofs.OwnLog.{log_kept_length}
-use Rattle.mb_theory.specs.Bounds.{KeepsLimits}
-use Rattle.mb_theory.specs.ShowsLog.{next_shown, IsShownOf, ShowsLog}
-use Rattle.mb_theory.specs.World.{self_of}
-use Rattle.mb_theory.specs.WorldSteps.{world}
-use Rattle.mb_theory.proofs.Lists.{get_last, get_more}
-use Rattle.mb_theory.proofs.LogLimits.{hosts_keep_limits}
+use Rattle.mb_promise.specs.Bounds.{KeepsLimits}
+use Rattle.mb_promise.specs.ShowsLog.{next_shown, IsShownOf, ShowsLog}
+use Rattle.mb_world_model.specs.World.{self_of}
+use Rattle.mb_world_model.specs.WorldSteps.{world}
+use Rattle.mb_model.proofs.Lists.{get_last, get_more}
+use Rattle.mb_each_host.proofs.LogLimits.{hosts_keep_limits}
 use Rattle.mb_line.proofs.Walks.{finished_keeps}
 use Rattle.mb_due.proofs.Taken.{resend_passed, takes_what_passes}
 use Rattle.mb_due.proofs.Answers.{letter_walked, last_of}

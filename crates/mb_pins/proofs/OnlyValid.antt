@@ -50,17 +50,18 @@ use Rattle.mb_model.specs.GateChecks.{valid}
 use Rattle.mb_model.specs.KindChecks.{is_member, member_fault, members_fault, announces, new_view_fault, opening_fault}
 use Rattle.mb_model.specs.PlainChecks.{is_behind_pending, is_certified_floor, is_certified_evidence, has_news_for, fault_of}
 use Rattle.mb_model.specs.Passed.{PassesGate, PassesBody, PassesVote, PassesRequest, PassesWish, PassesResend, PassesLog, PassesFetch, PassesState, Passes}
-use Rattle.mb_model.proofs.Members.{In, contained}
+use Rattle.mb_model.specs.Members.{In}
+use Rattle.mb_model.proofs.Members.{contained}
 use Rattle.mb_model.proofs.Options.{or_none, then_none, if_some}
 use Rattle.mb_steps.specs.OwnLists.{IsOwn}
 use Rattle.mb_steps.specs.Arises.{Arises}
 use Rattle.mb_steps.proofs.StepOwnList.{own_passed}
 use Rattle.mb_steps.proofs.StepOwnStamped.{steady}
-use Rattle.mb_theory.specs.NothingLeft.{IsNoLog}
-use Rattle.mb_theory.specs.TakesLogs.{IsValidLog}
-use Rattle.mb_theory.specs.TakesValid.{IsCertified, IsTagged, AreTagged, IsUsable, IsMember, IsPlanned, IsPlanOf, IsNextOfSender, IsShown, IsVote, IsNewRequest, IsGreaterWish, AsksForNews, AsksForState, BringsParts, IsValid}
-use Rattle.mb_known.proofs.Cases.{not_false, some_is}
-use Rattle.mb_known.proofs.Moments.{arises_by}
+use Rattle.mb_promise.specs.NothingLeft.{IsNoLog}
+use Rattle.mb_promise.specs.TakesLogs.{IsValidLog}
+use Rattle.mb_promise.specs.TakesValid.{IsCertified, IsTagged, AreTagged, IsUsable, IsMember, IsPlanned, IsPlanOf, IsNextOfSender, IsShown, IsVote, IsNewRequest, IsGreaterWish, AsksForNews, AsksForState, BringsParts, IsValid}
+use Rattle.mb_host_laws.proofs.Cases.{not_false, some_is}
+use Rattle.mb_host_laws.proofs.Moments.{arises_by}
 use Rattle.mb_due.proofs.Added.{parts_certified}
 use Rattle.mb_pins.specs.OnlyValid.{AcceptsOnlyValid, AcceptsOnlyValidLogs}
 use Rattle.mb_pins.proofs.ClosedGates.{IsShut, AreShut, shut_at, shut_past}

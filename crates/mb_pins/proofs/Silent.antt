@@ -23,11 +23,11 @@ use Rattle.mb_model.specs.Given.{Answer, closing, give_stamped, give_request, gi
 use Rattle.mb_model.specs.HostStep.{is_taken, rules_follow, asks_on, finished_where, on_bytes, transition}
 use Rattle.mb_model.proofs.Options.{option_cases}
 use Rattle.mb_steps.proofs.StepPassed.{passes_log}
-use Rattle.mb_theory.specs.NothingLeft.{IsNoLog}
-use Rattle.mb_theory.specs.TakesLogs.{IsValidLog}
-use Rattle.mb_theory.specs.World.{self_of}
-use Rattle.mb_theory.specs.WorldSteps.{world}
-use Rattle.mb_theory.proofs.KeptByWorlds.{world_arises}
+use Rattle.mb_promise.specs.NothingLeft.{IsNoLog}
+use Rattle.mb_promise.specs.TakesLogs.{IsValidLog}
+use Rattle.mb_world_model.specs.World.{self_of}
+use Rattle.mb_world_model.specs.WorldSteps.{world}
+use Rattle.mb_world_laws.proofs.KeptByWorlds.{world_arises}
 use Rattle.mb_pins.specs.OnlyValid.{RefusesLogs, IsSilent, RefusesSilently, MalformedSilently, HostsTakeOnlyValid}
 use Rattle.mb_pins.proofs.ClosedGates.{gates_shut}
 use Rattle.mb_pins.proofs.OnlyValid.{log_so, only_valid, only_valid_logs}

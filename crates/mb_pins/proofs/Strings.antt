@@ -55,9 +55,9 @@ use Rattle.mb_model.specs.Given.{Answer, closing, offer_prepare, named_prepare, 
 use Rattle.mb_model.specs.HostStep.{wish_again, on_patience, on_nudge, on_bytes, transition}
 use Rattle.mb_model.proofs.Members.{contained}
 use Rattle.mb_model.proofs.Options.{option_cases}
-use Rattle.mb_known.proofs.Cases.{each_in}
-use Rattle.mb_theory.proofs.Lists.{all_append}
-use Rattle.mb_theory.proofs.Walks.{serves_keep, KeepsRules, finished_keeps}
+use Rattle.mb_host_laws.proofs.Cases.{each_in}
+use Rattle.mb_model.proofs.Lists.{all_append}
+use Rattle.mb_host_laws.proofs.Walks.{serves_keep, KeepsRules, finished_keeps}
 use Rattle.mb_pins.specs.WorldAdds.{IsPlanString, IsOwnString}
 
 module _ {S : Type 0} (self : Identity S) where

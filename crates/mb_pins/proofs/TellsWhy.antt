@@ -58,12 +58,12 @@ use Rattle.mb_model.specs.Given.{Answer, closing, named_prepare, casts_vote, acc
 use Rattle.mb_model.specs.HostStep.{rules_follow, asks_on, finished_where, on_bytes, transition}
 use Rattle.mb_model.proofs.Options.{option_cases, or_some, if_some}
 use Rattle.mb_steps.proofs.StepPassed.{passes_log}
-use Rattle.mb_theory.specs.NothingLeft.{IsNoLog}
-use Rattle.mb_theory.specs.TakesLogs.{IsValidLog}
-use Rattle.mb_theory.specs.TakesValid.{IsCertified, IsTagged, AreTagged, IsPlanOf, AsksForState}
-use Rattle.mb_theory.specs.World.{self_of}
-use Rattle.mb_theory.specs.WorldSteps.{world}
-use Rattle.mb_known.proofs.Cases.{not_true, not_false, not_both, or_false, some_is, then_some_of, whole_is}
+use Rattle.mb_promise.specs.NothingLeft.{IsNoLog}
+use Rattle.mb_promise.specs.TakesLogs.{IsValidLog}
+use Rattle.mb_promise.specs.TakesValid.{IsCertified, IsTagged, AreTagged, IsPlanOf, AsksForState}
+use Rattle.mb_world_model.specs.World.{self_of}
+use Rattle.mb_world_model.specs.WorldSteps.{world}
+use Rattle.mb_host_laws.proofs.Cases.{not_true, not_false, not_both, or_false, some_is, then_some_of, whole_is}
 use Rattle.mb_line.proofs.Walks.{each_entry, offer_keeps, entries_keep, finished_keeps}
 use Rattle.mb_due.proofs.LogsStand.{HasEntry, entry_walked}
 use Rattle.mb_due.proofs.TakesValid.{certified, valid_passes}

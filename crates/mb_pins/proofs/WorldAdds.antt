@@ -22,19 +22,20 @@ use Rattle.mb_model.specs.States.{digest_string}
 use Rattle.mb_model.specs.Compared.{inside_some}
 use Rattle.mb_model.specs.Sending.{Letter, Progress}
 use Rattle.mb_model.specs.HostStep.{transition}
-use Rattle.mb_model.proofs.Members.{In, in_contained, contained, in_map, all_in}
+use Rattle.mb_model.specs.Members.{In}
+use Rattle.mb_model.proofs.Members.{in_contained, contained, in_map, all_in}
 use Rattle.mb_schedule.specs.declared.schedule.Name.TheVariants as name
 use Rattle.mb_schedule.specs.declared.schedule.WorldEvent.{WorldEvent}
 use Rattle.mb_schedule.specs.declared.schedule.WorldEvent.TheVariants.{Ask, Give, Take, Raw, Patience, Nudge, Sign, TagReply, TagWish, StampPrepare, StampCommit, StampCheckpoint, StampChange, StampAs, StampRaw}
 use Rattle.mb_schedule.specs.declared.schedule.Schedule.{Schedule}
 use Rattle.mb_schedule.specs.Limits.{is_faulty, is_faulty_client}
 use Rattle.mb_model.specs.Inside.{requests_in, bodies_in, claims_in, strings_in}
-use Rattle.mb_theory.specs.World.{numbered, extended, is_tagged_message, with_tagged, state_strings_in, World, FaultyStamp, System, self_of, read, made_strings, given_strings, request_of, made, heard, client_reads, give_client, give_host, signal}
-use Rattle.mb_theory.specs.FaultyHosts.{stamp_some, stamp_content, stamp_bytes, stamp_as, content, prepare_of, commit_for, checkpoint_with, change_after, reply_of_host, wish_of_host, bare_bytes_of, faulty_message}
-use Rattle.mb_theory.specs.WorldSteps.{where_faulty, with_message, stamps_some, happens}
-use Rattle.mb_theory.specs.EventsStep.{arrival}
-use Rattle.mb_theory.specs.Stops.{delivered}
-use Rattle.mb_known.proofs.Cases.{some_is, none_some, not_both}
+use Rattle.mb_world_model.specs.World.{numbered, extended, is_tagged_message, with_tagged, state_strings_in, World, FaultyStamp, System, self_of, read, made_strings, given_strings, request_of, made, heard, client_reads, give_client, give_host, signal}
+use Rattle.mb_world_model.specs.FaultyHosts.{stamp_some, stamp_content, stamp_bytes, stamp_as, content, prepare_of, commit_for, checkpoint_with, change_after, reply_of_host, wish_of_host, bare_bytes_of, faulty_message}
+use Rattle.mb_world_model.specs.WorldSteps.{where_faulty, with_message, stamps_some, happens}
+use Rattle.mb_world_model.specs.EventsStep.{arrival}
+use Rattle.mb_world_model.specs.Stops.{delivered}
+use Rattle.mb_host_laws.proofs.Cases.{some_is, none_some, not_both}
 use Rattle.mb_line.proofs.Executions.{in_parts}
 use Rattle.mb_pins.specs.WorldAdds.{IsStringOf, IsStateString, IsTagged, IsStepOf, IsNoStep, request_for, IsHashedNow, StampsNow, ExtendsLine, sent_by, AddsNoMore, EventsAddNoMore}
 use Rattle.mb_pins.proofs.Strings.{IsNoted, step_noted}

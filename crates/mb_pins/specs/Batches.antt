@@ -11,9 +11,9 @@ use Rattle.mb_msg.specs.declared.stamped.Stamped.TheVariants as stamped
 use Rattle.mb_model.specs.Service.{reply_of}
 use Rattle.mb_model.specs.Histories.{Stamped, History, Identity}
 use Rattle.mb_model.specs.Execution.{state_of, pending}
-use Rattle.mb_theory.specs.NothingLeft.{IsUnordered}
-use Rattle.mb_theory.specs.World.{System, self_of}
-use Rattle.mb_theory.specs.WorldSteps.{world}
+use Rattle.mb_promise.specs.NothingLeft.{IsUnordered}
+use Rattle.mb_world_model.specs.World.{System, self_of}
+use Rattle.mb_world_model.specs.WorldSteps.{world}
 
 module _ {S : Type 0} (self : Identity S) (d : History) where
   -- The request of a client waits, and no slot of the view has one of the client from its number on.

@@ -14,9 +14,9 @@ use Rattle.mb_model.specs.Histories.{Stamped, History, Identity, counter_of}
 use Rattle.mb_model.specs.OwnLog.{own_log, is_normal, log_longest}
 use Rattle.mb_model.specs.Sending.{to_host}
 use Rattle.mb_model.specs.HostStep.{transition}
-use Rattle.mb_theory.specs.ShowsLog.{next_shown, IsShownOf}
-use Rattle.mb_theory.specs.World.{System, self_of}
-use Rattle.mb_theory.specs.WorldSteps.{world}
+use Rattle.mb_promise.specs.ShowsLog.{next_shown, IsShownOf}
+use Rattle.mb_world_model.specs.World.{System, self_of}
+use Rattle.mb_world_model.specs.WorldSteps.{world}
 
 -- the bytes that messages have together
 abbrev pub bytes_of : List StampedMessage → ℕ

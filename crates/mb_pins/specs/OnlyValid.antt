@@ -13,11 +13,11 @@ use Rattle.mb_model.specs.Histories.{Accepted, History, Identity}
 use Rattle.mb_model.specs.Sending.{Letter, to_client}
 use Rattle.mb_model.specs.Given.{stored_reply}
 use Rattle.mb_model.specs.HostStep.{transition}
-use Rattle.mb_theory.specs.NothingLeft.{IsNoLog}
-use Rattle.mb_theory.specs.TakesLogs.{IsValidLog}
-use Rattle.mb_theory.specs.TakesValid.{IsValid}
-use Rattle.mb_theory.specs.World.{System, self_of}
-use Rattle.mb_theory.specs.WorldSteps.{world}
+use Rattle.mb_promise.specs.NothingLeft.{IsNoLog}
+use Rattle.mb_promise.specs.TakesLogs.{IsValidLog}
+use Rattle.mb_promise.specs.TakesValid.{IsValid}
+use Rattle.mb_world_model.specs.World.{System, self_of}
+use Rattle.mb_world_model.specs.WorldSteps.{world}
 
 module _ {S : Type 0} (self : Identity S) (d : History) where
   -- Each message that stands in the history was valid behind what stood before it, given by itself or as the entry of a LOG.

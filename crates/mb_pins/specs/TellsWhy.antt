@@ -40,11 +40,11 @@ use Rattle.mb_model.specs.Positions.{exec_of}
 use Rattle.mb_model.specs.Execution.{state_of, state_from, pending, part_held, parts_held}
 use Rattle.mb_model.specs.Making.{expected}
 use Rattle.mb_model.specs.HostStep.{transition}
-use Rattle.mb_theory.specs.NothingLeft.{IsNoLog}
-use Rattle.mb_theory.specs.TakesLogs.{IsValidLog}
-use Rattle.mb_theory.specs.TakesValid.{IsCertified, IsTagged, AreTagged, IsPlanOf, AsksForState}
-use Rattle.mb_theory.specs.World.{System, self_of}
-use Rattle.mb_theory.specs.WorldSteps.{world}
+use Rattle.mb_promise.specs.NothingLeft.{IsNoLog}
+use Rattle.mb_promise.specs.TakesLogs.{IsValidLog}
+use Rattle.mb_promise.specs.TakesValid.{IsCertified, IsTagged, AreTagged, IsPlanOf, AsksForState}
+use Rattle.mb_world_model.specs.World.{System, self_of}
+use Rattle.mb_world_model.specs.WorldSteps.{world}
 
 -- ---- words of messages
 

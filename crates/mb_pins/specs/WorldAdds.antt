@@ -25,10 +25,10 @@ use Rattle.mb_schedule.specs.declared.schedule.WorldEvent.TheVariants.{Ask}
 use Rattle.mb_schedule.specs.declared.schedule.Schedule.{Schedule}
 use Rattle.mb_schedule.specs.Limits.{is_faulty}
 use Rattle.mb_model.specs.Inside.{requests_in, bodies_in, claims_in}
-use Rattle.mb_theory.specs.World.{World, FaultyStamp, System, self_of, read}
-use Rattle.mb_theory.specs.WorldSteps.{happens}
-use Rattle.mb_theory.specs.EventsStep.{arrival}
-use Rattle.mb_theory.specs.Stops.{delivered}
+use Rattle.mb_world_model.specs.World.{World, FaultyStamp, System, self_of, read}
+use Rattle.mb_world_model.specs.WorldSteps.{happens}
+use Rattle.mb_world_model.specs.EventsStep.{arrival}
+use Rattle.mb_world_model.specs.Stops.{delivered}
 
 -- ---- strings that are hashed
 

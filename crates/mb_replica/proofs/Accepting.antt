@@ -23,8 +23,8 @@ use Rattle.mb_model.specs.Sending.{Progress, write, note}
 use Rattle.mb_model.specs.Compared.{compared_in}
 use Rattle.mb_model.specs.KindChecks.{stamped_refusal}
 use Rattle.mb_model.specs.Given.{Answer, answer, accept, closing, give_stamped}
-use Rattle.mb_known.proofs.Rests.{compared_by}
-use Rattle.mb_known.proofs.RestsGiven.{convicts}
+use Rattle.mb_host_laws.specs.Rests.{compared_by}
+use Rattle.mb_host_laws.proofs.RestsGiven.{convicts}
 use Rattle.mb_fitting.specs.Fitting.{AreFit}
 use Rattle.mb_fitting.proofs.Fit.{unstamped_fit}
 use Rattle.mb_searches.specs.Speaks.{is_served, speaks_of_log, speaks_of_change, speaks_of_stable, speaks_of_executed, speaks_of_state, speaks_of_snapshots, speaks_of_parts, is_nudge}

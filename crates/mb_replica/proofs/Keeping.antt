@@ -27,7 +27,7 @@ use Rattle.mb_keeper.specs.Keeping.{Keeping, raised}
 use Rattle.mb_kept.specs.Kept.{IsKeptPlace, low_of as kept_low}
 use Rattle.mb_kept.specs.Certificates.{stable_of_these, found_at, agreed_at, agreed_above, floor_from}
 use Rattle.mb_kept.proofs.InHistories.{cuts}
-use Rattle.mb_known.proofs.Cases.{some_is}
+use Rattle.mb_host_laws.proofs.Cases.{some_is}
 use Rattle.mb_log.specs.Logs.{Log, start, counter_in, floor_counter}
 use Rattle.mb_fitting.proofs.Found.{stable_fits}
 use Rattle.mb_normal.specs.declared.normal.Normal.{Normal}

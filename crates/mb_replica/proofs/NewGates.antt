@@ -5,7 +5,7 @@ use Rattle.mb_parts.specs.Ordered.{initial_floor}
 use Rattle.mb_gate.specs.declared.gate.Gate.{Gate}
 use Rattle.mb_gate.specs.SenderLogs.{log_from}
 use Rattle.mb_gate.specs.Represents.{Represents}
-use Rattle.mb_theory.proofs.Lists.{get_last}
+use Rattle.mb_model.proofs.Lists.{get_last}
 use Rattle.mb_replica.specs.Beginning.{AreNewGates}
 
 pub no_gates : (s : Shape) (gates : List Gate) → gates ≡ [] → AreNewGates s gates 0

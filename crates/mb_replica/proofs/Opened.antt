@@ -2,7 +2,7 @@
 use Rattle.std.proofs.Common.{[], ◌∷◌, refl}
 use Rattle.mb_msg.specs.declared.message.Message.TheVariants as message
 use Rattle.mb_model.specs.Histories.{Accepted, History, Identity}
-use Rattle.mb_known.proofs.Rests.{Each}
+use Rattle.mb_host_laws.specs.Rests.{Each}
 use Rattle.mb_fitting.specs.Fitting.{HasValues}
 use Rattle.mb_standing.specs.Positions.{AreOpens}
 use Rattle.mb_standing.proofs.PositionsOpens.{opens_begin, opens_stay, opens_more}

@@ -12,7 +12,7 @@ use Rattle.mb_msg.specs.Stamps.{bare_of}
 use Rattle.mb_model.specs.Histories.{Entry, Stamped, Executed, History, Identity, said, stamped}
 use Rattle.mb_model.specs.Sending.{Letter}
 use Rattle.mb_model.specs.HostStep.{transition, after}
-use Rattle.mb_theory.proofs.KeptByEvents.{is_plain, IsKept, event_keeps, execution_keeps, state_keeps}
+use Rattle.mb_host_laws.proofs.KeptByEvents.{is_plain, IsKept, event_keeps, execution_keeps, state_keeps}
 use Rattle.mb_restart.specs.Runs.{sent_by, sent_behind, Run, events_of, known_to, IsRun}
 use Rattle.mb_restart.specs.Restarts.{HasAllAndOne, IsWithin, IsPartOf, HostsGoOn, StampAlike, NoCounterTwice}
 use Rattle.mb_restart.proofs.Reopened.{journals_keep}

@@ -12,11 +12,11 @@ use Rattle.mb_model.specs.Sending.{Letter}
 use Rattle.mb_model.specs.HostStep.{transition, after}
 use Rattle.mb_model.proofs.Members.{in_contained, contained, in_map}
 use Rattle.mb_schedule.specs.declared.schedule.WorldEvent.{WorldEvent}
-use Rattle.mb_theory.specs.World.{World, System, self_of}
-use Rattle.mb_theory.specs.WorldEvents.{IsCorrect}
-use Rattle.mb_theory.specs.WorldSteps.{world, happens}
-use Rattle.mb_theory.specs.WorldSteps as worlds
-use Rattle.mb_theory.specs.EventsStep.{arrival, MakesStep}
+use Rattle.mb_world_model.specs.World.{World, System, self_of}
+use Rattle.mb_world_model.specs.WorldEvents.{IsCorrect}
+use Rattle.mb_world_model.specs.WorldSteps.{world, happens}
+use Rattle.mb_world_model.specs.WorldSteps as worlds
+use Rattle.mb_world_model.specs.EventsStep.{arrival, MakesStep}
 use Rattle.mb_headline.proofs.EventsStep.{events_step}
 use Rattle.mb_restart.specs.Runs.{sent_by, Run}
 use Rattle.mb_restart.specs.Restarts.{with_arrival, came, IsPartOf, SendsMade, HostsAreInWorlds}

@@ -17,9 +17,9 @@ use Rattle.mb_schedule.specs.declared.schedule.Name.TheVariants as name
 use Rattle.mb_schedule.specs.declared.schedule.WorldEvent.{WorldEvent}
 use Rattle.mb_schedule.specs.declared.schedule.WorldEvent.TheVariants.{Ask, Give, Take, Raw, Patience, Nudge, Sign, TagReply, TagWish, StampPrepare, StampCommit, StampCheckpoint, StampChange, StampAs, StampRaw}
 use Rattle.mb_schedule.specs.Limits.{is_faulty, is_faulty_client}
-use Rattle.mb_theory.specs.World.{numbered, World, System, self_of, give_host, give_client, client_reads, heard, signal, made, request_of}
-use Rattle.mb_theory.specs.FaultyHosts.{stamp_some, stamp_content, stamp_bytes, content, prepare_of, commit_for, checkpoint_with, change_after, reply_of_host, wish_of_host}
-use Rattle.mb_theory.specs.WorldSteps.{where_faulty, with_message, stamps_some, happens}
+use Rattle.mb_world_model.specs.World.{numbered, World, System, self_of, give_host, give_client, client_reads, heard, signal, made, request_of}
+use Rattle.mb_world_model.specs.FaultyHosts.{stamp_some, stamp_content, stamp_bytes, content, prepare_of, commit_for, checkpoint_with, change_after, reply_of_host, wish_of_host}
+use Rattle.mb_world_model.specs.WorldSteps.{where_faulty, with_message, stamps_some, happens}
 
 -- more messages behind those
 pub record Grows (old new : List Bytes) : Type 0 where

@@ -8,9 +8,9 @@ use Rattle.mb_msg.specs.declared.event.Event.TheVariants as event
 use Rattle.mb_model.specs.Histories.{Identity}
 use Rattle.mb_schedule.specs.declared.schedule.WorldEvent.{WorldEvent}
 use Rattle.mb_schedule.specs.declared.schedule.WorldEvent.TheVariants as happens
-use Rattle.mb_theory.specs.World.{System, self_of}
-use Rattle.mb_theory.specs.WorldSteps.{world}
-use Rattle.mb_theory.specs.EventsStep.{arrival}
+use Rattle.mb_world_model.specs.World.{System, self_of}
+use Rattle.mb_world_model.specs.WorldSteps.{world}
+use Rattle.mb_world_model.specs.EventsStep.{arrival}
 use Rattle.mb_journal.specs.Files.{record_text, entries, Holds}
 use Rattle.mb_journal.specs.Keeping.{IsWhole}
 use Rattle.mb_journal.proofs.Reading.{shut_holds, whole_closed}

@@ -14,10 +14,10 @@ use Rattle.mb_journal.specs.Files.{Holds}
 use Rattle.mb_journal.specs.Keeping.{RestsAt}
 use Rattle.mb_journal.specs.Opening.{KeepsEvents}
 use Rattle.mb_schedule.specs.declared.schedule.WorldEvent.TheVariants.{Nudge}
-use Rattle.mb_theory.specs.World.{World, System, self_of}
-use Rattle.mb_theory.specs.WorldEvents.{IsCorrect}
-use Rattle.mb_theory.specs.WorldSteps.{world}
-use Rattle.mb_theory.specs.EventsStep.{arrival}
+use Rattle.mb_world_model.specs.World.{World, System, self_of}
+use Rattle.mb_world_model.specs.WorldEvents.{IsCorrect}
+use Rattle.mb_world_model.specs.WorldSteps.{world}
+use Rattle.mb_world_model.specs.EventsStep.{arrival}
 use Rattle.mb_restart.specs.Runs.{sent_by, Run, events_of, known_to, IsLeft, AreRuns}
 
 -- ---- what a run opens

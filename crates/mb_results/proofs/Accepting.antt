@@ -14,7 +14,8 @@ use Rattle.mb_msg.specs.declared.message.Message.TheVariants as message
 use Rattle.mb_msg.specs.Fits.{FitsReply}
 use Rattle.mb_model.specs.Histories.{onto}
 use Rattle.mb_model.specs.Clients.{Asker, asks, agreeing, counted, is_right, is_awaited, completes, taken, takes}
-use Rattle.mb_model.proofs.Members.{In, in_contained, contained, all_in}
+use Rattle.mb_model.specs.Members.{In}
+use Rattle.mb_model.proofs.Members.{in_contained, contained, all_in}
 use Rattle.mb_model.proofs.Options.{option_cases}
 use Rattle.mb_model.proofs.Quorums.{quorums_meet}
 use Rattle.mb_model.proofs.ShapesFit.{shape_fits}
@@ -22,9 +23,9 @@ use Rattle.mb_schedule.specs.declared.schedule.Schedule.{Schedule}
 use Rattle.mb_schedule.specs.Limits.{is_faulty_client}
 use Rattle.mb_steps.proofs.StepPotential.{tally_same}
 use Rattle.mb_steps.proofs.StepRounds.{tally_more}
-use Rattle.mb_theory.specs.World.{World, System}
-use Rattle.mb_theory.specs.WorldSteps.{world}
-use Rattle.mb_known.proofs.ReadFits.{read_fits}
+use Rattle.mb_world_model.specs.World.{World, System}
+use Rattle.mb_world_model.specs.WorldSteps.{world}
+use Rattle.mb_reading_laws.proofs.ReadFits.{read_fits}
 use Rattle.mb_results.specs.Accepts.{first_of, says, asked_count, is_answer, heard, HasAccepted, AcceptsAtQuorum, ClientsAccept}
 use Rattle.mb_results.proofs.Tallies.{AreDistinct, tally_none, none_said, some_said, said_more, said_new, said_other, said_same, count_is_tally}
 use Rattle.mb_results.proofs.Turns.{Turns, after_turns}

@@ -11,9 +11,9 @@ use Rattle.mb_msg.specs.declared.event.Slot.{Slot}
 use Rattle.mb_model.specs.declared.known.LastReply.{LastReply}
 use Rattle.mb_model.specs.Service.{Machine, Served, no_reply, reply_of, is_fresh, served, served_each, served_all, start}
 use Rattle.mb_model.proofs.ServiceLaws.{each_length, table_length}
-use Rattle.mb_theory.specs.World.{World, System}
-use Rattle.mb_theory.specs.Safety.{after_line, after_requests, IsSafe, StandsAt, IsBefore}
-use Rattle.mb_theory.proofs.Lists.{get_there}
+use Rattle.mb_world_model.specs.World.{World, System}
+use Rattle.mb_promise.specs.Safety.{after_line, after_requests, IsSafe, StandsAt, IsBefore}
+use Rattle.mb_model.proofs.Lists.{get_there}
 use Rattle.mb_results.specs.Sequential.{IsAnswer}
 use Rattle.mb_results.proofs.States.{next_within, next_slot, state_within}
 

@@ -9,10 +9,10 @@ use Rattle.mb_model.specs.declared.known.LastReply.{LastReply}
 use Rattle.mb_model.specs.Service.{Served, no_reply, reply_of, is_fresh}
 use Rattle.mb_model.specs.Positions.{exec_of}
 use Rattle.mb_model.specs.Execution.{state_of}
-use Rattle.mb_theory.specs.WorldEvents.{IsCorrect}
-use Rattle.mb_theory.specs.World.{World, System, self_of}
-use Rattle.mb_theory.specs.WorldSteps.{world}
-use Rattle.mb_theory.specs.Safety.{after_requests, IsSafe, StandsAt, IsBefore, IsServedResult, AreServedResults}
+use Rattle.mb_world_model.specs.WorldEvents.{IsCorrect}
+use Rattle.mb_world_model.specs.World.{World, System, self_of}
+use Rattle.mb_world_model.specs.WorldSteps.{world}
+use Rattle.mb_promise.specs.Safety.{after_requests, IsSafe, StandsAt, IsBefore, IsServedResult, AreServedResults}
 use Rattle.mb_line.specs.Worlds.{HasOneList}
 use Rattle.mb_line.proofs.InWorlds.{worlds_have_one_list}
 use Rattle.mb_results.specs.Sequential.{IsAnswer, told, IsOvertaken, IsSequential, LineIsSequential}

@@ -8,10 +8,10 @@ use Rattle.mb_msg.specs.declared.event.Placed.{Placed}
 use Rattle.mb_msg.specs.declared.event.Slot.{Slot}
 use Rattle.mb_model.specs.Service.{Machine, Served, is_fresh, served, served_each, served_all, start}
 use Rattle.mb_model.proofs.ServiceLaws.{each_push, served_push}
-use Rattle.mb_theory.specs.Headline.{state_after}
-use Rattle.mb_theory.specs.World.{World, System}
-use Rattle.mb_theory.specs.Safety.{after_line, after_requests, IsSafe}
-use Rattle.mb_theory.proofs.Lists.{get_there, take_next}
+use Rattle.mb_promise.specs.Headline.{state_after}
+use Rattle.mb_world_model.specs.World.{World, System}
+use Rattle.mb_promise.specs.Safety.{after_line, after_requests, IsSafe}
+use Rattle.mb_model.proofs.Lists.{get_there, take_next}
 use Rattle.mb_results.specs.Sequential.{operations, line_operations, state_at, state_before}
 
 -- ---- lists of operations

@@ -21,10 +21,10 @@ use Rattle.mb_schedule.specs.declared.schedule.WorldEvent.{WorldEvent}
 use Rattle.mb_schedule.specs.declared.schedule.WorldEvent.TheVariants.{Ask, Give, Take, Raw, Patience, Nudge, Sign, TagReply, TagWish, StampPrepare, StampCommit, StampCheckpoint, StampChange, StampAs, StampRaw}
 use Rattle.mb_schedule.specs.declared.schedule.Schedule.{Schedule}
 use Rattle.mb_schedule.specs.Limits.{is_faulty, is_faulty_client}
-use Rattle.mb_theory.specs.World.{World, System, numbered, read, request_of, made, heard as hashed_too, client_reads, give_client, give_host, signal}
+use Rattle.mb_world_model.specs.World.{World, System, numbered, read, request_of, made, heard as hashed_too, client_reads, give_client, give_host, signal}
 use Rattle.mb_model.specs.Inside.{if_read}
-use Rattle.mb_theory.specs.FaultyHosts.{stamp_some, stamp_content, stamp_bytes, content, prepare_of, commit_for, checkpoint_with, change_after, reply_of_host, wish_of_host}
-use Rattle.mb_theory.specs.WorldSteps.{where_faulty, with_message, stamps_some, happens, after}
+use Rattle.mb_world_model.specs.FaultyHosts.{stamp_some, stamp_content, stamp_bytes, content, prepare_of, commit_for, checkpoint_with, change_after, reply_of_host, wish_of_host}
+use Rattle.mb_world_model.specs.WorldSteps.{where_faulty, with_message, stamps_some, happens, after}
 use Rattle.mb_results.specs.Accepts.{asked_count, answer_in, hears}
 
 abbrev one_if : Bool → ℕ

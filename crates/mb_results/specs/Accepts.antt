@@ -12,8 +12,8 @@ use Rattle.mb_schedule.specs.declared.schedule.Name.TheVariants as name
 use Rattle.mb_schedule.specs.declared.schedule.WorldEvent.{WorldEvent}
 use Rattle.mb_schedule.specs.declared.schedule.WorldEvent.TheVariants.{Ask, Take, Raw}
 use Rattle.mb_schedule.specs.Limits.{is_faulty_client}
-use Rattle.mb_theory.specs.World.{World, System, numbered, read}
-use Rattle.mb_theory.specs.WorldSteps.{world}
+use Rattle.mb_world_model.specs.World.{World, System, numbered, read}
+use Rattle.mb_world_model.specs.WorldSteps.{world}
 
 -- ---- replies, newest first
 

@@ -10,13 +10,13 @@ use Rattle.mb_model.specs.Service.{no_reply, reply_of}
 use Rattle.mb_model.specs.Positions.{exec_of}
 use Rattle.mb_model.specs.Execution.{state_of}
 use Rattle.mb_schedule.specs.Limits.{IsSchedule}
-use Rattle.mb_theory.specs.Hashed.{HashesApart}
-use Rattle.mb_theory.specs.Headline.{state_after, IsService}
-use Rattle.mb_theory.specs.WorldEvents.{IsCorrect, IsCorrectClient}
-use Rattle.mb_theory.specs.World.{World, System, self_of}
-use Rattle.mb_theory.specs.WorldSteps.{world}
-use Rattle.mb_theory.specs.Stops.{IsUnstopped}
-use Rattle.mb_theory.specs.Safety.{StandsAt, IsBefore}
+use Rattle.mb_world_model.specs.Hashed.{HashesApart}
+use Rattle.mb_promise.specs.Headline.{state_after, IsService}
+use Rattle.mb_world_model.specs.WorldEvents.{IsCorrect, IsCorrectClient}
+use Rattle.mb_world_model.specs.World.{World, System, self_of}
+use Rattle.mb_world_model.specs.WorldSteps.{world}
+use Rattle.mb_world_model.specs.Stops.{IsUnstopped}
+use Rattle.mb_promise.specs.Safety.{StandsAt, IsBefore}
 
 -- the operations of the requests that took effect
 unfoldable pub operations : List Placed → List Bytes

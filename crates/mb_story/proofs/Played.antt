@@ -5,9 +5,9 @@ use Rattle.std.proofs.lemmas.Bool.{cases_eq}
 use Rattle.std.proofs.lemmas.Option.{same_Some, slice_get_within}
 use Rattle.mb_schedule.specs.declared.schedule.WorldEvent.{WorldEvent}
 use Rattle.mb_service.specs.declared.service.Service.{Ghosts}
-use Rattle.mb_theory.specs.Stops.{WorldStop as Stop, stop_of, IsUnstopped}
-use Rattle.mb_theory.specs.World.{World as WorldState, System, nothing_happened}
-use Rattle.mb_theory.specs.WorldSteps.{happens, world}
+use Rattle.mb_world_model.specs.Stops.{WorldStop as Stop, stop_of, IsUnstopped}
+use Rattle.mb_world_model.specs.World.{World as WorldState, System, nothing_happened}
+use Rattle.mb_world_model.specs.WorldSteps.{happens, world}
 use Rattle.mb_parties.proofs.ListLaws.{each_push}
 use Rattle.mb_world.specs.declared.seen.Seen.{Seen}
 use Rattle.mb_world.specs.declared.seen.WorldStop.{WorldStop}

@@ -3,9 +3,9 @@ use Rattle.std.specs.Prelude.{◌≡◌, ℕ, ◌+◌, true, List, length, is_so
 use Rattle.mb_base.specs.Shapes.{Bytes}
 use Rattle.mb_schedule.specs.declared.schedule.Schedule.{Schedule}
 use Rattle.mb_schedule.specs.declared.schedule.WorldEvent.{WorldEvent}
-use Rattle.mb_theory.specs.World.{System}
-use Rattle.mb_theory.specs.WorldSteps.{world}
-use Rattle.mb_theory.specs.Stops.{stop_of, IsUnstopped}
+use Rattle.mb_world_model.specs.World.{System}
+use Rattle.mb_world_model.specs.WorldSteps.{world}
+use Rattle.mb_world_model.specs.Stops.{stop_of, IsUnstopped}
 use Rattle.mb_parties.specs.Hosts.{IsSystem, AreServices}
 use Rattle.mb_world.specs.declared.seen.WorldStop.{WorldStop}
 use Rattle.mb_world.specs.Answers.{as_stop}

@@ -7,9 +7,8 @@ use Rattle.mb_schedule.specs.declared.report.HostLine.{HostLine}
 use Rattle.mb_schedule.specs.declared.report.Report.{Report}
 use Rattle.mb_schedule.specs.declared.schedule.Schedule.{Schedule}
 use Rattle.mb_schedule.specs.declared.schedule.WorldEvent.{WorldEvent}
-use Rattle.mb_theory.specs.Refusals.{refusal_in}
-use Rattle.mb_theory.specs.World.{World, System, message_at}
-use Rattle.mb_theory.specs.World.{Seen as Answer}
+use Rattle.mb_world_model.specs.Refusals.{refusal_in}
+use Rattle.mb_world_model.specs.World.{World, System, message_at, Seen as Answer}
 use Rattle.mb_parties.specs.Lines.{host_line, client_line}
 use Rattle.mb_parties.specs.Replies.{addressee}
 use Rattle.mb_world.specs.Answers.{as_answer}

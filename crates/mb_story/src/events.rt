@@ -2,9 +2,9 @@
 
 ghost use Rattle.std.specs.Prelude.{◌≡◌, ◌<◌, ◌+◌, ◌-◌, ◌^◌, false, IfOk, OnOk};
 ghost use Rattle.mb_schedule.specs.Limits.{EventFits};
-ghost use Rattle.mb_theory.specs.World.{World as WorldState, System};
-ghost use Rattle.mb_theory.specs.WorldSteps.{happens};
-ghost use Rattle.mb_theory.specs.Stops.{stop_of};
+ghost use Rattle.mb_world_model.specs.World.{World as WorldState, System};
+ghost use Rattle.mb_world_model.specs.WorldSteps.{happens};
+ghost use Rattle.mb_world_model.specs.Stops.{stop_of};
 ghost use Rattle.mb_genuine.specs.Reached.{IsReached};
 ghost use Rattle.mb_parties.specs.Hosts.{IsSystem};
 ghost use Rattle.mb_world.specs.Answers.{Tells, as_answer};

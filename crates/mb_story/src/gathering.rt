@@ -1,7 +1,7 @@
 //! What a world shows behind an event: the messages that were made, and the batches that were executed first.
 
 ghost use Rattle.std.specs.Prelude.{◌≡◌, drop, IfOk};
-ghost use Rattle.mb_theory.specs.World.{World as WorldState, System};
+ghost use Rattle.mb_world_model.specs.World.{World as WorldState, System};
 ghost use Rattle.mb_world.specs.Tables.{RepresentsWorld};
 ghost use Rattle.mb_story.specs.Telling.{new_message, new_messages};
 

@@ -7,7 +7,7 @@ use Rattle.mb_base.specs.Shapes.{Bytes}
 use Rattle.mb_edge.specs.Faults.{Rose}
 use Rattle.mb_schedule.specs.declared.schedule.Schedule.{Schedule}
 use Rattle.mb_sched.specs.Schedules.{IsScheduleText}
-use Rattle.mb_theory.specs.Stops.{WorldStop}
+use Rattle.mb_world_model.specs.Stops.{WorldStop}
 use Rattle.mb_top.specs.Runs.{AreUnstopped, IsFirstStopped}
 use Rattle.mb_top.specs.Answers.{IsForgedText, certificate, tag, AnswersSchedule, bad_event, forged, replayed, Answers, too_long, bad_line, right}
 use Rattle.mb_answer.specs.Devices.{Device, Says, said, failed, cut_short, IsToldBy, answered, unread, starved}

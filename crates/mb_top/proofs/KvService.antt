@@ -11,7 +11,7 @@ use Rattle.mb_kv.specs.Laws.StateLaws.{no_keys_is_state, states_stay, answers_ar
 use Rattle.mb_kv.specs.Laws.SnapshotLaws.{parts_give_the_state}
 use Rattle.mb_cache.specs.Represents.{machine_of, snapshots_of}
 use Rattle.mb_schedule.specs.declared.schedule.Schedule.{Schedule}
-use Rattle.mb_theory.specs.Headline.{state_after, IsService}
+use Rattle.mb_promise.specs.Headline.{state_after, IsService}
 use Rattle.mb_parties.specs.Hosts.{IsSystem, AreServices}
 use Rattle.mb_top.specs.Systems.{system_of}
 

@@ -6,10 +6,11 @@ use Rattle.mb_base.specs.Shapes.{Bytes}
 use Rattle.mb_base.specs.declared.shape.Shape.{Shape}
 use Rattle.mb_kv.specs.Pairs.{Pairs}
 use Rattle.mb_msg.specs.declared.event.Slot.{Slot}
-use Rattle.mb_model.proofs.Members.{In, in_contained, contained}
+use Rattle.mb_model.specs.Members.{In}
+use Rattle.mb_model.proofs.Members.{in_contained, contained}
 use Rattle.mb_schedule.specs.declared.schedule.Schedule.{Schedule}
 use Rattle.mb_sched.specs.declared.records.Record.{Record}
-use Rattle.mb_theory.specs.World.{World}
+use Rattle.mb_world_model.specs.World.{World}
 use Rattle.mb_answer.specs.Devices.{Device, Says, said, failed, cut_short, answered, unread, starved}
 use Rattle.mb_answer.specs.Records.{IsRecordText, AnswersText, too_long, bad_line, right}
 use Rattle.mb_answer.proofs.RecordTexts.{same_record}

@@ -4,9 +4,9 @@ use Rattle.std.proofs.lemmas.Option.{slice_get_within}
 use Rattle.mb_kv.specs.Pairs.{Pairs}
 use Rattle.mb_schedule.specs.declared.schedule.Schedule.{Schedule}
 use Rattle.mb_schedule.specs.Limits.{IsSchedule}
-use Rattle.mb_theory.specs.Hashed.{HashesApart}
-use Rattle.mb_theory.specs.Headline.{Promises, HoldsAtEachEvent}
-use Rattle.mb_theory.specs.Stops.{WorldStop}
+use Rattle.mb_world_model.specs.Hashed.{HashesApart}
+use Rattle.mb_promise.specs.Headline.{Promises, HoldsAtEachEvent}
+use Rattle.mb_world_model.specs.Stops.{WorldStop}
 use Rattle.mb_headline.proofs.Promised.{all_stay_one}
 use Rattle.mb_top.specs.Systems.{system_of, world}
 use Rattle.mb_top.specs.Runs.{AreUnstopped, IsFirstStopped}

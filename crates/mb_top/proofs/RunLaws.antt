@@ -5,8 +5,8 @@ use Rattle.std.proofs.lemmas.Bool.{cases_eq}
 use Rattle.std.proofs.lemmas.Option.{same_Some}
 use Rattle.mb_schedule.specs.declared.schedule.Schedule.{Schedule}
 use Rattle.mb_schedule.specs.declared.schedule.WorldEvent.{WorldEvent}
-use Rattle.mb_theory.specs.Stops.{WorldStop as Stop, NotFaulty, NoSuchMessage, WrongKind, Forged, ForgedTag, stop_of}
-use Rattle.mb_theory.specs.WorldSteps.{happens, world as any_world}
+use Rattle.mb_world_model.specs.Stops.{WorldStop as Stop, NotFaulty, NoSuchMessage, WrongKind, Forged, ForgedTag, stop_of}
+use Rattle.mb_world_model.specs.WorldSteps.{happens, world as any_world}
 use Rattle.mb_world.specs.declared.seen.Seen.{Seen}
 use Rattle.mb_world.specs.declared.seen.WorldStop.{WorldStop}
 use Rattle.mb_world.specs.declared.seen.WorldStop.TheVariants as stop

@@ -4,10 +4,10 @@ use Rattle.std.specs.List.{slice_get}
 use Rattle.mb_kv.specs.Pairs.{Pairs}
 use Rattle.mb_schedule.specs.declared.schedule.WorldEvent.{WorldEvent}
 use Rattle.mb_schedule.specs.Limits.{EventFits}
-use Rattle.mb_theory.specs.World.{World as State}
-use Rattle.mb_theory.specs.Stops.{stop_of}
-use Rattle.mb_theory.specs.Hashed.{HashesApart}
-use Rattle.mb_theory.specs.Headline.{Promises}
+use Rattle.mb_world_model.specs.World.{World as State}
+use Rattle.mb_world_model.specs.Stops.{stop_of}
+use Rattle.mb_world_model.specs.Hashed.{HashesApart}
+use Rattle.mb_promise.specs.Headline.{Promises}
 use Rattle.mb_make.specs.Draws.{Generator, Represents, HasDrawn, draw}
 use Rattle.mb_make.specs.declared.maker.Maker.{Maker}
 use Rattle.mb_make.specs.Soaks.{generator_after, event_drawn, played, IsSoaked}

@@ -6,10 +6,10 @@ use Rattle.mb_schedule.specs.declared.schedule.Schedule.{Schedule}
 use Rattle.mb_schedule.specs.declared.schedule.WorldEvent.{WorldEvent}
 use Rattle.mb_schedule.specs.declared.schedule.WorldEvent.TheVariants.{Ask, Give, Take, Raw, Patience, Nudge, Sign, TagReply, TagWish, StampPrepare, StampCommit, StampCheckpoint, StampChange, StampAs, StampRaw}
 use Rattle.mb_parts.specs.Claims.{Claim}
-use Rattle.mb_theory.specs.World.{World}
-use Rattle.mb_theory.specs.WorldEvents.{is_faulty_name, culprit}
-use Rattle.mb_theory.specs.Forged.{forged_claim, has_forged_tag}
-use Rattle.mb_theory.specs.Stops.{WorldStop, NotFaulty, NoSuchMessage, WrongKind, Forged, ForgedTag, stop_of, name_stop, missing_stop, kind_stop, forged_stop, event_number, delivered_message}
+use Rattle.mb_world_model.specs.World.{World}
+use Rattle.mb_world_model.specs.WorldEvents.{is_faulty_name, culprit}
+use Rattle.mb_world_model.specs.Forged.{forged_claim, has_forged_tag}
+use Rattle.mb_world_model.specs.Stops.{WorldStop, NotFaulty, NoSuchMessage, WrongKind, Forged, ForgedTag, stop_of, name_stop, missing_stop, kind_stop, forged_stop, event_number, delivered_message}
 
 -- Where it is forged, it is of this event.
 abbrev pub IsOf : ℕ → WorldStop → Type 0

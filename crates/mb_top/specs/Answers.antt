@@ -5,7 +5,7 @@ use Rattle.mb_schedule.specs.declared.schedule.Schedule.{Schedule}
 use Rattle.mb_sched.specs.Report.{report_text}
 use Rattle.mb_sched.specs.Schedules.{line_number, schedule_of, IsScheduleText}
 use Rattle.mb_schedule.specs.Limits.{max_text}
-use Rattle.mb_theory.specs.Stops.{Forged, ForgedTag}
+use Rattle.mb_world_model.specs.Stops.{Forged, ForgedTag}
 use Rattle.mb_world.specs.Reports.{report_of}
 use Rattle.mb_answer.specs.Texts.{too_long_text, bad_line_text, forged_text, forged_tag_text}
 use Rattle.mb_top.specs.Systems.{system_of, world}

@@ -8,9 +8,9 @@ use Rattle.mb_audited.specs.Blame.{given_to}
 use Rattle.mb_schedule.specs.declared.schedule.Schedule.{Schedule}
 use Rattle.mb_schedule.specs.Limits.{is_faulty}
 use Rattle.mb_sched.specs.declared.records.Record.{Record}
-use Rattle.mb_theory.specs.Stops.{IsUnstopped}
-use Rattle.mb_theory.specs.World.{World}
-use Rattle.mb_theory.specs.WorldEvents.{IsCorrect}
+use Rattle.mb_world_model.specs.Stops.{IsUnstopped}
+use Rattle.mb_world_model.specs.World.{World}
+use Rattle.mb_world_model.specs.WorldEvents.{IsCorrect}
 use Rattle.mb_reviewing.specs.Audits.{verdict_text}
 use Rattle.mb_reviewing.specs.Given.{given_in}
 use Rattle.mb_top.specs.Systems.{system_of, world}

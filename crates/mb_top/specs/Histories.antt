@@ -6,9 +6,9 @@ use Rattle.mb_model.specs.Service.{batch_of}
 use Rattle.mb_schedule.specs.declared.schedule.Schedule.{Schedule}
 use Rattle.mb_schedule.specs.Limits.{IsSchedule}
 use Rattle.mb_sched.specs.declared.records.Record.{Record}
-use Rattle.mb_theory.specs.Hashed.{HashesApart}
-use Rattle.mb_theory.specs.Stops.{IsUnstopped}
-use Rattle.mb_theory.specs.World.{World}
+use Rattle.mb_world_model.specs.Hashed.{HashesApart}
+use Rattle.mb_world_model.specs.Stops.{IsUnstopped}
+use Rattle.mb_world_model.specs.World.{World}
 use Rattle.mb_answer.specs.Devices.{Device}
 use Rattle.mb_reviewing.specs.Given.{given_in}
 use Rattle.mb_reviewing.specs.Learning.{LearntInTurn, learnt_text, state_behind}

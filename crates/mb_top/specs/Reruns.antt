@@ -11,8 +11,8 @@ use Rattle.mb_node.specs.Receives.{Receives}
 use Rattle.mb_node.specs.Events.{events}
 use Rattle.mb_sched.specs.declared.configs.Config.{Config}
 use Rattle.mb_schedule.specs.declared.schedule.Schedule.{Schedule}
-use Rattle.mb_theory.specs.World.{self_of}
-use Rattle.mb_theory.specs.WorldEvents.{IsCorrect}
+use Rattle.mb_world_model.specs.World.{self_of}
+use Rattle.mb_world_model.specs.WorldEvents.{IsCorrect}
 use Rattle.mb_answer.specs.Configs.{IsConfigText}
 use Rattle.mb_answer.specs.Devices.{LinkState}
 use Rattle.mb_serving.specs.Nodes.{served_status, HasListened}

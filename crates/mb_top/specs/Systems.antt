@@ -5,8 +5,8 @@ use Rattle.mb_kv.specs.Operations.{after, answer}
 use Rattle.mb_kv.specs.Snapshots.{part_of, restored}
 use Rattle.mb_cache.specs.Represents.{machine_of, snapshots_of}
 use Rattle.mb_schedule.specs.declared.schedule.Schedule.{Schedule}
-use Rattle.mb_theory.specs.World.{World, System}
-use Rattle.mb_theory.specs.WorldSteps.{world as any_world}
+use Rattle.mb_world_model.specs.World.{World, System}
+use Rattle.mb_world_model.specs.WorldSteps.{world as any_world}
 
 abbrev pub system_of : Schedule → System Pairs
 system_of s = record { machine = machine_of after answer; snapshots = snapshots_of part_of restored; initial = []; schedule = s }

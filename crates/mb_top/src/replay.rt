@@ -8,7 +8,7 @@ ghost use Rattle.mb_edge.specs.Pieces.{ConsumesBetween};
 ghost use Rattle.mb_schedule.specs.Limits.{IsSchedule};
 ghost use Rattle.mb_sched.specs.Report.{report_text};
 ghost use Rattle.mb_schedule.specs.Limits.{max_text};
-ghost use Rattle.mb_theory.specs.World.{World as WorldState, nothing_happened};
+ghost use Rattle.mb_world_model.specs.World.{World as WorldState, nothing_happened};
 ghost use Rattle.mb_world.specs.Reports.{report_of};
 ghost use Rattle.mb_world.specs.Tables.{RepresentsWorld};
 ghost use Rattle.mb_top.specs.Systems.{system_of};

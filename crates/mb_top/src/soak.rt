@@ -4,7 +4,7 @@ ghost use Rattle.std.specs.Prelude.{◌≡◌, ℕ, ◌≤◌, false, IfOk};
 ghost use Rattle.mb_kv.specs.Pairs.{Pairs};
 ghost use Rattle.mb_make.specs.Soaks.{played};
 ghost use Rattle.mb_make.specs.Summary.{of_state, greatest_view, longest_log, all_accepted};
-ghost use Rattle.mb_theory.specs.World.{World as WorldState, System, nothing_happened};
+ghost use Rattle.mb_world_model.specs.World.{World as WorldState, System, nothing_happened};
 ghost use Rattle.mb_world.specs.Tables.{RepresentsWorld};
 ghost use Rattle.mb_world.specs.declared.seen.WorldStop.TheVariants as stop;
 ghost use Rattle.mb_edge.specs.Faults.{TellsFaults};

@@ -2,11 +2,11 @@
 use Rattle.std.proofs.Common.{ℕ}
 use Rattle.mb_parts.proofs.IssuedLaws.{are_prefixes}
 use Rattle.mb_agreement.proofs.Agree.{agrees}
-use Rattle.mb_theory.specs.WorldEvents.{IsCorrect}
-use Rattle.mb_theory.specs.World.{World, System, stamps}
-use Rattle.mb_theory.specs.WorldRecord.{issued, prefix, plans, IsConsistent, ViewsAgree}
-use Rattle.mb_known.proofs.Rests.{Each}
-use Rattle.mb_known.proofs.Facts.{Facts}
+use Rattle.mb_world_model.specs.WorldEvents.{IsCorrect}
+use Rattle.mb_world_model.specs.World.{World, System, stamps}
+use Rattle.mb_world_model.specs.WorldRecord.{issued, prefix, plans, IsConsistent, ViewsAgree}
+use Rattle.mb_host_laws.specs.Rests.{Each}
+use Rattle.mb_world_laws.proofs.Facts.{Facts}
 use Rattle.mb_views.proofs.Follows.{JumpsLed}
 use Rattle.mb_views.proofs.Evidenced.{evidence_made, new_view_stands}
 

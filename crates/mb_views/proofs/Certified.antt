@@ -35,21 +35,22 @@ use Rattle.mb_model.specs.Histories.{Stamped, History, Identity, stamped as all_
 use Rattle.mb_model.specs.Sending.{next_ui}
 use Rattle.mb_model.specs.Making.{floors_under, checkpoint, present_parts}
 use Rattle.mb_model.specs.States.{state_digest}
-use Rattle.mb_model.proofs.Members.{In, contained, in_left, in_right, in_map}
+use Rattle.mb_model.specs.Members.{In}
+use Rattle.mb_model.proofs.Members.{contained, in_left, in_right, in_map}
 use Rattle.mb_steps.specs.Arises.{Makes}
-use Rattle.mb_theory.specs.Hashed.{HashesApart}
+use Rattle.mb_world_model.specs.Hashed.{HashesApart}
 use Rattle.mb_model.specs.Inside.{strings_in, bodies_in, requests_in, claims_in, floor_bodies, body_in}
 use Rattle.mb_schedule.specs.Limits.{is_faulty}
-use Rattle.mb_theory.specs.WorldEvents.{IsCorrect}
-use Rattle.mb_theory.specs.World.{World, System, self_of}
-use Rattle.mb_theory.specs.WorldRecord.{issued}
-use Rattle.mb_known.proofs.Cases.{all_at, all_holds, none_some}
-use Rattle.mb_known.proofs.Found.{floor_is}
-use Rattle.mb_known.proofs.Rests.{Each}
-use Rattle.mb_known.proofs.Facts.{Facts}
+use Rattle.mb_world_model.specs.WorldEvents.{IsCorrect}
+use Rattle.mb_world_model.specs.World.{World, System, self_of}
+use Rattle.mb_world_model.specs.WorldRecord.{issued}
+use Rattle.mb_host_laws.proofs.Cases.{all_at, all_holds, none_some}
+use Rattle.mb_host_laws.proofs.Found.{floor_is}
+use Rattle.mb_host_laws.specs.Rests.{Each}
+use Rattle.mb_world_laws.proofs.Facts.{Facts}
 use Rattle.mb_views.proofs.Follows.{IsLed, JumpsLed}
 use Rattle.mb_views.proofs.CorrectOne.{correct_one, IsStamped, issued_stamped}
-use Rattle.mb_known.proofs.Moments.{IsPast, past_tail, each_at}
+use Rattle.mb_host_laws.proofs.Moments.{IsPast, past_tail, each_at}
 use Rattle.mb_views.proofs.Floors.{arises_then, shown_led}
 
 -- ---- floors that pass the test of equality

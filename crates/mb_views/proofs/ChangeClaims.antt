@@ -20,7 +20,8 @@ use Rattle.mb_msg.specs.declared.stamped.Shown.TheVariants as shown
 use Rattle.mb_msg.specs.Stamps.{bare_of_shown, ui_of_shown}
 use Rattle.mb_model.specs.CarriedLogs.{claims_of_floor, claims_of_body, body_claims, entry_claims, log_claims}
 use Rattle.mb_model.specs.UsableLogs.{entry_claim, entry_fault, entries_fault, is_ill_founded, is_too_long, fault_from, floor_of, log_fault}
-use Rattle.mb_model.proofs.Members.{In, in_left, in_right}
+use Rattle.mb_model.specs.Members.{In}
+use Rattle.mb_model.proofs.Members.{in_left, in_right}
 use Rattle.mb_model.proofs.Options.{or_none}
 use Rattle.mb_model.proofs.UsableLaws.{not_refused, map_none}
 use Rattle.mb_model.specs.Compared.{inside_some}

@@ -19,12 +19,13 @@ use Rattle.mb_model.specs.Histories.{Stamped, History, said, stamped as all_stam
 use Rattle.mb_model.proofs.ByHost.{rising_tail}
 use Rattle.mb_model.proofs.PlanLaws.{one_more}
 use Rattle.mb_model.proofs.Quorums.{quorum_has_correct}
-use Rattle.mb_model.proofs.Members.{In, any_in}
-use Rattle.mb_theory.specs.WorldEvents.{IsCorrect}
-use Rattle.mb_theory.specs.World.{World, System, stamps}
-use Rattle.mb_theory.specs.WorldRecord.{issued}
-use Rattle.mb_known.proofs.Cases.{not_true, some_is, then_some_of}
-use Rattle.mb_known.proofs.Facts.{Facts}
+use Rattle.mb_model.specs.Members.{In}
+use Rattle.mb_model.proofs.Members.{any_in}
+use Rattle.mb_world_model.specs.WorldEvents.{IsCorrect}
+use Rattle.mb_world_model.specs.World.{World, System, stamps}
+use Rattle.mb_world_model.specs.WorldRecord.{issued}
+use Rattle.mb_host_laws.proofs.Cases.{not_true, some_is, then_some_of}
+use Rattle.mb_world_laws.proofs.Facts.{Facts}
 
 -- ---- a rising list of hosts is as many hosts as it is long
 

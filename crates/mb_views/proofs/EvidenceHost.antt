@@ -11,14 +11,15 @@ use Rattle.mb_parts.specs.Bares as bare
 use Rattle.mb_parts.specs.Claims.{Claim, are_rising, new_view_claim, evidence_claims}
 use Rattle.mb_parts.specs.Certificates.{is_evidence}
 use Rattle.mb_parts.specs.Issued.{is_issued}
-use Rattle.mb_model.proofs.Members.{In, any_in, in_map}
+use Rattle.mb_model.specs.Members.{In}
+use Rattle.mb_model.proofs.Members.{any_in, in_map}
 use Rattle.mb_model.proofs.Quorums.{quorum_has_correct}
 use Rattle.mb_schedule.specs.Limits.{is_faulty}
-use Rattle.mb_theory.specs.WorldEvents.{IsCorrect}
-use Rattle.mb_theory.specs.World.{World, System, stamps}
-use Rattle.mb_theory.specs.WorldRecord.{issued}
-use Rattle.mb_known.proofs.Cases.{all_holds, not_true}
-use Rattle.mb_known.proofs.Facts.{Facts}
+use Rattle.mb_world_model.specs.WorldEvents.{IsCorrect}
+use Rattle.mb_world_model.specs.World.{World, System, stamps}
+use Rattle.mb_world_model.specs.WorldRecord.{issued}
+use Rattle.mb_host_laws.proofs.Cases.{all_holds, not_true}
+use Rattle.mb_world_laws.proofs.Facts.{Facts}
 use Rattle.mb_model.proofs.PlanLaws.{one_more}
 use Rattle.mb_views.proofs.CorrectOne.{has_host, as_many}
 

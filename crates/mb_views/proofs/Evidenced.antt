@@ -37,20 +37,20 @@ use Rattle.mb_model.specs.Plans.{ShownLog}
 use Rattle.mb_model.proofs.Options.{or_some, if_some, map_some}
 use Rattle.mb_steps.specs.Arises.{Makes}
 use Rattle.mb_steps.proofs.StepHeldEvidence.{new_view_checks}
-use Rattle.mb_theory.specs.WorldEvents.{IsCorrect}
-use Rattle.mb_theory.specs.World.{World, System, self_of, stamps}
-use Rattle.mb_theory.specs.WorldRecord.{issued, prefix, plans}
-use Rattle.mb_known.proofs.Cases.{some_is, whole_of}
-use Rattle.mb_known.proofs.Found.{in_view}
-use Rattle.mb_known.proofs.Rests.{Each}
-use Rattle.mb_known.proofs.Facts.{Facts}
+use Rattle.mb_world_model.specs.WorldEvents.{IsCorrect}
+use Rattle.mb_world_model.specs.World.{World, System, self_of, stamps}
+use Rattle.mb_world_model.specs.WorldRecord.{issued, prefix, plans}
+use Rattle.mb_host_laws.proofs.Cases.{some_is, whole_of}
+use Rattle.mb_host_laws.proofs.Found.{in_view}
+use Rattle.mb_host_laws.specs.Rests.{Each}
+use Rattle.mb_world_laws.proofs.Facts.{Facts}
 use Rattle.mb_views.proofs.Follows.{JumpsLed}
-use Rattle.mb_known.proofs.Moments.{IsPast, past_tail}
+use Rattle.mb_host_laws.proofs.Moments.{IsPast, past_tail}
 use Rattle.mb_views.proofs.Floors.{arises_then}
 use Rattle.mb_views.proofs.Prefixes.{prefix_said}
 use Rattle.mb_views.proofs.CorrectOne.{IsStamped, issued_said, issued_stamped}
 use Rattle.mb_views.proofs.AcceptedIn.{accepted_in_prefix}
-use Rattle.mb_known.proofs.OwnIssued.{own_stamp}
+use Rattle.mb_world_laws.proofs.OwnIssued.{own_stamp}
 use Rattle.mb_views.proofs.GoodPlans.{IsGoodPlan, accepted_plan}
 use Rattle.mb_views.proofs.OwnPlans.{announced_plan}
 use Rattle.mb_views.proofs.MadeOf.{made_of}

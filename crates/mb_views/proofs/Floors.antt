@@ -17,12 +17,12 @@ use Rattle.mb_model.specs.Making.{if_covered, floors_under}
 use Rattle.mb_steps.specs.OwnLists.{AreNumbered}
 use Rattle.mb_steps.specs.Arises.{Arises}
 use Rattle.mb_steps.proofs.StepOwnStamped.{steady}
-use Rattle.mb_theory.specs.WorldEvents.{IsCorrect}
-use Rattle.mb_theory.specs.World.{World, System, self_of}
-use Rattle.mb_known.proofs.Cases.{none_some, some_is}
-use Rattle.mb_known.proofs.Rests.{Each}
-use Rattle.mb_known.proofs.Moments.{IsPast, past_tail, past_said, each_at, past_numbered, arises_by}
-use Rattle.mb_known.proofs.Facts.{Facts}
+use Rattle.mb_world_model.specs.WorldEvents.{IsCorrect}
+use Rattle.mb_world_model.specs.World.{World, System, self_of}
+use Rattle.mb_host_laws.proofs.Cases.{none_some, some_is}
+use Rattle.mb_host_laws.specs.Rests.{Each}
+use Rattle.mb_host_laws.proofs.Moments.{IsPast, past_tail, past_said, each_at, past_numbered, arises_by}
+use Rattle.mb_world_laws.proofs.Facts.{Facts}
 use Rattle.mb_views.proofs.Prefixes.{prefix_said}
 use Rattle.mb_views.proofs.Follows.{IsLed, following_led, JumpsLed, follows}
 

@@ -30,13 +30,14 @@ use Rattle.mb_model.specs.GateChecks.{stamp_claim}
 use Rattle.mb_model.specs.Passed.{PassesGate}
 use Rattle.mb_steps.specs.OwnLists.{AreNumbered}
 use Rattle.mb_steps.specs.Arises.{Arises}
-use Rattle.mb_theory.specs.World.{World, System, self_of, stamps}
-use Rattle.mb_theory.specs.WorldRecord.{issued, prefix}
-use Rattle.mb_known.proofs.Cases.{some_is}
-use Rattle.mb_known.proofs.Rests.{Each, Rests}
-use Rattle.mb_known.proofs.Grown.{IsGivenTo, IsHashed, HasStrings, RestsIn}
-use Rattle.mb_known.proofs.Knows.{own_claim_in, inner_claim_in, accepted_issued, carried}
-use Rattle.mb_known.proofs.Facts.{Facts}
+use Rattle.mb_world_model.specs.World.{World, System, self_of, stamps}
+use Rattle.mb_world_model.specs.WorldRecord.{issued, prefix}
+use Rattle.mb_host_laws.proofs.Cases.{some_is}
+use Rattle.mb_host_laws.specs.Rests.{Each, Rests}
+use Rattle.mb_world_laws.proofs.Grown.{IsGivenTo, IsHashed, HasStrings, RestsIn}
+use Rattle.mb_host_laws.proofs.PartClaims.{own_claim_in, inner_claim_in}
+use Rattle.mb_world_laws.proofs.Knows.{accepted_issued, carried}
+use Rattle.mb_world_laws.proofs.Facts.{Facts}
 
 -- ---- lists that go on by one
 

@@ -23,16 +23,18 @@ use Rattle.mb_model.specs.Histories.{Accepted, Stamped, Jumped, History, onto, o
 use Rattle.mb_model.specs.GateChecks.{stamp_claim}
 use Rattle.mb_model.specs.Passed.{PassesGate}
 use Rattle.mb_steps.specs.OwnLists.{AreNumbered}
-use Rattle.mb_model.proofs.Members.{In, contained}
+use Rattle.mb_model.specs.Members.{In}
+use Rattle.mb_model.proofs.Members.{contained}
 use Rattle.mb_steps.specs.Arises.{Arises}
 use Rattle.mb_model.specs.Inside.{claims_in, floors_in}
-use Rattle.mb_theory.specs.World.{World, System, self_of}
-use Rattle.mb_theory.specs.WorldRecord.{issued}
-use Rattle.mb_theory.specs.Justification.{is_sound, IsGiven, IsGivenFloor, AreKnown}
-use Rattle.mb_known.proofs.Rests.{Rests}
-use Rattle.mb_known.proofs.Grown.{IsGivenTo, IsHashed, HasStrings, RestsIn}
-use Rattle.mb_known.proofs.Knows.{own_claim_in, inner_claim_in, part_claims, carried}
-use Rattle.mb_known.proofs.Facts.{Facts}
+use Rattle.mb_world_model.specs.World.{World, System, self_of}
+use Rattle.mb_world_model.specs.WorldRecord.{issued}
+use Rattle.mb_promise.specs.Justification.{is_sound, IsGiven, IsGivenFloor, AreKnown}
+use Rattle.mb_host_laws.specs.Rests.{Rests}
+use Rattle.mb_world_laws.proofs.Grown.{IsGivenTo, IsHashed, HasStrings, RestsIn}
+use Rattle.mb_host_laws.proofs.PartClaims.{own_claim_in, inner_claim_in, part_claims}
+use Rattle.mb_world_laws.proofs.Knows.{carried}
+use Rattle.mb_world_laws.proofs.Facts.{Facts}
 use Rattle.mb_views.proofs.Prefixes.{valid_checked}
 
 module _ {S : Type 0} (system : System S) (w : World) (f : Facts system w) where

@@ -30,21 +30,22 @@ use Rattle.mb_model.specs.KindChecks.{is_member, member_fault, members_fault, ne
 use Rattle.mb_model.specs.Plans.{are_of_plan, plan_of}
 use Rattle.mb_model.specs.Compared.{compared_in_change, compared_in_members, compared_in}
 use Rattle.mb_model.specs.Passed.{PassesStamped}
-use Rattle.mb_model.proofs.Members.{In, in_left, in_right}
+use Rattle.mb_model.specs.Members.{In}
+use Rattle.mb_model.proofs.Members.{in_left, in_right}
 use Rattle.mb_model.proofs.Options.{or_none, then_none}
 use Rattle.mb_model.proofs.UsableLaws.{map_none}
 use Rattle.mb_model.specs.Inside.{claims_in, stamped_claims, change_claims, member_claims, new_view_claims, sender_claim, bodies_in, body_in, bodies_in_change, change_bodies}
-use Rattle.mb_theory.specs.WorldEvents.{IsCorrect}
-use Rattle.mb_theory.specs.World.{World, System, self_of}
-use Rattle.mb_known.proofs.Cases.{all_left, all_right, not_false}
-use Rattle.mb_known.proofs.Rests.{Each}
-use Rattle.mb_known.proofs.Grown.{IsHashed}
-use Rattle.mb_known.proofs.Knows.{accepted_issued}
-use Rattle.mb_known.proofs.Facts.{Facts}
+use Rattle.mb_world_model.specs.WorldEvents.{IsCorrect}
+use Rattle.mb_world_model.specs.World.{World, System, self_of}
+use Rattle.mb_host_laws.proofs.Cases.{all_left, all_right, not_false}
+use Rattle.mb_host_laws.specs.Rests.{Each}
+use Rattle.mb_world_laws.proofs.Grown.{IsHashed}
+use Rattle.mb_world_laws.proofs.Knows.{accepted_issued}
+use Rattle.mb_world_laws.proofs.Facts.{Facts}
 use Rattle.mb_views.proofs.Follows.{JumpsLed}
-use Rattle.mb_known.proofs.Moments.{IsPast, each_at}
+use Rattle.mb_host_laws.proofs.Moments.{IsPast, each_at}
 use Rattle.mb_views.proofs.Floors.{arises_then}
-use Rattle.mb_known.proofs.Parts.{accepted_fits}
+use Rattle.mb_world_laws.proofs.AcceptedParts.{accepted_fits}
 use Rattle.mb_views.proofs.UsableChanges.{IsGoodChange}
 use Rattle.mb_views.proofs.HeldChanges.{RestsAt, gate_passed, whole_none, form_whole, body_known}
 

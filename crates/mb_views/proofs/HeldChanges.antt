@@ -30,24 +30,26 @@ use Rattle.mb_model.specs.Sending.{next_of}
 use Rattle.mb_model.specs.GateChecks.{stamp_claim, is_bad_ui, is_own_future, conviction, is_stale, is_ahead, is_permitted, gate_refusal, identifier_refusal}
 use Rattle.mb_model.specs.Compared.{compared_in, inside_some}
 use Rattle.mb_model.specs.Passed.{PassesGate, PassesStamped}
-use Rattle.mb_model.proofs.Members.{In, in_left, in_right}
+use Rattle.mb_model.specs.Members.{In}
+use Rattle.mb_model.proofs.Members.{in_left, in_right}
 use Rattle.mb_model.specs.Inside.{claims_in, stamped_claims, change_claims, sender_claim, floor_bodies, bodies_in, body_in, bodies_in_change, shown_bodies}
-use Rattle.mb_theory.specs.WorldEvents.{IsCorrect}
-use Rattle.mb_theory.specs.World.{World, System, self_of}
-use Rattle.mb_theory.specs.WorldRecord.{issued}
-use Rattle.mb_known.proofs.Cases.{not_le}
-use Rattle.mb_known.proofs.Rests.{Each, Rests}
-use Rattle.mb_known.proofs.Grown.{IsGivenTo, IsHashed, HasStrings}
-use Rattle.mb_known.proofs.Knows.{own_claim_in, accepted_issued}
-use Rattle.mb_known.proofs.Facts.{Facts, IsKnownBody}
+use Rattle.mb_world_model.specs.WorldEvents.{IsCorrect}
+use Rattle.mb_world_model.specs.World.{World, System, self_of}
+use Rattle.mb_world_model.specs.WorldRecord.{issued}
+use Rattle.mb_host_laws.proofs.Cases.{not_le}
+use Rattle.mb_host_laws.specs.Rests.{Each, Rests}
+use Rattle.mb_world_laws.proofs.Grown.{IsGivenTo, IsHashed, HasStrings}
+use Rattle.mb_host_laws.proofs.PartClaims.{own_claim_in}
+use Rattle.mb_world_laws.proofs.Knows.{accepted_issued}
+use Rattle.mb_world_laws.proofs.Facts.{Facts, IsKnownBody}
 use Rattle.mb_views.proofs.Follows.{JumpsLed}
-use Rattle.mb_known.proofs.Moments.{IsPast, each_at}
+use Rattle.mb_host_laws.proofs.Moments.{IsPast, each_at}
 use Rattle.mb_views.proofs.Floors.{arises_then}
-use Rattle.mb_known.proofs.Parts.{accepted_fits, accepted_body_hashed}
+use Rattle.mb_world_laws.proofs.AcceptedParts.{accepted_fits, accepted_body_hashed}
 use Rattle.mb_views.proofs.ChangeClaims.{log_owned, of_log}
 use Rattle.mb_views.proofs.UsableChanges.{IsGoodChange}
 use Rattle.mb_parts.specs.Rules.{rule_of}
-use Rattle.mb_known.proofs.PlanFits.{change_bases}
+use Rattle.mb_host_laws.proofs.PlanFits.{change_bases}
 
 -- ---- a message that passed its gate was not refused by it
 

@@ -26,23 +26,23 @@ use Rattle.mb_model.specs.GateChecks.{valid}
 use Rattle.mb_model.specs.Compared.{compared_in}
 use Rattle.mb_model.specs.Plans.{plan_of}
 use Rattle.mb_model.specs.Passed.{PassesStamped}
-use Rattle.mb_model.proofs.Members.{In}
+use Rattle.mb_model.specs.Members.{In}
 use Rattle.mb_model.proofs.Options.{or_some, if_some, map_some, then_none}
-use Rattle.mb_theory.specs.WorldEvents.{IsCorrect}
-use Rattle.mb_theory.specs.World.{World, System, self_of}
-use Rattle.mb_theory.specs.WorldRecord.{plans}
-use Rattle.mb_known.proofs.Cases.{not_false, some_is}
-use Rattle.mb_known.proofs.Found.{gives_current}
-use Rattle.mb_known.proofs.Rests.{Each, Rests}
-use Rattle.mb_known.proofs.Grown.{IsGivenTo, IsHashed, HasStrings}
-use Rattle.mb_known.proofs.Facts.{Facts}
+use Rattle.mb_world_model.specs.WorldEvents.{IsCorrect}
+use Rattle.mb_world_model.specs.World.{World, System, self_of}
+use Rattle.mb_world_model.specs.WorldRecord.{plans}
+use Rattle.mb_host_laws.proofs.Cases.{not_false, some_is}
+use Rattle.mb_host_laws.proofs.Found.{gives_current}
+use Rattle.mb_host_laws.specs.Rests.{Each, Rests}
+use Rattle.mb_world_laws.proofs.Grown.{IsGivenTo, IsHashed, HasStrings}
+use Rattle.mb_world_laws.proofs.Facts.{Facts}
 use Rattle.mb_views.proofs.Follows.{JumpsLed}
-use Rattle.mb_known.proofs.Moments.{IsPast, past_tail, each_at}
+use Rattle.mb_host_laws.proofs.Moments.{IsPast, past_tail, each_at}
 use Rattle.mb_views.proofs.Floors.{arises_then}
 use Rattle.mb_views.proofs.KnownPlans.{stable_base}
 use Rattle.mb_views.proofs.Planned.{plans_known}
-use Rattle.mb_known.proofs.PlanFits.{plan_fits}
-use Rattle.mb_known.proofs.Parts.{accepted_fits}
+use Rattle.mb_host_laws.proofs.PlanFits.{plan_fits}
+use Rattle.mb_world_laws.proofs.AcceptedParts.{accepted_fits}
 use Rattle.mb_views.proofs.HeldChanges.{gate_passed, whole_none}
 use Rattle.mb_views.proofs.GoodPlans.{IsGoodPlan, accepted_plan}
 use Rattle.mb_views.proofs.OwnPlans.{announced_plan}

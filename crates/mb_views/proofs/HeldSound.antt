@@ -39,14 +39,14 @@ use Rattle.mb_steps.specs.Arises.{Arises, Adds}
 use Rattle.mb_steps.proofs.StepHeldEvidence.{some_is, announce_seen}
 use Rattle.mb_steps.proofs.StepHeldStable.{changes_usable}
 use Rattle.mb_steps.proofs.StepPlanBases.{IsUsable, all_filter, all_append, all_found, all_any}
-use Rattle.mb_theory.specs.WorldEvents.{IsCorrect}
-use Rattle.mb_theory.specs.World.{World, System, self_of}
-use Rattle.mb_known.proofs.Cases.{all_taken, member}
-use Rattle.mb_known.proofs.Found.{gives_current}
-use Rattle.mb_known.proofs.Facts.{Facts}
-use Rattle.mb_known.proofs.Parts.{accepted_fits}
-use Rattle.mb_known.proofs.PlanFits.{FitsBases, change_bases}
-use Rattle.mb_known.proofs.Moments.{IsPast, past_tail, each_at, arises_by, stamped_by, past_past}
+use Rattle.mb_world_model.specs.WorldEvents.{IsCorrect}
+use Rattle.mb_world_model.specs.World.{World, System, self_of}
+use Rattle.mb_host_laws.proofs.Cases.{all_taken, member}
+use Rattle.mb_host_laws.proofs.Found.{gives_current}
+use Rattle.mb_world_laws.proofs.Facts.{Facts}
+use Rattle.mb_world_laws.proofs.AcceptedParts.{accepted_fits}
+use Rattle.mb_host_laws.proofs.PlanFits.{FitsBases, change_bases}
+use Rattle.mb_host_laws.proofs.Moments.{IsPast, past_tail, each_at, arises_by, stamped_by, past_past}
 use Rattle.mb_views.proofs.SoundPlans.{IsBaseCert, AreTagged, IsSoundChange, changes_sound}
 use Rattle.mb_views.proofs.PlanMoments.{held_from}
 

@@ -1,10 +1,10 @@
 -- Views agree in each world that nothing stopped.
 use Rattle.std.proofs.Common.{ℕ}
-use Rattle.mb_theory.specs.Hashed.{HashesApart}
-use Rattle.mb_theory.specs.WorldSteps.{world}
-use Rattle.mb_theory.specs.Stops.{IsUnstopped}
-use Rattle.mb_known.proofs.Facts.{Facts}
-use Rattle.mb_known.proofs.FactsOf.{facts_in}
+use Rattle.mb_world_model.specs.Hashed.{HashesApart}
+use Rattle.mb_world_model.specs.WorldSteps.{world}
+use Rattle.mb_world_model.specs.Stops.{IsUnstopped}
+use Rattle.mb_world_laws.proofs.Facts.{Facts}
+use Rattle.mb_world_laws.proofs.FactsOf.{facts_in}
 use Rattle.mb_views.specs.Worlds.{WorldsAgree}
 use Rattle.mb_views.proofs.Jumps.{jumps_led}
 use Rattle.mb_views.proofs.Agreed.{views_agree_in}

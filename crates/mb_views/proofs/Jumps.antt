@@ -18,20 +18,22 @@ use Rattle.mb_msg.specs.declared.message.Message.TheVariants as message
 use Rattle.mb_msg.specs.declared.transfer.Log.{Log}
 use Rattle.mb_model.specs.Verified.{verifies}
 use Rattle.mb_model.specs.Histories.{Entry, Jumped, History}
-use Rattle.mb_model.proofs.Members.{In, in_left, in_right, in_contained, contained}
-use Rattle.mb_theory.specs.Hashed.{HashesApart}
+use Rattle.mb_model.specs.Members.{In}
+use Rattle.mb_model.proofs.Members.{in_left, in_right, in_contained, contained}
+use Rattle.mb_world_model.specs.Hashed.{HashesApart}
 use Rattle.mb_model.specs.Inside.{claims_in, stamped_claims, strings_in, bodies_in, requests_in, stamped_bodies, floor_bodies}
-use Rattle.mb_theory.specs.WorldEvents.{IsCorrect}
-use Rattle.mb_theory.specs.World.{World, System, self_of}
-use Rattle.mb_theory.specs.WorldSteps.{world}
-use Rattle.mb_theory.specs.WorldRecord.{issued}
-use Rattle.mb_theory.specs.Stops.{IsUnstopped}
-use Rattle.mb_known.proofs.Cases.{all_at, each_in, some_has}
-use Rattle.mb_known.proofs.Found.{each_carries}
-use Rattle.mb_known.proofs.Rests.{Each, each_more, Rests}
-use Rattle.mb_known.proofs.Grown.{IsGivenTo, IsHashed, HasStrings}
-use Rattle.mb_known.proofs.Standings.{Passage, passage, before_last}
-use Rattle.mb_known.proofs.Facts.{Facts}
+use Rattle.mb_world_model.specs.WorldEvents.{IsCorrect}
+use Rattle.mb_world_model.specs.World.{World, System, self_of}
+use Rattle.mb_world_model.specs.WorldSteps.{world}
+use Rattle.mb_world_model.specs.WorldRecord.{issued}
+use Rattle.mb_world_model.specs.Stops.{IsUnstopped}
+use Rattle.mb_host_laws.proofs.Cases.{all_at, each_in, some_has}
+use Rattle.mb_host_laws.proofs.Found.{each_carries}
+use Rattle.mb_host_laws.specs.Rests.{Each, Rests}
+use Rattle.mb_host_laws.proofs.Rests.{each_more}
+use Rattle.mb_world_laws.proofs.Grown.{IsGivenTo, IsHashed, HasStrings}
+use Rattle.mb_world_laws.proofs.Standings.{Passage, passage, before_last}
+use Rattle.mb_world_laws.proofs.Facts.{Facts}
 use Rattle.mb_views.proofs.Follows.{IsLed, JumpsLed}
 use Rattle.mb_views.proofs.Certified.{certified_led}
 use Rattle.mb_model.specs.Compared.{inside_some}

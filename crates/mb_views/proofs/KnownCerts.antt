@@ -15,18 +15,18 @@ use Rattle.mb_model.specs.Verified.{verifies}
 use Rattle.mb_model.specs.Histories.{Entry, Accepted, Stamped, History, Identity}
 use Rattle.mb_model.specs.GateChecks.{stamp_claim}
 use Rattle.mb_model.specs.Stable.{checkpoint_in, checkpoint_by, checkpoint_of, first_agreed, checkpoints_at, same_state, stable_member, stable_cert, agreed_at, agreed_above}
-use Rattle.mb_model.proofs.Members.{In}
+use Rattle.mb_model.specs.Members.{In}
 use Rattle.mb_model.proofs.Options.{or_some, if_some}
 use Rattle.mb_steps.proofs.StepHeldEvidence.{some_is, then_some_of}
 use Rattle.mb_steps.proofs.StepPlanBases.{all_found, all_any}
-use Rattle.mb_theory.specs.WorldEvents.{IsCorrect}
-use Rattle.mb_theory.specs.World.{World, System, self_of}
-use Rattle.mb_theory.specs.Justification.{IsKnown}
-use Rattle.mb_known.proofs.Cases.{all_taken}
-use Rattle.mb_known.proofs.Facts.{Facts}
-use Rattle.mb_known.proofs.Moments.{IsPast, past_tail, each_at}
-use Rattle.mb_known.proofs.Knows.{own_claim_in}
-use Rattle.mb_known.proofs.OwnIssued.{own_stamp}
+use Rattle.mb_world_model.specs.WorldEvents.{IsCorrect}
+use Rattle.mb_world_model.specs.World.{World, System, self_of}
+use Rattle.mb_promise.specs.Justification.{IsKnown}
+use Rattle.mb_host_laws.proofs.Cases.{all_taken}
+use Rattle.mb_world_laws.proofs.Facts.{Facts}
+use Rattle.mb_host_laws.proofs.Moments.{IsPast, past_tail, each_at}
+use Rattle.mb_host_laws.proofs.PartClaims.{own_claim_in}
+use Rattle.mb_world_laws.proofs.OwnIssued.{own_stamp}
 use Rattle.mb_views.proofs.GateGiven.{claim_given}
 
 -- the first of a list that agree, as many as are wanted: all are like one of them

@@ -25,18 +25,18 @@ use Rattle.mb_model.specs.Held.{change_fault, is_current, change_in, arrived, ch
 use Rattle.mb_model.specs.Stable.{stable_of}
 use Rattle.mb_model.specs.Sending.{next_ui}
 use Rattle.mb_model.specs.Making.{view_change, new_view, join, join_evidence}
-use Rattle.mb_model.proofs.Members.{In}
+use Rattle.mb_model.specs.Members.{In}
 use Rattle.mb_model.proofs.Options.{if_some}
 use Rattle.mb_steps.specs.Arises.{Adds, Makes}
 use Rattle.mb_steps.proofs.StepHeldEvidence.{some_is, announce_seen}
 use Rattle.mb_steps.proofs.StepPlanBases.{all_filter, all_append}
 use Rattle.mb_model.specs.Inside.{claims_in, change_claims, open_body_claims, new_view_claims, stamped_claims}
-use Rattle.mb_theory.specs.WorldEvents.{IsCorrect}
-use Rattle.mb_theory.specs.World.{World, System, self_of}
-use Rattle.mb_theory.proofs.KeptForms.{forms_keep}
-use Rattle.mb_known.proofs.Cases.{all_reverse, all_taken, none_some, same_whole}
-use Rattle.mb_known.proofs.Facts.{Facts}
-use Rattle.mb_known.proofs.Moments.{IsPast}
+use Rattle.mb_world_model.specs.WorldEvents.{IsCorrect}
+use Rattle.mb_world_model.specs.World.{World, System, self_of}
+use Rattle.mb_host_laws.proofs.KeptForms.{forms_keep}
+use Rattle.mb_host_laws.proofs.Cases.{all_reverse, all_taken, none_some, same_whole}
+use Rattle.mb_world_laws.proofs.Facts.{Facts}
+use Rattle.mb_host_laws.proofs.Moments.{IsPast}
 use Rattle.mb_views.proofs.HeldSound.{chosen_all}
 use Rattle.mb_views.proofs.OwnSeen.{SeenOpen, seen_open}
 use Rattle.mb_views.proofs.ShownLists.{all_map}

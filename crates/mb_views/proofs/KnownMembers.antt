@@ -16,10 +16,10 @@ use Rattle.mb_steps.specs.Arises.{Arises, Adds}
 use Rattle.mb_steps.proofs.StepHeldEvidence.{some_is}
 use Rattle.mb_model.specs.Inside.{claims_in, stamped_claims, join_claims}
 use Rattle.mb_parts.specs.Claims.{evidence_claims, floor_claims}
-use Rattle.mb_theory.specs.WorldEvents.{IsCorrect}
-use Rattle.mb_theory.specs.World.{World, System, self_of}
-use Rattle.mb_known.proofs.Facts.{Facts}
-use Rattle.mb_known.proofs.Moments.{IsPast, past_tail}
+use Rattle.mb_world_model.specs.WorldEvents.{IsCorrect}
+use Rattle.mb_world_model.specs.World.{World, System, self_of}
+use Rattle.mb_world_laws.proofs.Facts.{Facts}
+use Rattle.mb_host_laws.proofs.Moments.{IsPast, past_tail}
 use Rattle.mb_views.proofs.KnownCerts.{IsKnownCert, above_known}
 use Rattle.mb_views.proofs.KnownStable.{none_known, left, right, accepted_claims}
 use Rattle.mb_model.specs.Compared.{inside_some}

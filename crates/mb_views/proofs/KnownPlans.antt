@@ -32,13 +32,13 @@ use Rattle.mb_model.specs.GateChecks.{valid}
 use Rattle.mb_model.specs.Compared.{strings_where, inside_some, compared_in_open, compared_in_entry, compared_in_entries, reaches_entries, compared_in_body}
 use Rattle.mb_model.proofs.Options.{or_none, then_none}
 use Rattle.mb_model.proofs.UsableLaws.{not_refused, refused_not, map_none}
-use Rattle.mb_model.proofs.Members.{In}
-use Rattle.mb_theory.specs.Hashed.{HashesApart}
-use Rattle.mb_theory.specs.WorldRecord.{plans_of}
-use Rattle.mb_known.proofs.Cases.{all_left, all_right}
+use Rattle.mb_model.specs.Members.{In}
+use Rattle.mb_world_model.specs.Hashed.{HashesApart}
+use Rattle.mb_world_model.specs.WorldRecord.{plans_of}
+use Rattle.mb_host_laws.proofs.Cases.{all_left, all_right}
 use Rattle.mb_views.proofs.Planned.{FitsBase, plans_known}
 use Rattle.mb_msg.specs.Bodies.{inside_whole}
-use Rattle.mb_known.proofs.PlanFits.{OfBody, OfEntry, FitsBases}
+use Rattle.mb_host_laws.proofs.PlanFits.{OfBody, OfEntry, FitsBases}
 
 held_state : (s : Shape) (pos : ℕ) (state : Bytes) (members : List StableMember) → FitsHeld s pos state members → IsDigest state
 held_state s zero state members h = subst (λ (x : Bytes). IsDigest x) (sym h.0) refl

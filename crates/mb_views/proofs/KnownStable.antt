@@ -20,17 +20,18 @@ use Rattle.mb_model.specs.UsableLogs.{newest_first}
 use Rattle.mb_model.specs.Plans.{ShownLog, body_base, base_shown, no_base}
 use Rattle.mb_model.specs.Histories.{Accepted, History, Identity}
 use Rattle.mb_model.specs.Held.{shown_log, logs_of, plan_from}
-use Rattle.mb_model.proofs.Members.{In, in_left, in_right}
+use Rattle.mb_model.specs.Members.{In}
+use Rattle.mb_model.proofs.Members.{in_left, in_right}
 use Rattle.mb_steps.proofs.StepHeldEvidence.{some_is}
 use Rattle.mb_steps.proofs.StepPlanBases.{all_found}
 use Rattle.mb_model.specs.Inside.{claims_in, shown_claims, change_claims, member_claims, open_body_claims, open_claims, join_claims}
-use Rattle.mb_theory.specs.WorldEvents.{IsCorrect}
-use Rattle.mb_theory.specs.World.{World, System, self_of}
-use Rattle.mb_known.proofs.Found.{all_newest}
-use Rattle.mb_known.proofs.Facts.{Facts}
-use Rattle.mb_known.proofs.Moments.{IsPast, each_at}
+use Rattle.mb_world_model.specs.WorldEvents.{IsCorrect}
+use Rattle.mb_world_model.specs.World.{World, System, self_of}
+use Rattle.mb_host_laws.proofs.Found.{all_newest}
+use Rattle.mb_world_laws.proofs.Facts.{Facts}
+use Rattle.mb_host_laws.proofs.Moments.{IsPast, each_at}
 use Rattle.mb_views.proofs.GateGiven.{claim_given}
-use Rattle.mb_known.proofs.PlanShows.{ShowsSound, plan_holds}
+use Rattle.mb_host_laws.proofs.PlanShows.{ShowsSound, plan_holds}
 use Rattle.mb_model.specs.Compared.{inside_some}
 use Rattle.mb_msg.specs.Bodies.{inside_whole}
 use Rattle.mb_views.proofs.KnownCerts.{IsKnownClaim, IsKnownCert}

@@ -15,15 +15,15 @@ use Rattle.mb_msg.specs.Plans.{plan_end, plan_digest}
 use Rattle.mb_agreement.specs.Agreement.{IsMadeOf, IsUsableLog}
 use Rattle.mb_model.specs.Held.{shown_log, logs_of}
 use Rattle.mb_model.specs.Plans.{ShownLog, plan_of}
-use Rattle.mb_theory.specs.WorldEvents.{IsCorrect}
-use Rattle.mb_theory.specs.World.{World, System}
-use Rattle.mb_theory.specs.WorldRecord.{issued, prefix, plans}
-use Rattle.mb_known.proofs.Rests.{Each}
-use Rattle.mb_known.proofs.Facts.{Facts}
+use Rattle.mb_world_model.specs.WorldEvents.{IsCorrect}
+use Rattle.mb_world_model.specs.World.{World, System}
+use Rattle.mb_world_model.specs.WorldRecord.{issued, prefix, plans}
+use Rattle.mb_host_laws.specs.Rests.{Each}
+use Rattle.mb_world_laws.proofs.Facts.{Facts}
 use Rattle.mb_views.proofs.Follows.{JumpsLed}
 use Rattle.mb_views.proofs.KnownPlans.{stable_base}
 use Rattle.mb_views.proofs.Planned.{plans_known}
-use Rattle.mb_known.proofs.PlanFits.{FitsBases, plan_fits}
+use Rattle.mb_host_laws.proofs.PlanFits.{FitsBases, plan_fits}
 use Rattle.mb_views.proofs.UsableChanges.{usable_log}
 use Rattle.mb_views.proofs.GoodPlans.{IsGoodMember, IsGoodPlan}
 

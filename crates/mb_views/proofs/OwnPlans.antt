@@ -21,24 +21,24 @@ use Rattle.mb_model.specs.Histories.{Entry, Accepted, Stamped, History, Identity
 use Rattle.mb_model.specs.Held.{change_fault, is_current, change_in, arrived, changes_of, by_rising_host, chosen, plan_from}
 use Rattle.mb_model.specs.Sending.{next_ui}
 use Rattle.mb_model.specs.Making.{new_view}
-use Rattle.mb_model.proofs.Members.{In}
+use Rattle.mb_model.specs.Members.{In}
 use Rattle.mb_model.proofs.Options.{if_some}
 use Rattle.mb_model.proofs.RisingLists.{RiseFrom, rise_found}
 use Rattle.mb_steps.specs.Arises.{Makes}
 use Rattle.mb_steps.proofs.StepHeldEvidence.{announce_seen}
 use Rattle.mb_steps.proofs.StepPlanBases.{all_filter, all_append, all_found, all_any}
-use Rattle.mb_theory.specs.WorldEvents.{IsCorrect}
-use Rattle.mb_theory.specs.World.{World, System, self_of}
-use Rattle.mb_known.proofs.Cases.{all_taken, none_is, some_is, whole_of}
-use Rattle.mb_known.proofs.DistinctHosts.{find_good, chosen_members}
-use Rattle.mb_known.proofs.Rests.{Each, Rests}
-use Rattle.mb_known.proofs.Grown.{IsGivenTo, IsHashed, HasStrings}
-use Rattle.mb_known.proofs.Facts.{Facts, IsKnownBody}
+use Rattle.mb_world_model.specs.WorldEvents.{IsCorrect}
+use Rattle.mb_world_model.specs.World.{World, System, self_of}
+use Rattle.mb_host_laws.proofs.Cases.{all_taken, none_is, some_is, whole_of}
+use Rattle.mb_host_laws.proofs.DistinctHosts.{find_good, chosen_members}
+use Rattle.mb_host_laws.specs.Rests.{Each, Rests}
+use Rattle.mb_world_laws.proofs.Grown.{IsGivenTo, IsHashed, HasStrings}
+use Rattle.mb_world_laws.proofs.Facts.{Facts, IsKnownBody}
 use Rattle.mb_views.proofs.Follows.{JumpsLed}
-use Rattle.mb_known.proofs.Moments.{IsPast, past_tail, each_at}
+use Rattle.mb_host_laws.proofs.Moments.{IsPast, past_tail, each_at}
 use Rattle.mb_views.proofs.Floors.{arises_then}
 use Rattle.mb_views.proofs.Certified.{stamped_in}
-use Rattle.mb_known.proofs.OwnIssued.{own_stamp}
+use Rattle.mb_world_laws.proofs.OwnIssued.{own_stamp}
 use Rattle.mb_views.proofs.UsableChanges.{IsGoodChange}
 use Rattle.mb_views.proofs.HeldChanges.{whole_none, accepted_change}
 use Rattle.mb_views.proofs.GoodPlans.{IsGoodMember, IsGoodPlan}

@@ -32,7 +32,7 @@ use Rattle.mb_model.specs.EnabledRules.{may_order, Commit, Prepare, Open, with_b
 use Rattle.mb_model.proofs.Options.{map_some, if_some}
 use Rattle.mb_steps.specs.Arises.{Makes}
 use Rattle.mb_steps.proofs.StepHeldEvidence.{open_seen}
-use Rattle.mb_known.proofs.Found.{opened_plan, commit_shape}
+use Rattle.mb_host_laws.proofs.Found.{opened_plan, commit_shape}
 use Rattle.mb_views.proofs.PlanMoments.{base_below}
 
 module _ {S : Type 0} (self : Identity S) where

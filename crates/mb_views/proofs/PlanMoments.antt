@@ -9,7 +9,7 @@ use Rattle.mb_model.specs.Held.{plan_in, plan_held}
 use Rattle.mb_model.specs.Stable.{stable_of, low_of, learnt_in, further}
 use Rattle.mb_model.proofs.Options.{or_some}
 use Rattle.mb_steps.proofs.StepPotential.{further_both, grown_low}
-use Rattle.mb_known.proofs.Moments.{IsPast}
+use Rattle.mb_host_laws.proofs.Moments.{IsPast}
 
 -- The stable position only grows.
 pub low_grows : {S : Type 0} (self : Identity S) (later d : History) → low_of self d ≤ low_of self (later ++ d)

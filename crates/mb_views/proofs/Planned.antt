@@ -24,10 +24,11 @@ use Rattle.mb_parts.proofs.Fields.{digest_field}
 use Rattle.mb_msg.specs.declared.change.Plan.{Plan}
 use Rattle.mb_msg.specs.Plans.{plan_string, plan_text, plan_digest}
 use Rattle.mb_agreement.specs.Agreement.{text_of}
-use Rattle.mb_model.proofs.Members.{In, contained}
-use Rattle.mb_theory.specs.Hashed.{HashesApart}
-use Rattle.mb_theory.specs.WorldRecord.{plan_text_at, plan_text_of, plan_with_digest, plans_of}
-use Rattle.mb_known.proofs.Cases.{not_both, some_or}
+use Rattle.mb_model.specs.Members.{In}
+use Rattle.mb_model.proofs.Members.{contained}
+use Rattle.mb_world_model.specs.Hashed.{HashesApart}
+use Rattle.mb_world_model.specs.WorldRecord.{plan_text_at, plan_text_of, plan_with_digest, plans_of}
+use Rattle.mb_host_laws.proofs.Cases.{not_both, some_or}
 
 -- The base of a plan has a position that fits its bytes, and a state digest of 32 bytes.
 pub record FitsBase (c : StableCert) : Type 0 where

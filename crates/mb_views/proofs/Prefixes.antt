@@ -26,11 +26,11 @@ use Rattle.mb_parts.proofs.LongestOrdered.{prefix_whole}
 use Rattle.mb_model.specs.Verified.{verifies}
 use Rattle.mb_model.specs.Histories.{said}
 use Rattle.mb_steps.proofs.StepOwnStamped.{steady}
-use Rattle.mb_theory.specs.WorldEvents.{IsCorrect}
-use Rattle.mb_theory.specs.World.{World, System, self_of}
-use Rattle.mb_theory.specs.WorldRecord.{issued, prefix}
-use Rattle.mb_theory.specs.Justification.{is_sound}
-use Rattle.mb_known.proofs.Facts.{Facts}
+use Rattle.mb_world_model.specs.WorldEvents.{IsCorrect}
+use Rattle.mb_world_model.specs.World.{World, System, self_of}
+use Rattle.mb_world_model.specs.WorldRecord.{issued, prefix}
+use Rattle.mb_promise.specs.Justification.{is_sound}
+use Rattle.mb_world_laws.proofs.Facts.{Facts}
 
 module _ (s : Shape) (verified issued : Claim → Bool) where
   pub twice : (claims : List Claim) → Carries verified issued claims → Carries verified (both verified issued) claims

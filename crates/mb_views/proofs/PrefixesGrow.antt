@@ -18,11 +18,11 @@ use Rattle.mb_parts.specs.OrderedLists.{IsLongestOrdered}
 use Rattle.mb_parts.specs.Issued.{stamped_prefix}
 use Rattle.mb_parts.proofs.CertificateLaws.{ordered_more, inner_more}
 use Rattle.mb_parts.proofs.LongestOrdered.{prefix_whole, longest}
-use Rattle.mb_theory.specs.World.{World, System, stamps}
+use Rattle.mb_world_model.specs.World.{World, System, stamps}
 use Rattle.mb_schedule.specs.declared.schedule.Schedule.{Schedule}
-use Rattle.mb_theory.specs.WorldRecord.{issued, prefix}
-use Rattle.mb_known.proofs.Grown.{Grows, issued_grows}
-use Rattle.mb_known.proofs.Facts.{Facts}
+use Rattle.mb_world_model.specs.WorldRecord.{issued, prefix}
+use Rattle.mb_world_laws.proofs.Grown.{Grows, issued_grows}
+use Rattle.mb_world_laws.proofs.Facts.{Facts}
 use Rattle.mb_views.proofs.Follows.{IsLed}
 
 pub beginning_then : {A : Type 0} (x y z : List A) → IsBeginning x y → IsBeginning y z → IsBeginning x z

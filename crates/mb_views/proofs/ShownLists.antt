@@ -5,7 +5,7 @@ use Rattle.std.specs.List.{AllByRecursion}
 use Rattle.std.proofs.lemmas.List.{append-nil, reverse-append}
 use Rattle.mb_msg.specs.declared.stamped.Shown.{Shown}
 use Rattle.mb_model.specs.UsableLogs.{newest_first}
-use Rattle.mb_known.proofs.Cases.{map_append}
+use Rattle.mb_host_laws.proofs.Cases.{map_append}
 
 newest_append : (l a b : List Shown) → newest_first l (a ++ b) ≡ newest_first (newest_first l a) b
 newest_append l [] b = refl

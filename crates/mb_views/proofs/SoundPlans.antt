@@ -28,9 +28,9 @@ use Rattle.mb_model.proofs.Options.{or_none, then_none, map_some, if_some}
 use Rattle.mb_model.proofs.UsableLaws.{AreSound, all_sound}
 use Rattle.mb_steps.proofs.StepHeldEvidence.{some_is, join_inside, join_stable_valid}
 use Rattle.mb_steps.proofs.StepPlanBases.{all_found}
-use Rattle.mb_known.proofs.Found.{all_newest}
-use Rattle.mb_known.proofs.PlanFits.{FitsBases, OfBody, OfEntry}
-use Rattle.mb_known.proofs.PlanShows.{ShowsSound, plan_holds}
+use Rattle.mb_host_laws.proofs.Found.{all_newest}
+use Rattle.mb_host_laws.proofs.PlanFits.{FitsBases, OfBody, OfEntry}
+use Rattle.mb_host_laws.proofs.PlanShows.{ShowsSound, plan_holds}
 
 list_member : {A : Type 0} (t : A → Bool) (l : List A) → list_all t l ≡ true → (i : ℕ) (x : A) → slice_get l i ≡ Some x → t x ≡ true
 list_member t [] a i x e = absurd cc

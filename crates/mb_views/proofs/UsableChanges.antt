@@ -23,14 +23,14 @@ use Rattle.mb_model.specs.GateChecks.{stamp_claim}
 use Rattle.mb_model.specs.UsableLogs.{log_fault}
 use Rattle.mb_model.specs.Verified.{verifies}
 use Rattle.mb_model.proofs.CarriedLogs.{logs_carry_over}
-use Rattle.mb_theory.specs.WorldEvents.{IsCorrect}
-use Rattle.mb_theory.specs.World.{World, System, self_of}
-use Rattle.mb_theory.specs.WorldRecord.{issued, prefix, plans}
-use Rattle.mb_known.proofs.Cases.{some_has}
-use Rattle.mb_known.proofs.Found.{all_newest}
-use Rattle.mb_known.proofs.Rests.{Each}
-use Rattle.mb_known.proofs.Grown.{IsHashed}
-use Rattle.mb_known.proofs.Facts.{Facts, IsKnownBody}
+use Rattle.mb_world_model.specs.WorldEvents.{IsCorrect}
+use Rattle.mb_world_model.specs.World.{World, System, self_of}
+use Rattle.mb_world_model.specs.WorldRecord.{issued, prefix, plans}
+use Rattle.mb_host_laws.proofs.Cases.{some_has}
+use Rattle.mb_host_laws.proofs.Found.{all_newest}
+use Rattle.mb_host_laws.specs.Rests.{Each}
+use Rattle.mb_world_laws.proofs.Grown.{IsHashed}
+use Rattle.mb_world_laws.proofs.Facts.{Facts, IsKnownBody}
 use Rattle.mb_views.proofs.Follows.{IsLed, JumpsLed}
 use Rattle.mb_views.proofs.Certified.{certified_led}
 use Rattle.mb_views.proofs.KnownPlans.{log_known}

@@ -1,11 +1,11 @@
 -- What all hosts stamped agrees across views, in each world of a schedule.
 use Rattle.std.specs.Prelude.{◌≡◌, ℕ, ◌≤◌, length}
-use Rattle.mb_theory.specs.Hashed.{HashesApart}
+use Rattle.mb_world_model.specs.Hashed.{HashesApart}
 use Rattle.mb_schedule.specs.Limits.{IsSchedule}
-use Rattle.mb_theory.specs.World.{System}
-use Rattle.mb_theory.specs.WorldSteps.{world}
-use Rattle.mb_theory.specs.WorldRecord.{ViewsAgree}
-use Rattle.mb_theory.specs.Stops.{IsUnstopped}
+use Rattle.mb_world_model.specs.World.{System}
+use Rattle.mb_world_model.specs.WorldSteps.{world}
+use Rattle.mb_world_model.specs.WorldRecord.{ViewsAgree}
+use Rattle.mb_world_model.specs.Stops.{IsUnstopped}
 
 -- For every service and every schedule with at most f faulty hosts: after each event, while nothing was
 -- forged or refused by the world and no two of the strings hashed so far share a digest.

@@ -20,10 +20,10 @@ use Rattle.mb_model.specs.Making.{resend, wish}
 use Rattle.mb_model.specs.Given.{stored_reply}
 use Rattle.mb_model.specs.HostStep.{transition}
 use Rattle.mb_model.proofs.StepOnLiterals.{host_on_literals}
-use Rattle.mb_theory.specs.Answers as answers
-use Rattle.mb_theory.specs.ShowsLog.{ShowsLog, ShowsState}
-use Rattle.mb_theory.specs.Sends.{SendsAll, SendsAdded}
-use Rattle.mb_theory.specs.TakesLogs as logs
+use Rattle.mb_promise.specs.Answers as answers
+use Rattle.mb_promise.specs.ShowsLog.{ShowsLog, ShowsState}
+use Rattle.mb_promise.specs.Sends.{SendsAll, SendsAdded}
+use Rattle.mb_promise.specs.TakesLogs as logs
 use Rattle.mb_agreement.proofs.ViewChangeData.{secret, three, at_zero, asked_0}
 use Rattle.mb_witness.proofs.Data.{host, prepare_1, commit_1, floor_0, stable_4, parts_4, floor_cert_0}
 use Rattle.mb_witness.proofs.NormalCase.{left_by}

@@ -32,12 +32,12 @@ use Rattle.mb_model.specs.Making.{floors_under, wish_for, resend, fetch}
 use Rattle.mb_model.specs.Given.{stored_reply}
 use Rattle.mb_model.specs.HostStep.{transition}
 use Rattle.mb_model.proofs.StepOnLiterals.{host_on_literals}
-use Rattle.mb_theory.specs.JoinsWithCause.{JoinsWithCause, MayStampJoin}
-use Rattle.mb_theory.specs.OwnChanges.{ShowsInChanges, ChangeShows, NewViewShows, EnterAnswers}
-use Rattle.mb_theory.specs.OwnStamps.{CountsOwnPrepares, PrepareCounts}
-use Rattle.mb_theory.specs.ShowsLog.{ShowsLog, ShowsState, IsShownOf}
-use Rattle.mb_theory.specs.Says as says
-use Rattle.mb_theory.specs.TellsFloors.{TellsFloors, Tells}
+use Rattle.mb_promise.specs.JoinsWithCause.{JoinsWithCause, MayStampJoin}
+use Rattle.mb_promise.specs.OwnChanges.{ShowsInChanges, ChangeShows, NewViewShows, EnterAnswers}
+use Rattle.mb_promise.specs.OwnStamps.{CountsOwnPrepares, PrepareCounts}
+use Rattle.mb_promise.specs.ShowsLog.{ShowsLog, ShowsState, IsShownOf}
+use Rattle.mb_promise.specs.Says as says
+use Rattle.mb_promise.specs.TellsFloors.{TellsFloors, Tells}
 use Rattle.mb_agreement.proofs.ViewChangeData.{secret, at_zero, asked_0, asked, log_2}
 use Rattle.mb_witness.proofs.Data.{host, prepare_1, wish_1, change_1, change_2, new_view_1, enter_2, stable_4, parts_4, point, join_1}
 use Rattle.mb_witness.proofs.NormalCase.{left_by}

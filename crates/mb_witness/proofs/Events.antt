@@ -22,10 +22,10 @@ use Rattle.mb_model.specs.Histories.{Entry, Accepted, Stamped, Jumped, Closed, E
 use Rattle.mb_model.specs.Sending.{Letter, to_all, to_host}
 use Rattle.mb_model.specs.HostStep.{transition}
 use Rattle.mb_model.proofs.StepOnLiterals.{host_on_literals}
-use Rattle.mb_theory.specs.Writes.{ComesFirst, WritesTaken, WritesPatience, WritesNudge}
-use Rattle.mb_theory.specs.AddsGiven.{AddsGiven, AddsWhatCame, ComesWith, AllCome, IsDone}
-use Rattle.mb_theory.specs.LeavesAlone.{KeepsRefused, KeepsMalformed, KeepsPatience}
-use Rattle.mb_theory.specs.TellsAndAsks.{TellsPatience, IsToldWishFor, FetchesWhereRisen}
+use Rattle.mb_promise.specs.Writes.{ComesFirst, WritesTaken, WritesPatience, WritesNudge}
+use Rattle.mb_promise.specs.AddsGiven.{AddsGiven, AddsWhatCame, ComesWith, AllCome, IsDone}
+use Rattle.mb_promise.specs.LeavesAlone.{KeepsRefused, KeepsMalformed, KeepsPatience}
+use Rattle.mb_promise.specs.TellsAndAsks.{TellsPatience, IsToldWishFor, FetchesWhereRisen}
 use Rattle.mb_agreement.proofs.ViewChangeData.{secret, three, plan_1, asked_0, asked_1}
 use Rattle.mb_witness.proofs.Data.{host, prepare_1, commit_1, wish_1, change_2, slot_1, placed, floor_0, stable_4, floor_cert_0, join_1}
 use Rattle.mb_witness.proofs.NormalCase.{left_by}

@@ -10,9 +10,9 @@ use Rattle.mb_model.specs.Stable.{stable_of}
 use Rattle.mb_model.specs.States.{parts_of}
 use Rattle.mb_model.specs.Execution.{state_of}
 use Rattle.mb_model.proofs.StepOnLiterals.{host_on_literals}
-use Rattle.mb_theory.specs.KeepsTables.{IsChange, outdoes, is_open_of, is_checkpoint_of, is_execution_of, IsCheckpoint}
-use Rattle.mb_theory.specs.WhatCame.{FindsWhatCame, SlotCame, VoteCame, PartCame}
-use Rattle.mb_theory.specs.FindsTables as finds
+use Rattle.mb_promise.specs.KeepsTables.{IsChange, outdoes, is_open_of, is_checkpoint_of, is_execution_of, IsCheckpoint}
+use Rattle.mb_promise.specs.WhatCame.{FindsWhatCame, SlotCame, VoteCame, PartCame}
+use Rattle.mb_promise.specs.FindsTables as finds
 use Rattle.mb_agreement.proofs.ViewChangeData.{asked_0, asked, evidence_1}
 use Rattle.mb_witness.proofs.Data.{host, change_2, new_view_1, enter_2, carried, parts_4, point}
 use Rattle.mb_witness.proofs.NormalCase.{committed, slot_of_1, vote_1}

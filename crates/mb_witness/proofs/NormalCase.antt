@@ -18,7 +18,7 @@ use Rattle.mb_model.specs.Positions.{slot_in, vote_of}
 use Rattle.mb_model.specs.EnabledRules.{unordered}
 use Rattle.mb_model.specs.HostStep.{transition}
 use Rattle.mb_model.proofs.StepOnLiterals.{host_on_literals}
-use Rattle.mb_theory.specs.NothingLeft.{OrdersRequests, IsUnordered, OrdersAllThatFit, IsFull, CommitsNext, ExecutesAtQuorum, StampsCheckpoints, IsCheckpointed, KeepsSlots, CountsPrepares, CountsCommits, CommitCompletes, PrepareCompletes, BothComplete, ExecutesWithCommit, ExecutesWithPrepare, ExecutesWithBoth, Executes}
+use Rattle.mb_promise.specs.NothingLeft.{OrdersRequests, IsUnordered, OrdersAllThatFit, IsFull, CommitsNext, ExecutesAtQuorum, StampsCheckpoints, IsCheckpointed, KeepsSlots, CountsPrepares, CountsCommits, CommitCompletes, PrepareCompletes, BothComplete, ExecutesWithCommit, ExecutesWithPrepare, ExecutesWithBoth, Executes}
 use Rattle.mb_agreement.proofs.ViewChangeData.{asked_0, asked_1, asked, prepare_cert}
 use Rattle.mb_witness.proofs.Data.{host, prepare_1, commit_1, slot_1, slot_4, placed}
 

@@ -14,14 +14,14 @@ use Rattle.mb_schedule.specs.declared.schedule.WorldEvent.{WorldEvent}
 use Rattle.mb_schedule.specs.declared.schedule.WorldEvent.TheVariants.{Raw}
 use Rattle.mb_model.specs.Histories.{Closed}
 use Rattle.mb_agreement.proofs.ViewChangeData.{asked}
-use Rattle.mb_theory.specs.World.{World, System, OfHost, nothing_happened}
-use Rattle.mb_theory.specs.WorldSteps.{happens}
-use Rattle.mb_theory.specs.WorldEvents.{IsCorrect}
-use Rattle.mb_theory.specs.NothingLeft.{HasExecuted}
-use Rattle.mb_theory.specs.ExecutesAtOnce.{ExecutesAtOnce}
-use Rattle.mb_theory.specs.EventsStep.{EventsStep, MakesStep}
-use Rattle.mb_theory.specs.NoEventBlames.{NoEventBlames, IsOfCorrect, is_blame}
-use Rattle.mb_theory.proofs.WorldsOnLiterals.{worlds_on_literals}
+use Rattle.mb_world_model.specs.World.{World, System, OfHost, nothing_happened}
+use Rattle.mb_world_model.specs.WorldSteps.{happens}
+use Rattle.mb_world_model.specs.WorldEvents.{IsCorrect}
+use Rattle.mb_promise.specs.NothingLeft.{HasExecuted}
+use Rattle.mb_promise.specs.ExecutesAtOnce.{ExecutesAtOnce}
+use Rattle.mb_world_model.specs.EventsStep.{EventsStep, MakesStep}
+use Rattle.mb_promise.specs.NoEventBlames.{NoEventBlames, IsOfCorrect, is_blame}
+use Rattle.mb_world_model.proofs.WorldsOnLiterals.{worlds_on_literals}
 use Rattle.mb_witness.proofs.Data.{keeps_last, first_part, commit_1}
 use Rattle.mb_witness.proofs.NormalCase.{both_complete}
 use Rattle.mb_witness.proofs.States.{schedule}

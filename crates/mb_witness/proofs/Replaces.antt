@@ -10,9 +10,9 @@ use Rattle.mb_msg.specs.declared.change.Plan.{Plan}
 use Rattle.mb_model.specs.Histories.{Accepted, History}
 use Rattle.mb_model.specs.Held.{changes_of, new_view_of, evidence_of, plan_held}
 use Rattle.mb_model.proofs.StepOnLiterals.{host_on_literals}
-use Rattle.mb_theory.specs.KeepsTables.{IsChange}
-use Rattle.mb_theory.specs.FindsTables.{IsNewView, ShowsEvidence, BringsPlan}
-use Rattle.mb_theory.specs.ReplacesTables.{ReplacesNewViews, ReplacesPlans, ReplacesEvidence, ReplacesChanges, IsInTime, IsInTimeAndAbove}
+use Rattle.mb_promise.specs.KeepsTables.{IsChange}
+use Rattle.mb_promise.specs.FindsTables.{IsNewView, ShowsEvidence, BringsPlan}
+use Rattle.mb_promise.specs.ReplacesTables.{ReplacesNewViews, ReplacesPlans, ReplacesEvidence, ReplacesChanges, IsInTime, IsInTimeAndAbove}
 use Rattle.mb_agreement.proofs.ViewChangeData.{evidence_1}
 use Rattle.mb_witness.proofs.Data.{host, change_2, new_view_1, open_2, carried}
 

@@ -27,12 +27,12 @@ use Rattle.mb_model.specs.OwnLog.{log_start}
 use Rattle.mb_model.specs.Stable.{log_floor}
 use Rattle.mb_model.proofs.StepOnLiterals.{host_on_literals}
 use Rattle.mb_model.specs.HostStep.{transition}
-use Rattle.mb_theory.specs.NothingLeft.{OpenCompletes, ExecutesWithOpen, Executes}
-use Rattle.mb_theory.specs.TakesValid.{IsPlanOf}
-use Rattle.mb_theory.specs.OwnStamps as own
-use Rattle.mb_theory.specs.GatesStand.{KeepsGates, TakesInTurn, KeepsJumps, StartsGates}
-use Rattle.mb_theory.specs.LeavesWithCause.{LeavesWithCause, HasCause}
-use Rattle.mb_theory.specs.CutsLog.{CutsLog, AgreeOnFloor, IsKeptAt}
+use Rattle.mb_promise.specs.NothingLeft.{OpenCompletes, ExecutesWithOpen, Executes}
+use Rattle.mb_promise.specs.TakesValid.{IsPlanOf}
+use Rattle.mb_promise.specs.OwnStamps as own
+use Rattle.mb_promise.specs.GatesStand.{KeepsGates, TakesInTurn, KeepsJumps, StartsGates}
+use Rattle.mb_promise.specs.LeavesWithCause.{LeavesWithCause, HasCause}
+use Rattle.mb_promise.specs.CutsLog.{CutsLog, AgreeOnFloor, IsKeptAt}
 use Rattle.mb_agreement.proofs.ViewChangeData.{secret, three, at_zero, asked, evidence_1, new_view_cert}
 use Rattle.mb_witness.proofs.Data.{host, prepare_1, commit_1, change_1, change_2, new_view_1, enter_2, open_2, carried, slot_1, state_4, floor_0, floor_cert_0, point}
 use Rattle.mb_witness.proofs.NormalCase.{committed, two_wait, vote_1, left_by}

@@ -8,9 +8,9 @@ use Rattle.mb_msg.specs.Spelling.{spelling, floors_body_bytes}
 use Rattle.mb_msg.specs.declared.message.Message.TheVariants as message
 use Rattle.mb_model.specs.Histories.{Accepted, Installed, History}
 use Rattle.mb_schedule.specs.declared.schedule.Schedule.{Schedule}
-use Rattle.mb_theory.specs.World.{World, nothing_happened}
-use Rattle.mb_theory.specs.Justification.{IsJustified, IsJustifiedState, IsKnown}
-use Rattle.mb_theory.proofs.WorldsOnLiterals.{worlds_on_literals}
+use Rattle.mb_world_model.specs.World.{World, nothing_happened}
+use Rattle.mb_promise.specs.Justification.{IsJustified, IsJustifiedState, IsKnown}
+use Rattle.mb_world_model.proofs.WorldsOnLiterals.{worlds_on_literals}
 use Rattle.mb_agreement.proofs.ViewChangeData.{secret, three}
 use Rattle.mb_witness.proofs.Data.{join_1, parts_4, state_4, floors_4, point}
 

@@ -18,7 +18,7 @@ use Rattle.mb_model.specs.Held.{wish_of, changes_of, enters_for, opened_by, new_
 use Rattle.mb_model.specs.Stable.{checkpoint_of, low_of}
 use Rattle.mb_model.specs.Execution.{pending, part_of, missing, snapshot_of}
 use Rattle.mb_model.proofs.StepOnLiterals.{host_on_literals}
-use Rattle.mb_theory.specs.KeepsTables as keeps
+use Rattle.mb_promise.specs.KeepsTables as keeps
 use Rattle.mb_agreement.proofs.ViewChangeData.{asked_0, asked_1, asked, at_zero, evidence_1, log_1, log_2}
 use Rattle.mb_witness.proofs.Data.{host, prepare_1, commit_1, wish_1, change_1, change_2, new_view_1, enter_2, open_2, carried, slot_4, parts_4, stable_4, point, join_1, placed}
 

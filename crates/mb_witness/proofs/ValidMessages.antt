@@ -26,8 +26,8 @@ use Rattle.mb_model.specs.Verified.{verifies}
 use Rattle.mb_model.specs.UsableLogs.{log_fault}
 use Rattle.mb_model.proofs.StepOnLiterals.{host_on_literals}
 use Rattle.mb_model.specs.Passed.{Passes}
-use Rattle.mb_theory.specs.NothingLeft.{TakesWhatPasses}
-use Rattle.mb_theory.specs.TakesValid.{IsValid, IsUsable, IsPlanned, IsPlanOf}
+use Rattle.mb_promise.specs.NothingLeft.{TakesWhatPasses}
+use Rattle.mb_promise.specs.TakesValid.{IsValid, IsUsable, IsPlanned, IsPlanOf}
 use Rattle.mb_agreement.proofs.ViewChangeData.{three, asked_0, evidence_1}
 use Rattle.mb_witness.proofs.Data.{host, prepare_1, commit_1, wish_1, change_1, change_2, new_view_1, enter_2, open_2, slot_4, parts_4, point, join_1, placed}
 

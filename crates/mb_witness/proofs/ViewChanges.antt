@@ -11,7 +11,7 @@ use Rattle.mb_model.specs.States.{part_digests}
 use Rattle.mb_model.specs.Histories.{Accepted, Stamped, Installed, LostPatience, History}
 use Rattle.mb_model.specs.Positions.{vote_of}
 use Rattle.mb_model.proofs.StepOnLiterals.{host_on_literals}
-use Rattle.mb_theory.specs.NothingLeft.{LeavesView, AnnouncesView, EntersView, OpensByEvidence, OpensByEnters, JoinsBehind, JoinsPast, InstallsState, CountsOpens}
+use Rattle.mb_promise.specs.NothingLeft.{LeavesView, AnnouncesView, EntersView, OpensByEvidence, OpensByEnters, JoinsBehind, JoinsPast, InstallsState, CountsOpens}
 use Rattle.mb_agreement.proofs.ViewChangeData.{asked, evidence_1}
 use Rattle.mb_witness.proofs.Data.{host, prepare_1, commit_1, wish_1, change_0, change_1, change_2, new_view_1, enter_2, open_2, carried, parts_4, join_1}
 

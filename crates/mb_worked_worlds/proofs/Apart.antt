@@ -9,7 +9,7 @@ use Rattle.sha2.specs.Sha256.{sha256}
 use Rattle.mb_base.specs.Shapes.{Bytes}
 use Rattle.mb_usig.specs.Tags.{same_bytes}
 use Rattle.mb_usig.proofs.Laws.{same_bytes-true, true-same_bytes}
-use Rattle.mb_theory.specs.Hashed.{HashesApart}
+use Rattle.mb_world_model.specs.Hashed.{HashesApart}
 
 -- One of these is this string.
 abbrev pub is_among : List Bytes → Bytes → Bool

@@ -20,16 +20,16 @@ use Rattle.mb_model.specs.States.{state_digest}
 use Rattle.mb_model.specs.Histories.{Entry, Stamped, Closed, Executed, Installed, History}
 use Rattle.mb_model.specs.Clients.{no_asker}
 use Rattle.mb_schedule.specs.Limits.{IsSchedule}
-use Rattle.mb_theory.specs.Hashed.{HashesApart}
-use Rattle.mb_theory.specs.World.{World, System, nothing_happened}
-use Rattle.mb_theory.specs.WorldSteps.{world}
-use Rattle.mb_theory.specs.WorldEvents.{IsCorrect}
-use Rattle.mb_theory.specs.Stops.{IsUnstopped}
-use Rattle.mb_theory.specs.Safety.{IsServedResult, AreServedResults, after_requests}
-use Rattle.mb_theory.specs.Justification.{IsJustified, IsJustifiedSlot, IsJustifiedState, IsKnown, IsVoted}
-use Rattle.mb_theory.specs.Bounds.{IsBlameless}
-use Rattle.mb_theory.specs.Headline.{Promises, HoldsAtEachEvent}
-use Rattle.mb_theory.proofs.WorldsOnLiterals.{worlds_on_literals}
+use Rattle.mb_world_model.specs.Hashed.{HashesApart}
+use Rattle.mb_world_model.specs.World.{World, System, nothing_happened}
+use Rattle.mb_world_model.specs.WorldSteps.{world}
+use Rattle.mb_world_model.specs.WorldEvents.{IsCorrect}
+use Rattle.mb_world_model.specs.Stops.{IsUnstopped}
+use Rattle.mb_promise.specs.Safety.{IsServedResult, AreServedResults, after_requests}
+use Rattle.mb_promise.specs.Justification.{IsJustified, IsJustifiedSlot, IsJustifiedState, IsKnown, IsVoted}
+use Rattle.mb_promise.specs.Bounds.{IsBlameless}
+use Rattle.mb_promise.specs.Headline.{Promises, HoldsAtEachEvent}
+use Rattle.mb_world_model.proofs.WorldsOnLiterals.{worlds_on_literals}
 use Rattle.mb_worked_worlds.proofs.Worlds.{all_correct, of_faulty_primary}
 
 some_none : {A : Type 0} (x : A) → Some x ≡ None → ⊥

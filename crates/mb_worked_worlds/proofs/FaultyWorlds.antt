@@ -21,12 +21,12 @@ use Rattle.mb_schedule.specs.declared.report.Word.TheVariants as word
 use Rattle.mb_schedule.specs.declared.schedule.Name.TheVariants as name
 use Rattle.mb_schedule.specs.declared.schedule.WorldEvent.{WorldEvent}
 use Rattle.mb_schedule.specs.declared.schedule.WorldEvent.TheVariants.{Ask, Give, Take, Raw, Sign, TagWish, StampPrepare, StampCommit, StampAs, StampRaw}
-use Rattle.mb_theory.specs.World.{OfClient, Made, Unread, Lost, World, System}
-use Rattle.mb_theory.specs.FaultyHosts.{log_after}
-use Rattle.mb_theory.specs.WorldSteps.{world}
-use Rattle.mb_theory.specs.Stops.{WorldStop, NotFaulty, NoSuchMessage, WrongKind, Forged, ForgedTag}
-use Rattle.mb_theory.specs.Refusals.{refusals}
-use Rattle.mb_theory.proofs.WorldsOnLiterals.{worlds_on_literals}
+use Rattle.mb_world_model.specs.World.{OfClient, Made, Unread, Lost, World, System}
+use Rattle.mb_world_model.specs.FaultyHosts.{log_after}
+use Rattle.mb_world_model.specs.WorldSteps.{world}
+use Rattle.mb_world_model.specs.Stops.{WorldStop, NotFaulty, NoSuchMessage, WrongKind, Forged, ForgedTag}
+use Rattle.mb_world_model.specs.Refusals.{refusals}
+use Rattle.mb_world_model.proofs.WorldsOnLiterals.{worlds_on_literals}
 use Rattle.mb_worked_worlds.proofs.Worlds.{one_client, operation, system_of, all_correct, of_faulty_primary, kind_byte, stop_at}
 
 -- ---- two PREPAREs for one position

@@ -18,8 +18,8 @@ use Rattle.mb_model.specs.Plans.{no_base}
 use Rattle.mb_schedule.specs.declared.schedule.Name.TheVariants as name
 use Rattle.mb_schedule.specs.declared.schedule.WorldEvent.{WorldEvent}
 use Rattle.mb_schedule.specs.declared.schedule.WorldEvent.TheVariants.{Raw, Patience}
-use Rattle.mb_theory.specs.Stops.{WorldStop, Forged, ForgedTag}
-use Rattle.mb_theory.proofs.WorldsOnLiterals.{worlds_on_literals}
+use Rattle.mb_world_model.specs.Stops.{WorldStop, Forged, ForgedTag}
+use Rattle.mb_world_model.proofs.WorldsOnLiterals.{worlds_on_literals}
 use Rattle.mb_worked_worlds.proofs.Worlds.{operation, all_correct, of_faulty_primary, stop_at}
 
 abbrev secret : Bytes

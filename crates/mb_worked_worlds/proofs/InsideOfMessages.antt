@@ -18,8 +18,8 @@ use Rattle.mb_msg.specs.Spelling.{spelling}
 use Rattle.mb_schedule.specs.declared.schedule.Name.TheVariants as name
 use Rattle.mb_schedule.specs.declared.schedule.WorldEvent.TheVariants.{Raw}
 use Rattle.mb_model.specs.Inside.{claims_in}
-use Rattle.mb_theory.specs.WorldSteps.{world}
-use Rattle.mb_theory.proofs.WorldsOnLiterals.{worlds_on_literals}
+use Rattle.mb_world_model.specs.WorldSteps.{world}
+use Rattle.mb_world_model.proofs.WorldsOnLiterals.{worlds_on_literals}
 use Rattle.mb_worked_worlds.proofs.Worlds.{one_client, all_correct}
 
 -- ---- certificates, told apart by their counters

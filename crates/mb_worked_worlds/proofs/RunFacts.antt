@@ -7,11 +7,11 @@ use Rattle.mb_parts.specs.Bares.{batch_digest}
 use Rattle.mb_msg.specs.declared.event.Slot.{Slot}
 use Rattle.mb_model.specs.Committed.{planned}
 use Rattle.mb_model.specs.Histories.{Entry, Executed, History}
-use Rattle.mb_theory.specs.WorldEvents.{IsCorrect}
-use Rattle.mb_theory.specs.WorldRecord.{plans, issued}
-use Rattle.mb_theory.specs.Headline.{Promises}
-use Rattle.mb_theory.specs.Safety.{IsLineSlot}
-use Rattle.mb_theory.specs.Justification.{IsJustifiedSlot}
+use Rattle.mb_world_model.specs.WorldEvents.{IsCorrect}
+use Rattle.mb_world_model.specs.WorldRecord.{plans, issued}
+use Rattle.mb_promise.specs.Headline.{Promises}
+use Rattle.mb_promise.specs.Safety.{IsLineSlot}
+use Rattle.mb_promise.specs.Justification.{IsJustifiedSlot}
 use Rattle.mb_worked_worlds.proofs.Worlds.{one_client, change_of_view, last_world, batch, slot, vote, evidence, numbers, it_leads_there, it_is_voted_again}
 
 some_is : {A : Type 0} (x y : A) → Some x ≡ Some y → x ≡ y

@@ -8,10 +8,10 @@ use Rattle.mb_msg.specs.declared.event.Placed.{Placed}
 use Rattle.mb_model.specs.declared.known.LastReply.{LastReply}
 use Rattle.mb_model.specs.Service.{reply_of}
 use Rattle.mb_schedule.specs.declared.schedule.WorldEvent.TheVariants.{Ask, Give, Take}
-use Rattle.mb_theory.specs.World.{World, System, nothing_happened, request_of}
-use Rattle.mb_theory.specs.WorldSteps.{world}
-use Rattle.mb_theory.specs.Safety.{StandsAt, after_requests}
-use Rattle.mb_theory.proofs.WorldsOnLiterals.{worlds_on_literals}
+use Rattle.mb_world_model.specs.World.{World, System, nothing_happened, request_of}
+use Rattle.mb_world_model.specs.WorldSteps.{world}
+use Rattle.mb_promise.specs.Safety.{StandsAt, after_requests}
+use Rattle.mb_world_model.proofs.WorldsOnLiterals.{worlds_on_literals}
 use Rattle.mb_worked_worlds.proofs.Worlds.{operation, all_correct, stops_from}
 
 abbrev second_operation : Bytes

@@ -10,11 +10,11 @@ use Rattle.mb_usig.proofs.OnLiterals.{tags_on_literals}
 use Rattle.mb_parts.specs.Fits.{FitsText}
 use Rattle.mb_model.proofs.Hex.{unhex}
 use Rattle.mb_schedule.specs.Limits.{EventFits, IsSchedule}
-use Rattle.mb_theory.specs.Hashed.{HashesApart}
-use Rattle.mb_theory.specs.WorldSteps.{world}
-use Rattle.mb_theory.specs.Stops.{IsUnstopped, stop_of}
-use Rattle.mb_theory.specs.Headline.{IsService, Promises, HostsStayOne, state_after}
-use Rattle.mb_theory.proofs.WorldsOnLiterals.{worlds_on_literals}
+use Rattle.mb_world_model.specs.Hashed.{HashesApart}
+use Rattle.mb_world_model.specs.WorldSteps.{world}
+use Rattle.mb_world_model.specs.Stops.{IsUnstopped, stop_of}
+use Rattle.mb_promise.specs.Headline.{IsService, Promises, HostsStayOne, state_after}
+use Rattle.mb_world_model.proofs.WorldsOnLiterals.{worlds_on_literals}
 use Rattle.mb_worked_worlds.proofs.Apart.{is_among, are_apart}
 use Rattle.mb_worked_worlds.proofs.Worlds.{keeps_last, keeps_parts, one_client, change_of_view, last_world, stop_at}
 

@@ -24,13 +24,13 @@ use Rattle.mb_model.specs.Execution.{state_of}
 use Rattle.mb_schedule.specs.declared.schedule.WorldEvent.{WorldEvent}
 use Rattle.mb_schedule.specs.declared.schedule.WorldEvent.TheVariants.{Ask, Give, Patience, StampPrepare}
 use Rattle.mb_schedule.specs.declared.schedule.Schedule.{Schedule}
-use Rattle.mb_theory.specs.World.{World, System, self_of, request_of}
-use Rattle.mb_theory.specs.WorldSteps.{happens, world}
-use Rattle.mb_theory.specs.Stops.{WorldStop, stop_of}
-use Rattle.mb_theory.specs.WorldRecord.{issued, prefix, plans}
-use Rattle.mb_theory.specs.Justification.{is_sound}
-use Rattle.mb_theory.specs.Safety.{after_line}
-use Rattle.mb_theory.proofs.WorldsOnLiterals.{worlds_on_literals}
+use Rattle.mb_world_model.specs.World.{World, System, self_of, request_of}
+use Rattle.mb_world_model.specs.WorldSteps.{happens, world}
+use Rattle.mb_world_model.specs.Stops.{WorldStop, stop_of}
+use Rattle.mb_world_model.specs.WorldRecord.{issued, prefix, plans}
+use Rattle.mb_promise.specs.Justification.{is_sound}
+use Rattle.mb_promise.specs.Safety.{after_line}
+use Rattle.mb_world_model.proofs.WorldsOnLiterals.{worlds_on_literals}
 
 -- ---- three hosts with a service that keeps the last operation and answers with the one before
 

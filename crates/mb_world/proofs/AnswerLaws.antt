@@ -4,8 +4,8 @@ use Rattle.std.specs.Option.{option_or}
 use Rattle.mb_msg.specs.declared.stamped.Stamped.{Stamped}
 use Rattle.mb_schedule.specs.declared.schedule.Schedule.{Schedule}
 use Rattle.mb_schedule.specs.declared.schedule.WorldEvent.{WorldEvent}
-use Rattle.mb_theory.specs.World.{World as WorldState}
-use Rattle.mb_theory.specs.Stops.{WorldStop as Stop, name_stop, missing_stop, stop_of}
+use Rattle.mb_world_model.specs.World.{World as WorldState}
+use Rattle.mb_world_model.specs.Stops.{WorldStop as Stop, name_stop, missing_stop, stop_of}
 use Rattle.mb_world.specs.declared.seen.WorldStop.{WorldStop}
 use Rattle.mb_world.specs.declared.seen.WorldStop.TheVariants as stop
 use Rattle.mb_world.specs.Answers.{as_stop, Tells}

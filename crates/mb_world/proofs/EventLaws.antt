@@ -11,10 +11,10 @@ use Rattle.mb_schedule.specs.declared.schedule.WorldEvent.{WorldEvent}
 use Rattle.mb_schedule.specs.declared.schedule.WorldEvent.TheVariants.{Ask, Give, Take, Raw, Patience, Nudge, Sign, TagReply, TagWish, StampPrepare, StampCommit, StampCheckpoint, StampChange, StampAs, StampRaw}
 use Rattle.mb_base.specs.declared.shape.Shape.{Shape}
 use Rattle.mb_schedule.specs.Limits.{EventFits, is_faulty, is_faulty_client}
-use Rattle.mb_theory.specs.World.{World as WorldState, System, made, request_of}
-use Rattle.mb_theory.specs.WorldEvents.{culprit, is_faulty_name}
-use Rattle.mb_theory.specs.WorldSteps.{happens}
-use Rattle.mb_theory.specs.FaultyHosts.{checkpoint_with, change_after, stamp_content, stamp_bytes, reply_of_host, wish_of_host}
+use Rattle.mb_world_model.specs.World.{World as WorldState, System, made, request_of}
+use Rattle.mb_world_model.specs.WorldEvents.{culprit, is_faulty_name}
+use Rattle.mb_world_model.specs.WorldSteps.{happens}
+use Rattle.mb_world_model.specs.FaultyHosts.{checkpoint_with, change_after, stamp_content, stamp_bytes, reply_of_host, wish_of_host}
 use Rattle.mb_forged.specs.Contents.{unstamped}
 use Rattle.mb_world.specs.Contents.{IsAllowed, content_of, stamping_host}
 use Rattle.mb_parties.proofs.ListLaws.{some_is}

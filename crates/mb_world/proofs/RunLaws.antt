@@ -2,8 +2,7 @@
 use Rattle.std.proofs.Common.{◌≡◌, ℕ, List, Result}
 use Rattle.mb_base.specs.Shapes.{Bytes}
 use Rattle.mb_service.specs.declared.service.Service.{Ghosts}
-use Rattle.mb_theory.specs.World.{World as WorldState, System}
-use Rattle.mb_theory.specs.World.{Seen as Answer}
+use Rattle.mb_world_model.specs.World.{World as WorldState, System, Seen as Answer}
 use Rattle.mb_world.specs.declared.world.World.{World}
 use Rattle.mb_world.specs.Tables.{RepresentsWorld, HasWorld, Leaves}
 use Rattle.mb_world.proofs.WorldLaws.{IsFixed, unchanged}

@@ -10,11 +10,11 @@ use Rattle.mb_model.proofs.Members.{in_contained}
 use Rattle.mb_schedule.specs.declared.schedule.Name.TheVariants as name
 use Rattle.mb_schedule.specs.declared.schedule.WorldEvent.{WorldEvent}
 use Rattle.mb_schedule.specs.declared.schedule.WorldEvent.TheVariants.{Give, Raw, Patience, Nudge}
-use Rattle.mb_theory.specs.World.{World as WorldState, System, self_of, numbered, arrives, partway, steps, give_host, signal}
-use Rattle.mb_theory.specs.WorldSteps.{happens}
-use Rattle.mb_theory.specs.EventsStep.{arrival}
-use Rattle.mb_theory.specs.Stops.{stop_of}
-use Rattle.mb_theory.specs.Forged.{IsUnforged}
+use Rattle.mb_world_model.specs.World.{World as WorldState, System, self_of, numbered, arrives, partway, steps, give_host, signal}
+use Rattle.mb_world_model.specs.WorldSteps.{happens}
+use Rattle.mb_world_model.specs.EventsStep.{arrival}
+use Rattle.mb_world_model.specs.Stops.{stop_of}
+use Rattle.mb_world_model.specs.Forged.{IsUnforged}
 use Rattle.mb_forged.proofs.CleanLaws.{clean_stays}
 use Rattle.mb_genuine.specs.Reached.{IsReached}
 use Rattle.mb_genuine.proofs.Sent.{sent_unforged}

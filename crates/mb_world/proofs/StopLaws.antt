@@ -14,10 +14,10 @@ use Rattle.mb_schedule.specs.declared.schedule.WorldEvent.TheVariants.{Ask, Give
 use Rattle.mb_schedule.specs.Limits.{EventFits, NameFits}
 use Rattle.mb_base.specs.declared.shape.Shape.{Shape}
 use Rattle.mb_parties.proofs.ListLaws.{some_is}
-use Rattle.mb_theory.specs.World.{World as WorldState, numbered}
-use Rattle.mb_theory.specs.WorldEvents.{is_faulty_name, culprit}
-use Rattle.mb_theory.specs.FaultyHosts.{misfit, prepare_with, batch_from, commit_for, checkpoint_with, content, change_after}
-use Rattle.mb_theory.specs.Stops.{WorldStop, NotFaulty, NoSuchMessage, WrongKind, name_stop, missing_stop, kind_stop, stop_of}
+use Rattle.mb_world_model.specs.World.{World as WorldState, numbered}
+use Rattle.mb_world_model.specs.WorldEvents.{is_faulty_name, culprit}
+use Rattle.mb_world_model.specs.FaultyHosts.{misfit, prepare_with, batch_from, commit_for, checkpoint_with, content, change_after}
+use Rattle.mb_world_model.specs.Stops.{WorldStop, NotFaulty, NoSuchMessage, WrongKind, name_stop, missing_stop, kind_stop, stop_of}
 use Rattle.mb_world.specs.Contents.{content_of}
 
 -- ---- the stops one by one

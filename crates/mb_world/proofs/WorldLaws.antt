@@ -17,11 +17,10 @@ use Rattle.mb_replica.specs.declared.told.Outgoing.{Outgoing}
 use Rattle.mb_replica.specs.declared.told.Told.{Told}
 use Rattle.mb_replica.specs.Told.{KnowsBytes}
 use Rattle.mb_replica.specs.Represents.{IsTold}
-use Rattle.mb_theory.specs.Refusals.{refusals, refusal_in}
-use Rattle.mb_theory.specs.World.{World as WorldState, System, self_of, Made, Lost, FaultyStamp, update, extended, with_tagged, answered, lost_or, heard, numbered, arrives, made, stamps, steps, partway, client_reads, give_host, give_client}
-use Rattle.mb_theory.specs.World.{Seen as AnswerState}
-use Rattle.mb_theory.specs.WorldSteps.{with_message}
-use Rattle.mb_theory.specs.FaultyHosts.{stamp_as}
+use Rattle.mb_world_model.specs.Refusals.{refusals, refusal_in}
+use Rattle.mb_world_model.specs.World.{World as WorldState, System, self_of, Made, Lost, FaultyStamp, update, extended, with_tagged, answered, lost_or, heard, numbered, arrives, made, stamps, steps, partway, client_reads, give_host, give_client, Seen as AnswerState}
+use Rattle.mb_world_model.specs.WorldSteps.{with_message}
+use Rattle.mb_world_model.specs.FaultyHosts.{stamp_as}
 use Rattle.mb_msg.specs.Reading.{message_of}
 use Rattle.mb_forged.specs.Ledgers.{Keeps, KeepsWorld}
 use Rattle.mb_forged.specs.Checks.{MadeMore}

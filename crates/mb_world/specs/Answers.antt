@@ -1,9 +1,8 @@
 -- What the world answers, as the definitions have it.
 use Rattle.std.specs.Prelude.{◌≡◌, Option, Some, None, Result, Ok, Err}
 use Rattle.mb_client.specs.Represents.{as_taken}
-use Rattle.mb_theory.specs.World.{OfHost, OfClient, Unread, Made, Lost}
-use Rattle.mb_theory.specs.World.{Seen as Answer}
-use Rattle.mb_theory.specs.Stops.{WorldStop as Stop, NotFaulty, NoSuchMessage, WrongKind, Forged, ForgedTag}
+use Rattle.mb_world_model.specs.World.{OfHost, OfClient, Unread, Made, Lost, Seen as Answer}
+use Rattle.mb_world_model.specs.Stops.{WorldStop as Stop, NotFaulty, NoSuchMessage, WrongKind, Forged, ForgedTag}
 use Rattle.mb_world.specs.declared.seen.Seen.{Seen}
 use Rattle.mb_world.specs.declared.seen.Seen.TheVariants as seen
 use Rattle.mb_world.specs.declared.seen.WorldStop.{WorldStop}

@@ -8,11 +8,11 @@ use Rattle.mb_msg.specs.Stamps.{as_stamped}
 use Rattle.mb_schedule.specs.declared.schedule.Schedule.{Schedule}
 use Rattle.mb_schedule.specs.declared.schedule.WorldEvent.{WorldEvent}
 use Rattle.mb_schedule.specs.declared.schedule.WorldEvent.TheVariants.{StampPrepare, StampCommit, StampCheckpoint, StampChange, StampAs}
-use Rattle.mb_theory.specs.World.{World}
-use Rattle.mb_theory.specs.FaultyHosts.{prepare_of, commit_for, checkpoint_with, content, change_after}
+use Rattle.mb_world_model.specs.World.{World}
+use Rattle.mb_world_model.specs.FaultyHosts.{prepare_of, commit_for, checkpoint_with, content, change_after}
 use Rattle.std.specs.Option.{option_or}
-use Rattle.mb_theory.specs.Stops.{WorldStop as Stop, Forged, ForgedTag, event_number, kind_stop, delivered_message, stop_of}
-use Rattle.mb_theory.specs.Forged.{forged_claim, has_forged_tag}
+use Rattle.mb_world_model.specs.Stops.{WorldStop as Stop, Forged, ForgedTag, event_number, kind_stop, delivered_message, stop_of}
+use Rattle.mb_world_model.specs.Forged.{forged_claim, has_forged_tag}
 use Rattle.mb_forged.specs.Contents.{unstamped}
 
 -- the content that an event names

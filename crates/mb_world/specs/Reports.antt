@@ -3,8 +3,8 @@ use Rattle.std.specs.Prelude.{length, map}
 use Rattle.std.specs.List.{range_with_len}
 use Rattle.mb_base.specs.Shapes.{host_count, client_count}
 use Rattle.mb_schedule.specs.declared.report.Report.{Report}
-use Rattle.mb_theory.specs.Refusals.{refusals}
-use Rattle.mb_theory.specs.World.{World, System}
+use Rattle.mb_world_model.specs.Refusals.{refusals}
+use Rattle.mb_world_model.specs.World.{World, System}
 use Rattle.mb_parties.specs.Lines.{host_line, client_line}
 
 module _ {S : Type 0} (system : System S) (w : World) where

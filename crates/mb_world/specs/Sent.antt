@@ -4,7 +4,7 @@ use Rattle.mb_msg.specs.declared.event.Event.{Event}
 use Rattle.mb_model.specs.Given.{Answer}
 use Rattle.mb_model.specs.HostStep.{transition}
 use Rattle.mb_schedule.specs.Limits.{is_faulty}
-use Rattle.mb_theory.specs.World.{World, System, self_of, partway}
+use Rattle.mb_world_model.specs.World.{World, System, self_of, partway}
 use Rattle.mb_parties.specs.Marks.{AreSentClean}
 
 module _ {V : Type 0} (y : System V) (x : World) where

@@ -2,8 +2,8 @@
 use Rattle.std.specs.Prelude.{◌≡◌, ℕ, true, false, List, ◌∷◌, length, Result, Ok, Err}
 use Rattle.mb_base.specs.Shapes.{Bytes}
 use Rattle.mb_schedule.specs.declared.schedule.Schedule.{Schedule}
-use Rattle.mb_theory.specs.Refusals.{refusals}
-use Rattle.mb_theory.specs.World.{World as WorldState, System, Seen as Answer}
+use Rattle.mb_world_model.specs.Refusals.{refusals}
+use Rattle.mb_world_model.specs.World.{World as WorldState, System, Seen as Answer}
 use Rattle.mb_genuine.specs.Reached.{IsReached}
 use Rattle.mb_forged.specs.Ledgers.{KeepsWorld}
 use Rattle.mb_forged.specs.Checks.{ArePens}

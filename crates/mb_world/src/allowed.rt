@@ -1,7 +1,7 @@
 //! What stands in the way of an event, and what a faulty host is to stamp. Nothing is written.
 
 ghost use Rattle.std.specs.Prelude.{◌≡◌, not};
-ghost use Rattle.mb_theory.specs.WorldEvents.{culprit};
+ghost use Rattle.mb_world_model.specs.WorldEvents.{culprit};
 ghost use Rattle.mb_world.specs.Contents.{stamping_host};
 
 use crate::seen::WorldStop;
@@ -56,12 +56,12 @@ impl<V: Service + Drop> World<V> {
     ghost use Rattle.mb_msg.specs.Fits.{Fits, FitsStamped};
     ghost use Rattle.mb_msg.specs.Stamps.{as_stamped};
     ghost use Rattle.mb_schedule.specs.Limits.{EventFits, NameFits, is_faulty};
-    ghost use Rattle.mb_theory.specs.World.{World as WorldState, System, numbered, read, message_at};
-    ghost use Rattle.mb_theory.specs.WorldEvents.{is_faulty_name};
-    ghost use Rattle.mb_theory.specs.FaultyHosts.{commit_for, content, misfit, batch_from, request_at, stamped_after, change_after, is_sendable_change};
-    ghost use Rattle.mb_theory.specs.Stops.{NoSuchMessage, WrongKind, name_stop, missing_stop, content_stop, to_correct, stop_of};
+    ghost use Rattle.mb_world_model.specs.World.{World as WorldState, System, numbered, read, message_at};
+    ghost use Rattle.mb_world_model.specs.WorldEvents.{is_faulty_name};
+    ghost use Rattle.mb_world_model.specs.FaultyHosts.{commit_for, content, misfit, batch_from, request_at, stamped_after, change_after, is_sendable_change};
+    ghost use Rattle.mb_world_model.specs.Stops.{NoSuchMessage, WrongKind, name_stop, missing_stop, content_stop, to_correct, stop_of};
     ghost use Rattle.mb_msg.specs.declared.message.Message.{Message as MessageData};
-    ghost use Rattle.mb_theory.specs.Forged.{forged_claim, has_forged_tag};
+    ghost use Rattle.mb_world_model.specs.Forged.{forged_claim, has_forged_tag};
     ghost use Rattle.mb_forged.specs.Checks.{AsksIn, told};
     ghost use Rattle.mb_world.specs.declared.seen.WorldStop.TheVariants as stop;
     ghost use Rattle.mb_world.specs.Answers.{Tells, TellsStop};

@@ -4,7 +4,7 @@ ghost use Rattle.std.specs.Prelude.{◌≡◌, ◌+◌, ◌++◌, ◌∷◌, [],
 ghost use Rattle.mb_msg.specs.Fits.{Fits};
 ghost use Rattle.mb_msg.specs.Spelling.{spelling};
 ghost use Rattle.mb_msg.specs.declared.message.Message.TheVariants as message;
-ghost use Rattle.mb_theory.specs.World.{Made};
+ghost use Rattle.mb_world_model.specs.World.{Made};
 ghost use Rattle.mb_world.specs.Answers.{as_answer};
 
 use crate::seen::Seen;
@@ -44,7 +44,7 @@ impl<V: Service + Drop> World<V> {
     ghost use Rattle.mb_base.specs.Shapes.{client_count};
     ghost use Rattle.mb_parts.specs.Fits.{FitsText};
     ghost use Rattle.mb_msg.specs.Reading.{message_of};
-    ghost use Rattle.mb_theory.specs.World.{World as WorldState, System, client_asks, client_reads, heard};
+    ghost use Rattle.mb_world_model.specs.World.{World as WorldState, System, client_asks, client_reads, heard};
     ghost use Rattle.mb_world.specs.Answers.{as_answer};
     ghost use Rattle.mb_world.specs.Tables.{RepresentsWorld, Leaves};
 

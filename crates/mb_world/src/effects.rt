@@ -20,9 +20,9 @@ impl<V: Service + Drop> World<V> {
     ghost use Rattle.mb_replica.specs.Told.{KnowsBytes, KnowsEvent};
     ghost use Rattle.mb_schedule.specs.Limits.{is_faulty, NameFits};
     ghost use Rattle.mb_msg.specs.declared.event.Event.TheVariants.{Given};
-    ghost use Rattle.mb_theory.specs.World.{World as WorldState, System, arrives, lost_or, steps, stepped, numbered, answered, update, give_host, give_client, signal};
-    ghost use Rattle.mb_theory.specs.WorldSteps.{with_message, happens};
-    ghost use Rattle.mb_theory.specs.Stops.{stop_of};
+    ghost use Rattle.mb_world_model.specs.World.{World as WorldState, System, arrives, lost_or, steps, stepped, numbered, answered, update, give_host, give_client, signal};
+    ghost use Rattle.mb_world_model.specs.WorldSteps.{with_message, happens};
+    ghost use Rattle.mb_world_model.specs.Stops.{stop_of};
     ghost use Rattle.mb_parties.specs.Hosts.{IsSystem};
     ghost use Rattle.mb_parties.specs.Members.{AllRun, RepresentsMembers};
     ghost use Rattle.mb_parties.specs.Stamps.{FitsWhereStamped, bare_in, bares_of};

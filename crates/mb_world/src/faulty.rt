@@ -23,8 +23,8 @@ impl<V: Service + Drop> World<V> {
     ghost use Rattle.mb_msg.specs.Fits.{Fits, FitsStamped};
     ghost use Rattle.mb_msg.specs.Spelling.{spelling};
     ghost use Rattle.mb_schedule.specs.Limits.{is_faulty};
-    ghost use Rattle.mb_theory.specs.World.{World as WorldState, System, made, request_of};
-    ghost use Rattle.mb_theory.specs.FaultyHosts.{reply_of_host, wish_of_host, stamp_content, stamp_bytes};
+    ghost use Rattle.mb_world_model.specs.World.{World as WorldState, System, made, request_of};
+    ghost use Rattle.mb_world_model.specs.FaultyHosts.{reply_of_host, wish_of_host, stamp_content, stamp_bytes};
     ghost use Rattle.mb_forged.specs.Contents.{unstamped};
     ghost use Rattle.mb_parties.specs.Members.{AllRun};
     ghost use Rattle.mb_world.specs.Answers.{as_answer};

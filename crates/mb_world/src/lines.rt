@@ -9,7 +9,7 @@ use std::alloc::Global;
 
 impl<V: Service + Drop> World<V> {
     ghost use Rattle.std.specs.Prelude.{◌≡◌, IfOk};
-    ghost use Rattle.mb_theory.specs.World.{World as WorldState, System};
+    ghost use Rattle.mb_world_model.specs.World.{World as WorldState, System};
     ghost use Rattle.mb_world.specs.Reports.{report_of};
     ghost use Rattle.mb_world.specs.Tables.{RepresentsWorld};
 

@@ -9,8 +9,8 @@ use mb_service::Service;
 impl<V: Service + Drop> World<V> {
     ghost use Rattle.std.specs.Prelude.{◌≡◌, false, OnOk};
     ghost use Rattle.mb_schedule.specs.Limits.{NameFits};
-    ghost use Rattle.mb_theory.specs.World.{World as WorldState, System};
-    ghost use Rattle.mb_theory.specs.WorldEvents.{is_faulty_name};
+    ghost use Rattle.mb_world_model.specs.World.{World as WorldState, System};
+    ghost use Rattle.mb_world_model.specs.WorldEvents.{is_faulty_name};
     ghost use Rattle.mb_parties.specs.Marks.{IsCleanAt};
     ghost use Rattle.mb_world.specs.Tables.{RepresentsWorld};
 

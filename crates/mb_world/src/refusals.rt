@@ -2,7 +2,7 @@
 
 ghost use Rattle.std.specs.Prelude.{◌≡◌, ◌++◌, IfOk, OnOk};
 ghost use Rattle.std.specs.Option.{option_to_list};
-ghost use Rattle.mb_theory.specs.Refusals.{refusal_in};
+ghost use Rattle.mb_world_model.specs.Refusals.{refusal_in};
 ghost use Rattle.mb_world.specs.Answers.{as_answer};
 
 use crate::seen::Seen;

@@ -7,7 +7,7 @@ use mb_service::Service;
 
 impl<V: Service + Drop> World<V> {
     ghost use Rattle.std.specs.Prelude.{◌≡◌, option_and_then};
-    ghost use Rattle.mb_theory.specs.World.{World as WorldState, System, message_at};
+    ghost use Rattle.mb_world_model.specs.World.{World as WorldState, System, message_at};
     ghost use Rattle.mb_parties.specs.Replies.{addressee};
     ghost use Rattle.mb_world.specs.Tables.{RepresentsWorld};
 

@@ -5,7 +5,7 @@ use Rattle.mb_model.specs.EnabledRules.{Announce}
 use Rattle.mb_model.specs.Held.{plan_from}
 use Rattle.mb_model.specs.Making.{new_view}
 use Rattle.mb_model.specs.Sending.{signed}
-use Rattle.mb_known.proofs.Cases.{some_is}
+use Rattle.mb_host_laws.proofs.Cases.{some_is}
 use Rattle.mb_core.proofs.OwnChanges.{announce_due}
 use Rattle.mb_core.proofs.OwnViews.{announce_may, announce_made, announce_begun, announce_waits, own_new_view, some_chosen, chosen_so, members_fit, members_enough, none_planned}
 use Rattle.mb_core.proofs.Publishing.{is_next, fits_raw, signed_raw, is_left, sent_signed, room_signed, rule_ends, when_noted}

@@ -1,7 +1,7 @@
 use Rattle.std.proofs.Common.{◌≡◌, length}
 use Rattle.std.specs.List.{fold}
 use Rattle.std.specs.Vec.Iter.{into_iter_items, into_iter_len}
-use Rattle.mb_theory.specs.World.{extended}
+use Rattle.mb_world_model.specs.World.{extended}
 use Rattle.mb_parties.proofs.additions.extend_line.Given as goal
 
 abbrev pub invariant-loop-slot : goal.invariant-loop-slot

@@ -1,7 +1,7 @@
 use Rattle.std.proofs.Common.{◌≡◌, map}
 use Rattle.std.specs.List.{range_with_len}
 use Rattle.mb_schedule.specs.declared.schedule.Schedule.{Schedule}
-use Rattle.mb_theory.specs.World.{World as WorldState}
+use Rattle.mb_world_model.specs.World.{World as WorldState}
 use Rattle.mb_parties.specs.Askers.{RepresentsAskers}
 use Rattle.mb_parties.specs.Lines.{client_line}
 use Rattle.mb_parties.proofs.lines.client_lines.Given as goal

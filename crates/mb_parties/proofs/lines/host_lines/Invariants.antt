@@ -1,6 +1,6 @@
 use Rattle.std.proofs.Common.{◌≡◌, map}
 use Rattle.std.specs.List.{range_with_len}
-use Rattle.mb_theory.specs.World.{World as WorldState, System}
+use Rattle.mb_world_model.specs.World.{World as WorldState, System}
 use Rattle.mb_parties.specs.Members.{RepresentsMembers}
 use Rattle.mb_parties.specs.Lines.{host_line}
 use Rattle.mb_parties.proofs.lines.host_lines.Given as goal

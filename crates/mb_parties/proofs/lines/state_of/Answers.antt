@@ -1,5 +1,5 @@
 use Rattle.std.proofs.Common.{refl}
-use Rattle.mb_theory.specs.World.{self_of}
+use Rattle.mb_world_model.specs.World.{self_of}
 use Rattle.mb_parties.proofs.lines.state_of.Goals as goal
 
 pub returns : goal.returns

@@ -1,5 +1,5 @@
 use Rattle.std.proofs.Common.{◌∙◌, sym}
-use Rattle.mb_theory.specs.World.{self_of}
+use Rattle.mb_world_model.specs.World.{self_of}
 use Rattle.mb_parties.proofs.MemberLaws.{made_as, serves_as}
 use Rattle.mb_parties.proofs.members.new_member.Goals as goal
 

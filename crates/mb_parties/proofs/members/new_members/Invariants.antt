@@ -1,6 +1,6 @@
 use Rattle.std.proofs.Common.{◌≡◌, ◌+◌, [], length, drop}
 use Rattle.std.specs.Vec.Iter.{into_iter_items, into_iter_len}
-use Rattle.mb_theory.specs.World.{System}
+use Rattle.mb_world_model.specs.World.{System}
 use Rattle.mb_parties.specs.Hosts.{IsSystem, AreServices}
 use Rattle.mb_parties.specs.Members.{AllRun, AreOf, RepresentsMembers, StampedWithin}
 use Rattle.mb_parties.proofs.members.new_members.Given as goal

@@ -2,7 +2,7 @@ use Rattle.std.proofs.Common.{◌≡◌, ◌∙◌, ◌∷◌, Some, ap, sym}
 use Rattle.std.specs.Option.{option_map}
 use Rattle.mb_replica.specs.declared.told.Outgoing.{Outgoing}
 use Rattle.mb_replica.specs.declared.told.Said.{Said}
-use Rattle.mb_theory.specs.World.{update, with_tagged}
+use Rattle.mb_world_model.specs.World.{update, with_tagged}
 use Rattle.mb_parties.specs.Stamps.{bare_in}
 use Rattle.mb_parties.proofs.AskerLaws.{ok_then}
 use Rattle.mb_parties.proofs.ListLaws.{update_same}

@@ -10,7 +10,7 @@ use Rattle.mb_model.specs.Sending.{Letter}
 use Rattle.mb_fitting.proofs.Batches.{got}
 use Rattle.mb_replica.specs.declared.told.Outgoing.{Outgoing}
 use Rattle.mb_replica.specs.Told.{as_outgoing}
-use Rattle.mb_theory.specs.World.{update, with_tagged}
+use Rattle.mb_world_model.specs.World.{update, with_tagged}
 use Rattle.mb_parties.specs.Stamps.{IsReadable, bare_in}
 use Rattle.mb_parties.proofs.NoteLaws.{so_far, keeps_next, keeps_none, next_letter}
 use Rattle.mb_parties.proofs.KeepLaws.{keeps_then}

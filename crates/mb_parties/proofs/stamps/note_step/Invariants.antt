@@ -4,7 +4,7 @@ use Rattle.mb_base.specs.Shapes.{Bytes}
 use Rattle.mb_parts.specs.declared.request.Request.{Request}
 use Rattle.mb_msg.specs.declared.message.Message.{Message as MessageData}
 use Rattle.mb_model.specs.Sending.{Letter}
-use Rattle.mb_theory.specs.World.{update, with_tagged}
+use Rattle.mb_world_model.specs.World.{update, with_tagged}
 use Rattle.mb_forged.specs.Ledgers.{Keeps}
 use Rattle.mb_parties.specs.Stamps.{IsSent, bare_in}
 use Rattle.mb_parties.proofs.stamps.note_step.Given as goal

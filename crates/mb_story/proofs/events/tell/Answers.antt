@@ -1,7 +1,7 @@
 use Rattle.std.proofs.Common.{length, ap}
-use Rattle.mb_theory.specs.World.{World as WorldState}
-use Rattle.mb_theory.specs.WorldSteps.{happens}
-use Rattle.mb_theory.specs.Stops.{stop_of}
+use Rattle.mb_world_model.specs.World.{World as WorldState}
+use Rattle.mb_world_model.specs.WorldSteps.{happens}
+use Rattle.mb_world_model.specs.Stops.{stop_of}
 use Rattle.mb_world.specs.declared.seen.Seen.{Seen}
 use Rattle.mb_story.specs.declared.telling.Telling.{Telling}
 use Rattle.mb_story.proofs.Played.{tells_too, told_of}

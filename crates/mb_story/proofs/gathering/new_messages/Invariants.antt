@@ -1,6 +1,6 @@
 use Rattle.std.proofs.Common.{◌≡◌, ◌+◌, map}
 use Rattle.std.specs.List.{range_with_len}
-use Rattle.mb_theory.specs.World.{World as WorldState, System}
+use Rattle.mb_world_model.specs.World.{World as WorldState, System}
 use Rattle.mb_world.specs.Tables.{RepresentsWorld}
 use Rattle.mb_story.specs.Telling.{new_message}
 use Rattle.mb_story.proofs.gathering.new_messages.Given as goal

@@ -1,7 +1,7 @@
 use Rattle.std.proofs.Common.{◌≡◌, ◌∙◌, ◌+◌, length, Some, refl, ap, sym, subst, arith}
 use Rattle.std.specs.List.{slice_get}
 use Rattle.std.proofs.lemmas.Option.{slice_get_read}
-use Rattle.mb_theory.specs.WorldSteps.{world as any_world}
+use Rattle.mb_world_model.specs.WorldSteps.{world as any_world}
 use Rattle.mb_genuine.proofs.Reached.{reached_at}
 use Rattle.mb_top.specs.declared.replay.RunStop.{RunStop}
 use Rattle.mb_top.specs.Systems.{system_of, world}

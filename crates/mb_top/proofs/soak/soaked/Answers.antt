@@ -1,6 +1,6 @@
 use Rattle.std.proofs.Common.{◌≡◌, ◌∙◌, ◌+◌, length, Option, None, Err, ap, subst, arith}
-use Rattle.mb_theory.specs.WorldSteps.{world as any_world}
-use Rattle.mb_theory.specs.Stops.{WorldStop as Stop, stop_of}
+use Rattle.mb_world_model.specs.WorldSteps.{world as any_world}
+use Rattle.mb_world_model.specs.Stops.{WorldStop as Stop, stop_of}
 use Rattle.mb_make.specs.Soaks.{generator_after}
 use Rattle.mb_world.specs.declared.seen.Seen.{Seen}
 use Rattle.mb_world.specs.Answers.{Tells}

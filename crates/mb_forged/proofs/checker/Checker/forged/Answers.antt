@@ -1,6 +1,6 @@
 use Rattle.std.proofs.Common.{◌≡◌, sym, ◌∙◌}
 use Rattle.mb_model.specs.Verified.{verifies}
-use Rattle.mb_theory.specs.World.{stamps}
+use Rattle.mb_world_model.specs.World.{stamps}
 use Rattle.mb_model.specs.Inside.{sender_claim}
 use Rattle.mb_forged.proofs.ClaimLaws.{issued_clean, verified_forged, verified_by}
 use Rattle.mb_forged.proofs.checker.Checker.forged.Goals as goal

@@ -1,7 +1,7 @@
 use Rattle.std.proofs.Common.{◌≡◌, subst}
 use Rattle.std.specs.Prelude.{IfOk}
 use Rattle.mb_model.specs.Inside.{stamped_claims, claims_in}
-use Rattle.mb_theory.specs.Forged.{forged_claim}
+use Rattle.mb_world_model.specs.Forged.{forged_claim}
 use Rattle.mb_forged.specs.Checks.{first_forged}
 use Rattle.mb_forged.proofs.InMessages.{own_behind}
 use Rattle.mb_forged.proofs.checker.Checker.forged_claim.Goals as goal

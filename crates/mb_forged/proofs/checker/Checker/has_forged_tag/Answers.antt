@@ -3,7 +3,7 @@ use Rattle.std.specs.Prelude.{IfOk}
 use Rattle.std.specs.List.{list_any, flat_map}
 use Rattle.mb_msg.specs.declared.stamped.Stamped.{Stamped}
 use Rattle.mb_model.specs.Inside.{requests_in, stamped_requests}
-use Rattle.mb_theory.specs.Forged.{has_forged_tag, is_forged_request}
+use Rattle.mb_world_model.specs.Forged.{has_forged_tag, is_forged_request}
 use Rattle.mb_forged.proofs.TagLaws.{one_alone}
 use Rattle.mb_forged.proofs.InMessages.{no_tag}
 use Rattle.mb_forged.proofs.checker.Checker.has_forged_tag.Goals as goal

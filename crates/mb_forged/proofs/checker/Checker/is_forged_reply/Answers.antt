@@ -8,8 +8,8 @@ use Rattle.mb_usig.specs.Trusted.{Signer}
 use Rattle.mb_msg.specs.Fits.{FitsReply, FitsFields}
 use Rattle.mb_msg.specs.declared.message.Message.TheVariants as message
 use Rattle.mb_schedule.specs.Limits.{is_faulty}
-use Rattle.mb_theory.specs.World.{stamps}
-use Rattle.mb_theory.specs.Forged.{was_tagged}
+use Rattle.mb_world_model.specs.World.{stamps}
+use Rattle.mb_world_model.specs.Forged.{was_tagged}
 use Rattle.mb_forged.proofs.TagLaws.{faulty_clean, made_clean, verified_decides}
 use Rattle.mb_forged.proofs.checker.Checker.is_forged_reply.Goals.{then-self-from-via-then-self-from, then-self-from-via-else-self-from+in_ok-was_tagged+then-branch}
 use Rattle.mb_forged.proofs.checker.Checker.is_forged_reply.Goals as goal

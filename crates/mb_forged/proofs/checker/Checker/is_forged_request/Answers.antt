@@ -2,8 +2,8 @@ use Rattle.std.proofs.Common.{◌≡◌, false, Bool, get_or, sym, ap, ◌∙◌
 use Rattle.std.proofs.lemmas.Option.{unwrap_or-slice_get}
 use Rattle.mb_usig.specs.Tags.{same_bytes, signed_request, request_text, request_tag}
 use Rattle.mb_schedule.specs.Limits.{is_faulty_client}
-use Rattle.mb_theory.specs.World.{stamps}
-use Rattle.mb_theory.specs.Forged.{was_asked}
+use Rattle.mb_world_model.specs.World.{stamps}
+use Rattle.mb_world_model.specs.Forged.{was_asked}
 use Rattle.mb_forged.proofs.TagLaws.{faulty_clean, made_clean, verified_decides}
 use Rattle.mb_forged.proofs.checker.Checker.is_forged_request.Goals.{then-self-from-via-then-self-from, then-self-from-via-else-self-from+then-was_asked}
 use Rattle.mb_forged.proofs.checker.Checker.is_forged_request.Goals as goal

@@ -1,5 +1,5 @@
 use Rattle.std.proofs.Common.{◌≡◌, true, false, sym, ◌∙◌}
-use Rattle.mb_theory.specs.World.{is_tagged_message}
+use Rattle.mb_world_model.specs.World.{is_tagged_message}
 use Rattle.mb_forged.proofs.ledger.Ledger.note_sent.Goals as goal
 
 pub returns-then-not-is_tagged-clause-keeps : goal.returns-then-not-is_tagged-clause-keeps

@@ -5,7 +5,7 @@ use Rattle.mb_msg.proofs.Sizes.{small_request}
 use Rattle.mb_msg.specs.declared.message.Message.TheVariants as message
 use Rattle.mb_msg.specs.Spelling.{spelling}
 use Rattle.mb_model.specs.Clients.{asks}
-use Rattle.mb_theory.specs.World.{World as WorldState, stamps, update, request_of}
+use Rattle.mb_world_model.specs.World.{World as WorldState, stamps, update, request_of}
 use Rattle.mb_forged.specs.Ledgers.{Keeps}
 use Rattle.mb_parties.proofs.MemberLaws.{within_more}
 use Rattle.mb_parties.proofs.KeepLaws.{keeps_then}

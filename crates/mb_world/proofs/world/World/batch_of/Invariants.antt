@@ -2,8 +2,8 @@ use Rattle.std.proofs.Common.{◌≡◌, ◌≤◌, drop, filter_map, flat_map, 
 use Rattle.std.specs.List.{AllByRecursion}
 use Rattle.mb_parts.specs.Fits.{FitsRequest}
 use Rattle.mb_parts.specs.Spelling.{request_bytes}
-use Rattle.mb_theory.specs.FaultyHosts.{misfit, request_at}
-use Rattle.mb_theory.specs.World.{System, World as WorldState}
+use Rattle.mb_world_model.specs.FaultyHosts.{misfit, request_at}
+use Rattle.mb_world_model.specs.World.{System, World as WorldState}
 use Rattle.mb_world.specs.Tables.{RepresentsWorld}
 use Rattle.mb_world.proofs.world.World.batch_of.Given as goal
 

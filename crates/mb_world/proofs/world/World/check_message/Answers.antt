@@ -1,4 +1,4 @@
-use Rattle.mb_theory.specs.WorldEvents.{is_faulty_name}
+use Rattle.mb_world_model.specs.WorldEvents.{is_faulty_name}
 use Rattle.mb_world.proofs.AllowedLaws.{found_at, found_absent}
 use Rattle.mb_world.proofs.world.World.check_message.Goals as goal
 

@@ -2,7 +2,7 @@ use Rattle.std.proofs.Common.{◌≡◌, ◌∙◌, Ok, Err, refl, ap, sym}
 use Rattle.mb_base.specs.declared.shape.Shape.{Shape}
 use Rattle.mb_msg.specs.Reading.{message_of}
 use Rattle.mb_model.specs.Clients.{Taken, takes}
-use Rattle.mb_theory.specs.World.{World as WorldState, OfClient, heard, answered, update}
+use Rattle.mb_world_model.specs.World.{World as WorldState, OfClient, heard, answered, update}
 use Rattle.mb_world.specs.Answers.{as_answer}
 use Rattle.mb_parties.specs.Replies.{reply_or}
 use Rattle.mb_parties.proofs.ReadLaws.{reads_reply, reads_other}

@@ -6,9 +6,9 @@ use Rattle.mb_msg.specs.declared.stamped.Stamped.{Stamped}
 use Rattle.mb_msg.specs.Stamps.{as_stamped}
 use Rattle.mb_schedule.specs.declared.schedule.Name.TheVariants as name
 use Rattle.mb_schedule.specs.Limits.{is_faulty}
-use Rattle.mb_theory.specs.WorldEvents.{culprit}
-use Rattle.mb_theory.specs.FaultyHosts.{commit_for, is_sendable_change, misfit}
-use Rattle.mb_theory.specs.Stops.{WrongKind, content_stop}
+use Rattle.mb_world_model.specs.WorldEvents.{culprit}
+use Rattle.mb_world_model.specs.FaultyHosts.{commit_for, is_sendable_change, misfit}
+use Rattle.mb_world_model.specs.Stops.{WrongKind, content_stop}
 use Rattle.mb_world.proofs.AnswerLaws.{told_on}
 use Rattle.mb_world.proofs.StopLaws.{is_doer_faulty}
 use Rattle.mb_world.proofs.AllowedLaws.{told_alone}

@@ -2,7 +2,7 @@ use Rattle.std.proofs.Common.{◌≡◌, None, refl, subst}
 use Rattle.mb_schedule.specs.declared.schedule.Name.TheVariants as name
 use Rattle.mb_schedule.specs.declared.schedule.WorldEvent.{WorldEvent}
 use Rattle.mb_schedule.specs.declared.schedule.WorldEvent.TheVariants.{Sign, TagReply, TagWish, StampRaw}
-use Rattle.mb_theory.specs.Stops.{stop_of}
+use Rattle.mb_world_model.specs.Stops.{stop_of}
 use Rattle.mb_world.proofs.StopLaws.{is_doer_faulty, no_name}
 use Rattle.mb_world.proofs.EventLaws.{signs, tags_reply, tags_wish, stamps_raw}
 use Rattle.mb_world.proofs.world.World.fabricate.Goals as goal

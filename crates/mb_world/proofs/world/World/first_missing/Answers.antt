@@ -1,5 +1,5 @@
 use Rattle.std.proofs.Common.{is_none, not, ap, sym, ◌∙◌, arith}
-use Rattle.mb_theory.specs.World.{numbered}
+use Rattle.mb_world_model.specs.World.{numbered}
 use Rattle.mb_world.proofs.AllowedLaws.{missing_on, missing_here, missing_none, copied_none}
 use Rattle.mb_world.proofs.world.World.first_missing.Goals as goal
 

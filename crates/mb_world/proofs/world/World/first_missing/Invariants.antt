@@ -1,5 +1,5 @@
 use Rattle.std.proofs.Common.{◌≡◌, is_none, drop, find}
-use Rattle.mb_theory.specs.World.{numbered}
+use Rattle.mb_world_model.specs.World.{numbered}
 use Rattle.mb_world.proofs.world.World.first_missing.Given as goal
 
 abbrev pub invariant-loop-number : goal.invariant-loop-number

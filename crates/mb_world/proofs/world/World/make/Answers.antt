@@ -1,8 +1,8 @@
 use Rattle.std.proofs.Common.{◌∙◌, [], refl, sym, subst}
 use Rattle.mb_base.specs.declared.shape.Shape.{Shape}
 use Rattle.mb_forged.specs.Ledgers.{Keeps}
-use Rattle.mb_theory.specs.Refusals.{refusals}
-use Rattle.mb_theory.specs.World.{nothing_happened}
+use Rattle.mb_world_model.specs.Refusals.{refusals}
+use Rattle.mb_world_model.specs.World.{nothing_happened}
 use Rattle.mb_parties.proofs.MarkLaws.{none_marked}
 use Rattle.mb_parties.proofs.KeepLaws.{nothing_kept}
 use Rattle.mb_world.proofs.world.World.make.Goals as goal

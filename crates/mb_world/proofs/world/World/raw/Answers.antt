@@ -1,7 +1,7 @@
 use Rattle.std.proofs.Common.{◌<◌, subst}
 use Rattle.mb_base.specs.declared.shape.Shape.{Shape}
 use Rattle.mb_base.specs.Shapes.{host_count}
-use Rattle.mb_theory.specs.WorldSteps.{happens}
+use Rattle.mb_world_model.specs.WorldSteps.{happens}
 use Rattle.mb_world.proofs.SentLaws.{raw_sends}
 use Rattle.mb_world.proofs.world.World.raw.Goals as goal
 

@@ -1,7 +1,7 @@
 use Rattle.std.proofs.Common.{IfOk, subst}
 use Rattle.mb_msg.specs.declared.message.Message.{Message}
 use Rattle.mb_msg.specs.Spelling.{spelling}
-use Rattle.mb_theory.specs.World.{made}
+use Rattle.mb_world_model.specs.World.{made}
 use Rattle.mb_world.specs.Answers.{as_answer}
 use Rattle.mb_world.specs.Tables.{Leaves}
 use Rattle.mb_world.proofs.world.World.sign.Goals as goal

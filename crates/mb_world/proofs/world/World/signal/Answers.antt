@@ -1,4 +1,4 @@
-use Rattle.mb_theory.specs.World.{signal}
+use Rattle.mb_world_model.specs.World.{signal}
 use Rattle.mb_world.proofs.world.World.signal.Goals as goal
 
 pub returns-clause-stands : goal.returns-clause-stands

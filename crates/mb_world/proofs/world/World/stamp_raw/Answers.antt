@@ -1,5 +1,5 @@
 use Rattle.std.proofs.Common.{◌≡◌, ◌∙◌, ◌∷◌, true, false, refl, sym}
-use Rattle.mb_theory.specs.World.{stamps, update}
+use Rattle.mb_world_model.specs.World.{stamps, update}
 use Rattle.mb_parties.specs.declared.members.Stamp.{Stamp}
 use Rattle.mb_world.specs.Answers.{as_answer}
 use Rattle.mb_parties.specs.Stamping.{kept_stamp}

@@ -2,7 +2,7 @@ use Rattle.std.proofs.Common.{◌<◌, ◌∙◌, refl, sym, subst}
 use Rattle.mb_base.specs.declared.shape.Shape.{Shape}
 use Rattle.mb_base.specs.Shapes.{host_count}
 use Rattle.mb_replica.specs.Told.{KnowsEvent}
-use Rattle.mb_theory.specs.World.{self_of}
+use Rattle.mb_world_model.specs.World.{self_of}
 use Rattle.mb_parties.specs.Members.{answer_at}
 use Rattle.mb_parties.proofs.MarkLaws.{goes_still}
 use Rattle.mb_world.proofs.WorldLaws.{rest_of, all_rest, all_of}

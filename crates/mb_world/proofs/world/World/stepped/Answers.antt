@@ -1,7 +1,7 @@
 use Rattle.std.proofs.Common.{◌∙◌, ◌++◌, sym, refl, subst}
 use Rattle.std.specs.Prelude.{reverse, filter_map, fold}
 use Rattle.mb_base.specs.declared.shape.Shape.{Shape}
-use Rattle.mb_theory.specs.World.{stamps, update, partway, with_tagged}
+use Rattle.mb_world_model.specs.World.{stamps, update, partway, with_tagged}
 use Rattle.mb_world.specs.Answers.{as_answer}
 use Rattle.mb_parties.specs.Stamps.{FitsWhereStamped, bare_in}
 use Rattle.mb_parties.proofs.KeepLaws.{keeps_then}

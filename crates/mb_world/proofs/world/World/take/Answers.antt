@@ -1,6 +1,6 @@
 use Rattle.std.proofs.Common.{◌≡◌, ◌∙◌, List, Some, None, sym, ap}
 use Rattle.mb_base.specs.Shapes.{Bytes}
-use Rattle.mb_theory.specs.World.{give_client, numbered}
+use Rattle.mb_world_model.specs.World.{give_client, numbered}
 use Rattle.mb_world.proofs.StopLaws.{taken_there}
 use Rattle.mb_world.proofs.GivenLaws.{taken_clean}
 use Rattle.mb_world.proofs.WorldLaws.{message_there}

@@ -1,0 +1,2 @@
+//! What is promised: `Headline` first, then what it names. It holds definitions alone; `mb_headline` has the theorem.
+#![tactic(auto)]

@@ -1,5 +1,0 @@
-use Rattle.mb_theory.proofs.LogLimits.{hosts_keep_limits}
-use Rattle.mb_theory.proofs.hosts_keep_limits.Goals as goal
-
-pub returns : goal.returns
-returns g c = hosts_keep_limits _

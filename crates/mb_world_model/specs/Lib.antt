@@ -1,0 +1,10 @@
+pub mod Hashed
+pub mod WorldEvents
+pub mod World
+pub mod FaultyHosts
+pub mod WorldSteps
+pub mod EventsStep
+pub mod WorldRecord
+pub mod Forged
+pub mod Stops
+pub mod Refusals
