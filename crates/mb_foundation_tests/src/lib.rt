@@ -1,5 +1,4 @@
-//! Tests of the crates that know no message of the protocol: the trusted counter, windows, gates, pieces of long messages, the outside, and keys
-//! with values.
+//! Tests of the crates that know no message of the protocol: the trusted counter, windows, gates, pieces of long messages, and the outside.
 #![tactic(auto)]
 
 #[cfg(test)]
@@ -8,8 +7,6 @@ mod edge;
 mod frag;
 #[cfg(test)]
 mod gate;
-#[cfg(test)]
-mod kv;
 #[cfg(test)]
 mod usig;
 #[cfg(test)]

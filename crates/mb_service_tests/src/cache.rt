@@ -1,7 +1,7 @@
 use crate::samples::request;
 use mb_base::{Client, Digest, Items, Pos, Seq, Shape};
 use mb_cache::{Accept, Restore, Table, digest};
-use mb_kv::Kv;
+use mb_counter::Counter;
 use mb_parts::{MAX_POS, Request};
 use std::alloc::Global;
 use std::process::Abort;
@@ -9,11 +9,22 @@ use std::test::Fail;
 
 /// The digest of a state in which no request was executed. It and those of the rows were computed apart from this program, by Python's hashlib.
 const DIGEST_AT_THE_START: &Digest =
-    b"\xb9\xa9\xc2\x69\x01\x0c\xe7\x5e\x54\x7d\xa4\xe3\xf8\xae\xfb\x32\xd4\xd0\xfb\x0d\xd1\xee\x33\x49\x5f\xf6\x6a\x42\x53\xf8\xe4\x18";
+    b"\x35\x0f\xaf\x46\xe7\x81\x11\x84\x29\xef\x74\xa1\x71\x6d\x20\x34\x11\xbc\xbf\xaa\xc6\xcd\x24\x15\xfd\x5d\xe3\x9f\x8a\x1e\xd0\x4d";
 
-/// The bytes of a table of two clients, the first of which was answered with a byte 0.
+/// The bytes of a table of two clients, the first of which was told a count of 1.
 const PART_BEHIND_ONE_REQUEST: &[u8] =
-    b"\x00\x00\x00\x00\x00\x00\x00\x01\x00\x00\x00\x00\x00\x00\x00\x01\x00\x01\x00\x00\x00\x00\x00\x00\x00\x00\x00\x00\x00\x00\x00\x00\x00\x00\x00\x00\x00";
+    b"\x00\x00\x00\x00\x00\x00\x00\x01\x00\x00\x00\x00\x00\x00\x00\x01\x00\x09\x00\x00\x00\x00\x00\x00\x00\x00\x01\x00\x00\x00\x00\x00\x00\x00\x00\x00\x00\x00\x00\x00\x00\x00\x00\x00\x00";
+
+/// Asks to count one more.
+const ADD: &[u8] = b"\x01\x00\x00\x00\x00\x00\x00\x00\x01";
+
+/// Asks for the count.
+const TELL: &[u8] = b"\x02";
+
+/// What is answered where nothing was counted, and where one was.
+const ZERO: &[u8] = b"\x00\x00\x00\x00\x00\x00\x00\x00\x00";
+
+const ONE: &[u8] = b"\x00\x00\x00\x00\x00\x00\x00\x00\x01";
 
 /// One of 3 hosts that may be faulty, a checkpoint at each 4th position, and so many clients.
 fn table_of(rt: &HostRuntime, clients: u8) -> Result<Table, Fail> {
@@ -26,49 +37,44 @@ fn execute(
     rt: &impl Abort,
     alloc: Global,
     table: &mut Table,
-    kv: &mut Kv,
+    counter: &mut Counter,
     pos: Pos,
     request: &Request,
 ) -> Result<Option<Items<u8>>, Fail> {
     assert!(rt; request.client < table.clients());
     assert!(rt; pos >= 1 && pos <= MAX_POS);
-    Ok(table.execute(alloc, kv, pos, request)?)
+    Ok(table.execute(alloc, counter, pos, request)?)
 }
 
-/// The byte that client 1 is answered as it asks for this at a position. None where the request is not executed.
+/// What client 1 is answered as it asks for this at a position. None where the request is not executed.
 fn answer(
     rt: &impl Abort,
     alloc: Global,
     table: &mut Table,
-    kv: &mut Kv,
+    counter: &mut Counter,
     pos: Pos,
     seq: Seq,
     op: &[u8],
-) -> Result<Option<u8>, Fail> {
+) -> Result<Option<Items<u8>>, Fail> {
     let request = request(alloc, 1, seq, op)?;
-    let Some(answer) = execute(rt, alloc, table, kv, pos, &request)? else {
-        return Ok(None);
-    };
-    assert!(rt; answer.len() == 1);
-    Ok(answer.as_slice().first().copied())
+    execute(rt, alloc, table, counter, pos, &request)
 }
 
-/// The digest of the state behind what each of four clients asks for in its request of that number, from a position on.
+/// The digest of the state behind the addition that each of four clients asks for in its request of that number, from a position on.
 fn digest_behind(
     rt: &impl Abort,
     alloc: Global,
     table: &mut Table,
-    kv: &mut Kv,
+    counter: &mut Counter,
     first: Pos,
     seq: Seq,
-    op: &[u8],
 ) -> Result<Digest, Fail> {
     for client in 0..4 {
-        let request = request(alloc, client, seq, op)?;
+        let request = request(alloc, client, seq, ADD)?;
         let pos = first.saturating_add(u64::from(client));
-        execute(rt, alloc, table, kv, pos, &request)?;
+        execute(rt, alloc, table, counter, pos, &request)?;
     }
-    Ok(digest(alloc, kv, table, first.saturating_add(3))?)
+    Ok(digest(alloc, counter, table, first.saturating_add(3))?)
 }
 
 /// What the table says of a number of client 1.
@@ -90,23 +96,24 @@ fn expect_reply(rt: &impl Abort, table: &Table, client: Client, reply: Option<(S
 
 #[test]
 fn a_request_is_executed_once(rt: HostRuntime) -> Result<(), Fail> {
-    let mut kv = Kv::new(rt.alloc());
+    let mut counter = Counter::new();
     let mut table = table_of(&rt, 2)?;
     let start = [accept(&rt, &table, 0), accept(&rt, &table, 1)];
     assert!(rt; start == [Accept::Again { pos: 0 }, Accept::Fresh]);
     expect_reply(&rt, &table, 1, None);
-    let rows: [(Seq, Pos, &[u8], Option<u8>); 5] = [
-        (3, 1, b"\x03\x01a", Some(2)),
-        (3, 2, b"\x01\x01a\x00\x011", None),
-        (2, 2, b"\x01\x01a\x00\x011", None),
-        (4, 3, b"\x01\x01a\x00\x011", Some(0)),
-        (5, 3, b"\x03\x01a", Some(0)),
+    let rows: [(Seq, Pos, &[u8], Option<&[u8]>); 5] = [
+        (3, 1, TELL, Some(ZERO)),
+        (3, 2, ADD, None),
+        (2, 2, ADD, None),
+        (4, 3, ADD, Some(ONE)),
+        (5, 3, TELL, Some(ONE)),
     ];
     for (seq, pos, op, result) in rows {
-        assert!(rt; answer(&rt, rt.alloc(), &mut table, &mut kv, pos, seq, op)? == result);
+        let answered = answer(&rt, rt.alloc(), &mut table, &mut counter, pos, seq, op)?;
+        assert!(rt; answered.as_ref().map(|told| told.as_slice()) == result);
     }
-    drop(kv);
-    expect_reply(&rt, &table, 1, Some((5, 3, [0].as_slice())));
+    drop(counter);
+    expect_reply(&rt, &table, 1, Some((5, 3, ONE)));
     assert!(rt; accept(&rt, &table, 6) == Accept::Fresh);
     assert!(rt; accept(&rt, &table, 5) == Accept::Again { pos: 3 });
     assert!(rt; accept(&rt, &table, 4) == Accept::Old { last: 5 });
@@ -116,26 +123,24 @@ fn a_request_is_executed_once(rt: HostRuntime) -> Result<(), Fail> {
 
 #[test]
 fn states_have_their_digests(rt: HostRuntime) -> Result<(), Fail> {
-    let rows: [(u64, Pos, &[u8], &[u8]); 2] = [
+    let rows: [(u64, Pos, &[u8]); 2] = [
         (
             1,
             1,
-            b"\x01\x01a\x00\x011",
-            b"\x74\x33\x8e\xec\x20\x53\xd8\x15\x7c\x31\x75\x2b\xe6\xc5\xf7\x86\x6e\x24\xd3\xee\x82\x33\x60\xce\x14\x88\x24\xaf\xb0\xf1\x9c\x82",
+            b"\xa3\xfe\x34\x15\x2e\xc7\x9d\xf0\xda\x24\xf5\xe3\x89\xe5\x4f\xa4\xdb\x6d\x96\x18\x59\x42\x2d\x3c\x08\x71\x18\x23\xd1\xf9\xdb\x65",
         ),
         (
             2,
             5,
-            b"\x01\x01a\x00\x012",
-            b"\xb4\x83\xb4\xf0\xfe\x3c\xf7\x61\x69\x62\x2d\x5c\x14\x8b\xbd\x89\xd1\x6c\x0b\x71\xa0\xcb\x18\xde\x70\x5c\x16\x6c\xfc\x5f\xc5\x89",
+            b"\x74\x78\xb8\x48\xa9\x3b\x6f\x43\x04\x5b\x8b\xcd\xb8\xca\x78\x5f\xb4\x03\xe6\x2a\xba\x8a\x60\x3f\xc4\xd8\x11\xa7\xa2\xd8\x98\x5a",
         ),
     ];
-    let mut kv = Kv::new(rt.alloc());
+    let mut counter = Counter::new();
     let mut table = table_of(&rt, 4)?;
-    let start = digest(rt.alloc(), &mut kv, &table, 0)?;
+    let start = digest(rt.alloc(), &mut counter, &table, 0)?;
     assert!(rt; start == *DIGEST_AT_THE_START);
-    for (seq, first, op, state) in rows {
-        let digest = digest_behind(&rt, rt.alloc(), &mut table, &mut kv, first, seq, op)?;
+    for (seq, first, state) in rows {
+        let digest = digest_behind(&rt, rt.alloc(), &mut table, &mut counter, first, seq)?;
         assert!(rt; digest.as_slice() == state);
     }
     Ok(())
@@ -143,18 +148,18 @@ fn states_have_their_digests(rt: HostRuntime) -> Result<(), Fail> {
 
 #[test]
 fn a_table_is_restored_from_its_bytes(rt: HostRuntime) -> Result<(), Fail> {
-    let mut kv = Kv::new(rt.alloc());
+    let mut counter = Counter::new();
     let mut table = table_of(&rt, 2)?;
-    let request = request(rt.alloc(), 0, 1, b"\x01\x01a\x00\x011")?;
-    execute(&rt, rt.alloc(), &mut table, &mut kv, 1, &request)?;
+    let request = request(rt.alloc(), 0, 1, ADD)?;
+    execute(&rt, rt.alloc(), &mut table, &mut counter, 1, &request)?;
     drop(request);
-    drop(kv);
+    drop(counter);
     let part = table.part(rt.alloc())?;
     drop(table);
     assert!(rt; part.as_slice() == PART_BEHIND_ONE_REQUEST);
     let mut other = table_of(&rt, 2)?;
     assert!(rt; other.restore(rt.alloc(), part.as_slice()) == Ok(()));
-    expect_reply(&rt, &other, 0, Some((1, 1, [0].as_slice())));
+    expect_reply(&rt, &other, 0, Some((1, 1, ONE)));
     expect_reply(&rt, &other, 1, None);
     Ok(())
 }

@@ -4,9 +4,9 @@ ghost use Rattle.mb_model.specs.States.{part_count};
 
 use crate::samples::{bytes, request};
 use mb_base::{Client, Digest, Items, Pos, Seq, Shape};
+use mb_counter::Counter;
 use mb_fetch::Shelf;
 use mb_keeper::{Fetched, Keeper};
-use mb_kv::Kv;
 use mb_msg::StateMsg;
 use mb_parts::MAX_POS;
 use sha2::{Digest as _, Sha256};
@@ -14,12 +14,12 @@ use std::alloc::Global;
 use std::process::Abort;
 use std::test::Fail;
 
-/// 65 parts: the first has these bytes, each other of the service no pair, and the last is a table of one client that ends with this byte.
+/// 65 parts: the first has these bytes, each other of the service none, and the last is a table of one client that ends with this byte.
 fn parts(alloc: Global, first: &[u8], last: u8) -> Result<Items<Items<u8>>, Fail> {
     let mut all = Items::new(alloc);
     all.push(bytes(alloc, first)?)?;
     for _ in 1..64 {
-        all.push(bytes(alloc, &[0, 0])?)?;
+        all.push(Items::new(alloc))?;
     }
     let mut table = [0; 18];
     table[17] = last;
@@ -56,7 +56,7 @@ fn take(
     m: &StateMsg,
 ) -> Result<(Fetched, Option<u8>), Fail> {
     let shape = Shape::new(1, 4, 1)?;
-    let mut keeper = Keeper::make(alloc, shape, Kv::new(alloc))?;
+    let mut keeper = Keeper::make(alloc, shape, Counter::new())?;
     assert!(rt; m.digests.len() == 65 && m.parts.len() > 0 && m.parts.len() <= 65);
     assert!(rt; usize::from(m.first) + m.parts.len() <= 65);
     let fetched = keeper.take_state(alloc, certified, m)?;
@@ -73,7 +73,7 @@ fn taken(rt: &impl Abort, alloc: Global, first: &[u8], last: u8) -> Result<Fetch
 /// The state digest of another keeper, which executed nothing, at position 4, and its STATE.
 fn state_of_another(alloc: Global) -> Result<(Digest, StateMsg), Fail> {
     let shape = Shape::new(1, 4, 1)?;
-    let mut other = Keeper::make(alloc, shape, Kv::new(alloc))?;
+    let mut other = Keeper::make(alloc, shape, Counter::new())?;
     other.keep_snapshot(alloc, 4)?;
     let certified = other.digest(alloc, 4)?;
     Ok((certified, other.state_message(alloc, 1, 4, 0)?))
@@ -84,7 +84,7 @@ fn parts_are_a_state_or_have_a_fault(rt: HostRuntime) -> Result<(), Fail> {
     let rows: [(&[u8], u8, Fetched); 3] = [
         (&[], 0, Fetched::BadState { part: 0, at: 0 }),
         (&[], 1, Fetched::BadState { part: 64, at: 16 }),
-        (&[0, 0], 0, Fetched::State),
+        (b"\x00\x00\x00\x00\x00\x00\x00\x07", 0, Fetched::State),
     ];
     for (first, last, fetched) in rows {
         assert!(rt; taken(&rt, rt.alloc(), first, last)? == fetched);
@@ -99,36 +99,34 @@ fn the_state_of_another_is_installed(rt: HostRuntime) -> Result<(), Fail> {
     Ok(())
 }
 
-/// Executes a request of a client of this system, at a position that there is. The snapshots stay as they are.
+/// Executes what a client of this system asks for, to count one more, at a position that there is. The snapshots stay as they are.
 fn execute(
     rt: &impl Abort,
     alloc: Global,
     shape: &Shape,
-    keeper: &mut Keeper<Kv>,
+    keeper: &mut Keeper<Counter>,
     pos: Pos,
     client: Client,
     seq: Seq,
-    op: &[u8],
 ) -> Result<(), Fail>
     requires { length keeper.old.served.table ≡ client_count shape.now }
     ensures clients { length keeper.new.served.table ≡ client_count shape.now }
     ensures snapshots { OnOk result (keeper.new.snapshots ≡ keeper.old.snapshots) }
 {
-    let request = request(alloc, client, seq, op)?;
+    let request = request(alloc, client, seq, b"\x01\x00\x00\x00\x00\x00\x00\x00\x01")?;
     assert!(rt; client < shape.clients() && pos >= 1 && pos <= MAX_POS);
     assert!(rt; keeper.execute(alloc, pos, &request)?);
     Ok(())
 }
 
-/// Each of four clients asks for this in its request of that number, from a position on.
+/// Each of four clients asks to count one more in its request of that number, from a position on.
 fn execute_of_each(
     rt: &impl Abort,
     alloc: Global,
     shape: &Shape,
-    keeper: &mut Keeper<Kv>,
+    keeper: &mut Keeper<Counter>,
     first: Pos,
     seq: Seq,
-    op: &[u8],
 ) -> Result<(), Fail>
     requires { length keeper.old.served.table ≡ client_count shape.now }
     ensures clients { length keeper.new.served.table ≡ client_count shape.now }
@@ -139,17 +137,17 @@ fn execute_of_each(
         first.saturating_add(2),
         first.saturating_add(3),
     );
-    execute(rt, alloc, shape, keeper, first, 0, seq, op)?;
-    execute(rt, alloc, shape, keeper, second, 1, seq, op)?;
-    execute(rt, alloc, shape, keeper, third, 2, seq, op)?;
-    execute(rt, alloc, shape, keeper, fourth, 3, seq, op)
+    execute(rt, alloc, shape, keeper, first, 0, seq)?;
+    execute(rt, alloc, shape, keeper, second, 1, seq)?;
+    execute(rt, alloc, shape, keeper, third, 2, seq)?;
+    execute(rt, alloc, shape, keeper, fourth, 3, seq)
 }
 
 /// All parts of the snapshot of a position.
 fn snapshot(
     rt: &impl Abort,
     alloc: Global,
-    keeper: &Keeper<Kv>,
+    keeper: &Keeper<Counter>,
     pos: Pos,
 ) -> Result<Vec<Items<u8>>, Fail>
     ensures { IfOk result (λ v. length v.items ≡ part_count) }
@@ -159,31 +157,35 @@ fn snapshot(
     Ok(parts)
 }
 
-/// The snapshot of position 4 is gone, and that of position 8 has the pair of the key a in its place.
-fn expect_second_alone(rt: &impl Abort, alloc: Global, keeper: &Keeper<Kv>) -> Result<(), Fail> {
+/// The snapshot of position 4 is gone, and that of position 8 has the count of all eight requests.
+fn expect_second_alone(
+    rt: &impl Abort,
+    alloc: Global,
+    keeper: &Keeper<Counter>,
+) -> Result<(), Fail> {
     let gone = keeper.state_message(alloc, 0, 4, 0)?.parts.len() == 0;
     assert!(rt; !keeper.has_snapshot(4) && gone);
     let kept = snapshot(rt, alloc, keeper, 8)?;
-    let held: [(usize, &[u8]); 2] = [(0, b"\x00\x00"), (10, b"\x00\x01\x01a\x00\x012")];
+    let held: [(usize, &[u8]); 2] = [(0, b"\x00\x00\x00\x00\x00\x00\x00\x08"), (10, b"")];
     for (number, text) in held {
         assert!(rt; kept.get(number).map(|part| part.as_slice()) == Some(text));
     }
     Ok(())
 }
 
-/// All parts of the service are those of no pair but that of the key a, number 10, and the last is the client table. A shelf with the same snapshots
-/// tells how many parts are held.
+/// The first part is the count, each other of the service is empty, and the last is the client table. A shelf with the same snapshots tells how many
+/// parts are held.
 #[test]
 fn snapshots_of_a_keeper_share_parts_on_a_shelf(rt: HostRuntime) -> Result<(), Fail> {
     let alloc = rt.alloc();
     let shape = Shape::new(1, 4, 4)?;
-    let mut keeper = Keeper::make(alloc, shape, Kv::new(alloc))?;
+    let mut keeper = Keeper::make(alloc, shape, Counter::new())?;
     let mut shelf = Shelf::make(alloc)?;
-    execute_of_each(&rt, alloc, &shape, &mut keeper, 1, 1, b"\x01\x01a\x00\x011")?;
+    execute_of_each(&rt, alloc, &shape, &mut keeper, 1, 1)?;
     keeper.keep_snapshot(alloc, 4)?;
     shelf.keep(alloc, 4, snapshot(&rt, alloc, &keeper, 4)?)?;
     assert_eq!(rt; shelf.parts_held(), 3);
-    execute_of_each(&rt, alloc, &shape, &mut keeper, 5, 2, b"\x01\x01a\x00\x012")?;
+    execute_of_each(&rt, alloc, &shape, &mut keeper, 5, 2)?;
     keeper.keep_snapshot(alloc, 8)?;
     shelf.keep(alloc, 8, snapshot(&rt, alloc, &keeper, 8)?)?;
     assert_eq!(rt; shelf.parts_held(), 5);

@@ -1,0 +1,5 @@
+//! Tests of keys with values.
+#![tactic(auto)]
+
+#[cfg(test)]
+mod kv;
