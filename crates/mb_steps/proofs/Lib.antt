@@ -1,3 +1,4 @@
+pub mod EachRule
 pub mod StepPotential
 pub mod StepRounds
 pub mod StepUnchanged

@@ -1,13 +1,12 @@
 -- The rules come to an end: each of them lowers the potential, so after enough rounds none is enabled, whatever the history.
 use Rattle.std.proofs.Common.{◌≡◌, ℕ, zero, suc, ◌+◌, ◌-◌, ◌≤◌, ◌<◌, Bool, true, false, ◌&&◌, ◌||◌, not, cond, List, ◌∷◌, length, refl, sym, ap, subst, ◌∙◌, inl, inr, arith, eqb, max, Option, Some, None}
-use Rattle.std.specs.Prelude.{◌==◌, nat_lt, nat_le, option_map, option_and_then, if◌then◌else◌, count_by}
+use Rattle.std.specs.Prelude.{◌==◌, nat_lt, nat_le, option_and_then, if◌then◌else◌, count_by}
 use Rattle.std.specs.List.{list_any}
 use Rattle.std.proofs.lemmas.Bool.{and_parts, cases_Bool, eqb-true, eq-eqb, eqb-false, ltb-true, ltb-false, leb-true, leb-false, lt-ltb, le-leb}
 use Rattle.std.proofs.lemmas.List.Sums.{sum_by-cons}
 use Rattle.mb_base.specs.Shapes.{IsShape, tally, host_count, max_faults, quorum, primary}
 use Rattle.mb_base.specs.declared.names.Ui.{Ui}
 use Rattle.mb_parts.specs.declared.floor.Floor.{Floor}
-use Rattle.mb_parts.specs.declared.batch.Batch.{Batch}
 use Rattle.mb_parts.specs.declared.certificates.Evidence.{Evidence}
 use Rattle.mb_parts.specs.Bares.{Bare}
 use Rattle.mb_parts.specs.Ordered.{current_view, is_opened, is_entered as entered_in, is_opening, is_entering, phase_from, phase_is_open, phase_is_entered}
@@ -22,19 +21,18 @@ use Rattle.mb_msg.specs.declared.stamped.Stamped.{Stamped as StampedMessage}
 use Rattle.mb_msg.specs.declared.stamped.Stamped.TheVariants as stamped
 use Rattle.mb_msg.specs.Stamps.{bare_of, ui_of, with_ui}
 use Rattle.mb_msg.specs.Plans.{plan_end, plan_digest}
-use Rattle.mb_model.specs.declared.known.KnownSlot.{KnownSlot}
 use Rattle.mb_model.specs.UsableLogs.{other_limit}
-use Rattle.mb_model.specs.Histories.{Stamped, History, Identity, origin, taken_of, view_of, is_open, is_changing, is_primary}
-use Rattle.mb_model.specs.Held.{wish_of, quorum_wish, new_view_of, evidence_of, evidence_view, plan_held, plan_from, chosen, new_view_in_view, evidence_in, evidence_for, evidence_with, enters_for, plan_at}
+use Rattle.mb_model.specs.Histories.{Stamped, History, Identity, origin, taken_of, view_of, is_changing, is_primary}
+use Rattle.mb_model.specs.Held.{wish_of, quorum_wish, new_view_of, evidence_of, evidence_view, plan_held, plan_from, new_view_in_view, evidence_in, evidence_for, evidence_with, enters_for}
 use Rattle.mb_model.specs.Stable.{stable_of, low_of, log_floor}
-use Rattle.mb_model.specs.OwnLog.{own_log, is_normal, has_room, has_other_room, is_unspent}
-use Rattle.mb_model.specs.Positions.{exec_of, slot_at}
-use Rattle.mb_model.specs.Batches.{first_batch}
+use Rattle.mb_model.specs.OwnLog.{own_log, is_normal, has_other_room, is_unspent}
+use Rattle.mb_model.specs.Positions.{exec_of}
 use Rattle.mb_model.specs.Sending.{Progress, signed, next_ui, no_ui}
 use Rattle.mb_model.specs.Making.{new_view, view_change, enter, opening, join, join_evidence}
-use Rattle.mb_model.specs.EnabledRules.{Rule, ChangeView, Announce, Enter, Open, Join, Commit, Execute, Prepare, target, new_view_number, change_enabled, announce_enabled, enter_enabled, open_enabled, join_enabled, commit_enabled, execute_enabled, prepare_enabled, next_rule, open_with, is_evidence_of, may_open, lags_behind, is_past_plan, has_evidence, with_batch, next_position, unordered, may_order, if_committed, is_committed}
+use Rattle.mb_model.specs.EnabledRules.{Rule, Enter, Open, Join, target, new_view_number, next_rule, next_position}
 use Rattle.mb_model.specs.CarriedOut.{carry_out, run_rules, enough}
-use Rattle.mb_model.proofs.Options.{option_cases, or_some, if_some, map_some}
+use Rattle.mb_model.proofs.Options.{option_cases, or_some, if_some}
+use Rattle.mb_steps.proofs.EachRule.{of_next}
 use Rattle.mb_steps.proofs.StepPotential.{reach, calls, ahead, places, normal_in, others_in, potential, not_above, reach_within, log_with, quorum_same, max_none, few_places, commit_rule, prepare_rule, execute_rule}
 
 -- ---- what is stamped says the same under its identifier
@@ -309,34 +307,12 @@ module _ {S : Type 0} (self : Identity S) where
   some_is : {A : Type 0} (x y : A) → Some x ≡ Some y → x ≡ y
   some_is x y e = cc
 
-  lowers_change : IsShape self.shape → (x : Progress) (rule : Rule) → change_enabled self x.history ≡ Some rule → Lowers x rule
-  unfolding change_enabled carry_out
-  lowers_change k x rule e =
+  lowers_enter : (x : Progress) (n : NewView) → has_other_room self x.history ≡ true → Lowers x (Enter n)
+  unfolding carry_out reach exec_of stable_of log_floor plan_held
+  lowers_enter x n room =
       let d : History = x.history in
-      let t = if_some (nat_lt (view_of self d) (target self d) && has_other_room self d) (Some (ChangeView (target self d))) rule e in
-      let more : view_of self d < target self d = ltb-true (view_of self d) (target self d) (and_parts (nat_lt (view_of self d) (target self d)) (has_other_room self d) t.0).0 in
-      subst (λ (r : Rule). Lowers x r) (some_is (ChangeView (target self d)) rule t.1) (change_lowers k d (target self d) more refl)
-
-  lowers_announce : IsShape self.shape → (x : Progress) (rule : Rule) → announce_enabled self x.history ≡ Some rule → Lowers x rule
-  unfolding announce_enabled carry_out
-  lowers_announce k x rule e =
-      let d : History = x.history in
-      let t = if_some (is_primary self d && (is_changing self d && has_other_room self d)) (option_map Announce (chosen self d (view_of self d))) rule e in
-      let a = and_parts (is_primary self d) (is_changing self d && has_other_room self d) t.0 in
-      let b = and_parts (is_changing self d) (has_other_room self d) a.1 in
-      let m = map_some Announce (chosen self d (view_of self d)) rule t.1 in
-      subst (λ (r : Rule). Lowers x r) m.2 (announce_lowers k d m.0 a.0 b.0)
-
-  lowers_enter : (x : Progress) (rule : Rule) → enter_enabled self x.history ≡ Some rule → Lowers x rule
-  unfolding enter_enabled carry_out reach exec_of stable_of log_floor plan_held
-  lowers_enter x rule e =
-      let d : History = x.history in
-      let t = if_some (not (is_primary self d) && (is_changing self d && has_other_room self d)) (option_map Enter (new_view_in_view (view_of self d) (new_view_of self d))) rule e in
-      let a = and_parts (not (is_primary self d)) (is_changing self d && has_other_room self d) t.0 in
-      let b = and_parts (is_changing self d) (has_other_room self d) a.1 in
-      let m = map_some Enter (new_view_in_view (view_of self d) (new_view_of self d)) rule t.1 in
-      let v : SameView d (Stamped (signed self d (enter m.0)) ∷ d) = entering d (record { view = m.0.view; counter = m.0.ui.counter; plan = m.0.plan; ui = no_ui }) in
-      subst (λ (r : Rule). Lowers x r) m.2 (lower_other d _ v refl refl refl (others_lower d (signed self d (enter m.0)) refl refl b.1))
+      let v : SameView d (Stamped (signed self d (enter n)) ∷ d) = entering d (record { view = n.view; counter = n.ui.counter; plan = n.plan; ui = no_ui }) in
+      lower_other d _ v refl refl refl (others_lower d (signed self d (enter n)) refl refl room)
 
   evidence_view_is : (d : History) (v : ℕ) (e : Evidence) → evidence_for self d v ≡ Some e → e.view ≡ v
   evidence_view_is d v e is = elim (or_some (evidence_in v (evidence_of self d)) (option_and_then (λ n. evidence_with self n (enters_for self d n)) (new_view_in_view v (new_view_of self d))) e is) [
@@ -357,94 +333,35 @@ module _ {S : Type 0} (self : Identity S) where
       | inr other ↦ let h = rw other at is in absurd cc
     ]
 
-  open_shape : (e : Option Evidence) (plan : Option Plan) (rule : Rule) → open_with e plan ≡ Some rule → (f : Evidence) × (p : Plan) × (e ≡ Some f) × (Open f p ≡ rule)
-  open_shape (Some f) (Some p) rule o = let t = if_some (is_evidence_of f p) (Some (Open f p)) rule o in (f, p, refl, some_is (Open f p) rule t.1)
-  open_shape (Some f) None rule o = absurd cc
-  open_shape None plan rule o = absurd cc
-
-  lowers_open : (x : Progress) (rule : Rule) → open_enabled self x.history ≡ Some rule → Lowers x rule
-  unfolding open_enabled carry_out reach exec_of stable_of log_floor plan_held
-  lowers_open x rule e =
+  lowers_open : (x : Progress) (e : Evidence) (plan : Plan) → has_other_room self x.history ≡ true → evidence_for self x.history (view_of self x.history) ≡ Some e → Lowers x (Open e plan)
+  unfolding carry_out reach exec_of stable_of log_floor plan_held
+  lowers_open x e plan room held =
       let d : History = x.history in
-      let t = if_some (may_open self d && has_other_room self d) (open_with (evidence_for self d (view_of self d)) (plan_at self d (view_of self d))) rule e in
-      let c = and_parts (may_open self d) (has_other_room self d) t.0 in
-      let m = open_shape (evidence_for self d (view_of self d)) (plan_at self d (view_of self d)) rule t.1 in
-      let there : m.0.view ≡ view_of self d = evidence_view_is d (view_of self d) m.0 m.2 in
-      let v : SameView d (Stamped (signed self d (opening m.0 m.1)) ∷ d) = opens d (record { evidence = m.0; body = Whole (record { stable = m.1.base; batches = m.1.batches }); ui = no_ui }) there in
-      subst (λ (r : Rule). Lowers x r) m.3 (lower_other d _ v refl refl refl (others_lower d (signed self d (opening m.0 m.1)) refl refl c.1))
+      let there : e.view ≡ view_of self d = evidence_view_is d (view_of self d) e held in
+      let v : SameView d (Stamped (signed self d (opening e plan)) ∷ d) = opens d (record { evidence = e; body = Whole (record { stable = plan.base; batches = plan.batches }); ui = no_ui }) there in
+      lower_other d _ v refl refl refl (others_lower d (signed self d (opening e plan)) refl refl room)
 
-  lowers_join : (x : Progress) (rule : Rule) → join_enabled self x.history ≡ Some rule → Lowers x rule
-  unfolding join_enabled carry_out reach exec_of stable_of log_floor plan_held
-  lowers_join x rule e =
+  lowers_join : (x : Progress) → has_other_room self x.history ≡ true → Lowers x Join
+  unfolding carry_out reach exec_of stable_of log_floor plan_held
+  lowers_join x room =
       let d : History = x.history in
-      let t = if_some ((lags_behind self d || is_past_plan self d) && (has_evidence self d && (nat_le (low_of self d) (exec_of d) && has_other_room self d))) (Some Join) rule e in
-      let a = and_parts (lags_behind self d || is_past_plan self d) (has_evidence self d && (nat_le (low_of self d) (exec_of d) && has_other_room self d)) t.0 in
-      let b = and_parts (has_evidence self d) (nat_le (low_of self d) (exec_of d) && has_other_room self d) a.1 in
-      let c = and_parts (nat_le (low_of self d) (exec_of d)) (has_other_room self d) b.1 in
       let v : SameView d (Stamped (signed self d (join self d)) ∷ d) = joins d (record { view = view_of self d; evidence = join_evidence self d; stable = stable_of self d; ui = no_ui }) in
-      subst (λ (r : Rule). Lowers x r) (some_is Join rule t.1) (lower_other d _ v refl refl refl (others_lower d (signed self d (join self d)) refl refl c.1))
-
-  commit_shape : (q : ℕ) (k : Option KnownSlot) (rule : Rule) → with_batch (Commit q) k ≡ Some rule → (j : KnownSlot) × (b : Batch) × (Commit q j b ≡ rule)
-  commit_shape q None rule e = absurd cc
-  commit_shape q (Some j) rule e = let m = map_some (Commit q j) j.batch rule e in (j, m.0, m.2)
-
-  lowers_commit : (x : Progress) (rule : Rule) → commit_enabled self x.history ≡ Some rule → Lowers x rule
-  unfolding commit_enabled
-  lowers_commit x rule e =
-      let d : History = x.history in
-      let t = if_some (is_open self d && (not (is_primary self d) && has_room self d)) (with_batch (Commit (next_position self d)) (slot_at self d (next_position self d))) rule e in
-      let m = commit_shape (next_position self d) (slot_at self d (next_position self d)) rule t.1 in
-      let enabled : commit_enabled self d ≡ Some (Commit (next_position self d) m.0 m.1) = e ∙ ap (λ (r : Rule). Some r) (sym m.2) in
-      subst (λ (r : Rule). Lowers x r) m.2 (commit_rule self x (next_position self d) m.0 m.1 enabled)
-
-  lowers_prepare : (x : Progress) (rule : Rule) → prepare_enabled self x.history ≡ Some rule → Lowers x rule
-  unfolding prepare_enabled
-  lowers_prepare x rule e =
-      let d : History = x.history in
-      let t = if_some (may_order self d) (option_map (Prepare (next_position self d)) (first_batch (unordered self d))) rule e in
-      let m = map_some (Prepare (next_position self d)) (first_batch (unordered self d)) rule t.1 in
-      let enabled : prepare_enabled self d ≡ Some (Prepare (next_position self d) m.0) = e ∙ ap (λ (r : Rule). Some r) (sym m.2) in
-      subst (λ (r : Rule). Lowers x r) m.2 (prepare_rule self x (next_position self d) m.0 enabled)
-
-  execute_shape : (d : History) (q : ℕ) (k : Option KnownSlot) (rule : Rule) → if_committed self d q k ≡ Some rule → (b : Batch) × (Execute q b ≡ rule)
-  execute_shape d q None rule e = absurd cc
-  execute_shape d q (Some k) rule e =
-      let t = if_some (is_committed self d q k) (option_map (Execute q) k.batch) rule e in
-      let m = map_some (Execute q) k.batch rule t.1 in (m.0, m.2)
-
-  lowers_execute : IsShape self.shape → (x : Progress) (rule : Rule) → execute_enabled self x.history ≡ Some rule → Lowers x rule
-  unfolding execute_enabled
-  lowers_execute k x rule e =
-      let d : History = x.history in
-      let t = if_some (is_open self d && nat_le (low_of self d) (exec_of d)) (if_committed self d (exec_of d + 1) (slot_at self d (exec_of d + 1))) rule e in
-      let m = execute_shape d (exec_of d + 1) (slot_at self d (exec_of d + 1)) rule t.1 in
-      let enabled : execute_enabled self d ≡ Some (Execute (exec_of d + 1) m.0) = e ∙ ap (λ (r : Rule). Some r) (sym m.1) in
-      subst (λ (r : Rule). Lowers x r) m.1 (execute_rule self k x (exec_of d + 1) m.0 enabled)
+      lower_other d _ v refl refl refl (others_lower d (signed self d (join self d)) refl refl room)
 
   pub lowers : IsShape self.shape → (x : Progress) (rule : Rule) → next_rule self x.history ≡ Some rule → Lowers x rule
-  unfolding next_rule
-  lowers k x rule e = elim (or_some _ _ rule e) [
-    | inl first ↦ lowers_change k x rule first
-    | inr e ↦ elim (or_some _ _ rule e) [
-      | inl first ↦ lowers_announce k x rule first
-      | inr e ↦ elim (or_some _ _ rule e) [
-        | inl first ↦ lowers_enter x rule first
-        | inr e ↦ elim (or_some _ _ rule e) [
-          | inl first ↦ lowers_open x rule first
-          | inr e ↦ elim (or_some _ _ rule e) [
-            | inl first ↦ lowers_join x rule first
-            | inr e ↦ elim (or_some _ _ rule e) [
-              | inl first ↦ lowers_commit x rule first
-              | inr e ↦ elim (or_some _ _ rule e) [
-                | inl first ↦ lowers_execute k x rule first
-                | inr e ↦ lowers_prepare x rule e
-              ]
-            ]
-          ]
-        ]
-      ]
-    ]
-  ]
+  unfolding carry_out
+  lowers k x rule e =
+      let d : History = x.history in
+      of_next self d (λ (r : Rule). Lowers x r) (record {
+        changes = λ e more room. change_lowers k d (target self d) (ltb-true (view_of self d) (target self d) more) refl;
+        announces = λ changes e leads changing room. announce_lowers k d changes leads changing;
+        enters = λ n e room. lowers_enter x n room;
+        opens = λ f plan e held room. lowers_open x f plan room held;
+        joins = λ e room. lowers_join x room;
+        commits = λ c b e room. commit_rule self x (next_position self d) c b e;
+        executes = λ b e. execute_rule self k x (exec_of d + 1) b e;
+        prepares = λ b e room. prepare_rule self x (next_position self d) b e;
+      }) rule e
 
   -- after more rounds than the potential none is enabled
   pub ends : IsShape self.shape → (n : ℕ) (x : Progress) → potential self x.history < n → next_rule self (run_rules self n x).history ≡ None
