@@ -27,6 +27,7 @@ use Rattle.mb_model.specs.GateChecks.{valid}
 use Rattle.mb_model.specs.Held.{changes_of, plan_from}
 use Rattle.mb_model.specs.Histories.{Entry, Stamped, History, Identity, view_of, counter_of, stamped as all_stamped}
 use Rattle.mb_model.specs.Making.{view_change, new_view}
+use Rattle.mb_model.proofs.LogForms.{normal_behind}
 use Rattle.mb_model.specs.OwnLog.{is_normal, behind, behind_opening, behind_change, kept_forms, as_shown, log_start, log_kept, proof_of}
 use Rattle.mb_model.specs.Sending.{next_ui}
 use Rattle.mb_steps.specs.Arises.{Makes, Arises}
@@ -69,36 +70,6 @@ count_kept p f same (suc n) (x ∷ l) =
     omega (arith, e, one_of p (f x) (take n (map f l)), one_of p x (take n l), count_kept p f same n l)
 
 -- ---- forms
-
-normal_opening : (x : StampedMessage) → is_normal (behind_opening x) ≡ is_normal x
-normal_opening (stamped.Prepare m) = refl
-normal_opening (stamped.Commit m) = refl
-normal_opening (stamped.Checkpoint m) = refl
-normal_opening (stamped.ViewChange m) = refl
-normal_opening (stamped.NewView m) = refl
-normal_opening (stamped.Enter m) = refl
-normal_opening (stamped.Open m) = refl
-normal_opening (stamped.Join m) = refl
-
-normal_change : (x : StampedMessage) → is_normal (behind_change x) ≡ is_normal x
-normal_change (stamped.Prepare m) = refl
-normal_change (stamped.Commit m) = refl
-normal_change (stamped.Checkpoint m) = refl
-normal_change (stamped.ViewChange m) = refl
-normal_change (stamped.NewView m) = refl
-normal_change (stamped.Enter m) = refl
-normal_change (stamped.Open m) = refl
-normal_change (stamped.Join m) = refl
-
-normal_behind : (m x : StampedMessage) → is_normal (behind m x) ≡ is_normal x
-normal_behind (stamped.Open m) x = normal_opening x
-normal_behind (stamped.Join m) x = normal_opening x
-normal_behind (stamped.ViewChange m) x = normal_change x
-normal_behind (stamped.Prepare m) x = refl
-normal_behind (stamped.Commit m) x = refl
-normal_behind (stamped.Checkpoint m) x = refl
-normal_behind (stamped.NewView m) x = refl
-normal_behind (stamped.Enter m) x = refl
 
 normal_shown : (x : StampedMessage) → is_normal_kind (as_shown x) ≡ is_normal x
 normal_shown (stamped.Prepare m) = refl

@@ -17,7 +17,8 @@ use Rattle.mb_model.specs.OwnLog.{is_normal, behind, as_shown, first_packed, kep
 use Rattle.mb_log.specs.Logs.{Log, counter_in, floor_counter, start, is_normal_kind, has_room_for, appended, cut_at, given_from}
 use Rattle.mb_log.specs.Represents.{Represents, count_since, kept_since, count_from, StandsWith, StandsCut, Gives}
 use Rattle.mb_log.specs.Histories.{RepresentsLog, AnswersFor, LogsAnswer}
-use Rattle.mb_log.proofs.Keeping.{kind_is_normal, normal_behind, count_behind}
+use Rattle.mb_log.proofs.Keeping.{kind_is_normal, count_behind}
+use Rattle.mb_model.proofs.LogForms.{normal_behind}
 
 -- a log by its parts
 abbrev pub log_with : Shape → ℕ → Option FloorCert → List StampedMessage → ℕ → Log

@@ -16,6 +16,7 @@ use Rattle.mb_msg.specs.Bodies.{body_digest, FitsBody}
 use Rattle.mb_msg.specs.Fits.{FitsStamped}
 use Rattle.mb_msg.specs.Spelling.{stamped_kind}
 use Rattle.mb_parts.specs.Fits.{IsDigest}
+use Rattle.mb_model.proofs.LogForms.{normal_behind}
 use Rattle.mb_model.specs.OwnLog.{is_normal, behind, behind_opening, behind_change}
 use Rattle.mb_log.specs.Logs.{is_normal_kind}
 use Rattle.mb_log.specs.Takers.{takes_bodies}
@@ -93,36 +94,6 @@ none_taken m (x ∷ xs) e = ap (λ y. y ∷ map (behind m) xs) (same m x e) ∙ 
   same (stamped.Enter m) x e = refl
 
 -- ---- counts
-
-normal_opening : (x : StampedMessage) → is_normal (behind_opening x) ≡ is_normal x
-normal_opening (stamped.Prepare m) = refl
-normal_opening (stamped.Commit m) = refl
-normal_opening (stamped.Checkpoint m) = refl
-normal_opening (stamped.ViewChange m) = refl
-normal_opening (stamped.NewView m) = refl
-normal_opening (stamped.Enter m) = refl
-normal_opening (stamped.Open m) = refl
-normal_opening (stamped.Join m) = refl
-
-normal_change : (x : StampedMessage) → is_normal (behind_change x) ≡ is_normal x
-normal_change (stamped.Prepare m) = refl
-normal_change (stamped.Commit m) = refl
-normal_change (stamped.Checkpoint m) = refl
-normal_change (stamped.ViewChange m) = refl
-normal_change (stamped.NewView m) = refl
-normal_change (stamped.Enter m) = refl
-normal_change (stamped.Open m) = refl
-normal_change (stamped.Join m) = refl
-
-pub normal_behind : (m x : StampedMessage) → is_normal (behind m x) ≡ is_normal x
-normal_behind (stamped.Open m) x = normal_opening x
-normal_behind (stamped.Join m) x = normal_opening x
-normal_behind (stamped.ViewChange m) x = normal_change x
-normal_behind (stamped.Prepare m) x = refl
-normal_behind (stamped.Commit m) x = refl
-normal_behind (stamped.Checkpoint m) x = refl
-normal_behind (stamped.NewView m) x = refl
-normal_behind (stamped.Enter m) x = refl
 
 -- a test that asks for the kind alone
 pub count_behind : (p : StampedMessage → Bool) (m : StampedMessage) → ((x : StampedMessage) → p (behind m x) ≡ p x) → (xs : List StampedMessage) → count_by p (map (behind m) xs) ≡ count_by p xs

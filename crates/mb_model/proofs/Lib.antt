@@ -12,3 +12,4 @@ pub mod StepOnLiterals
 pub mod RisingLists
 pub mod ShapesFit
 pub mod Lists
+pub mod LogForms
