@@ -1,5 +1,5 @@
 -- Each host by itself carries out its rules (`CarriedOut`, from what is due of requests, views, openings and votes) and keeps its limits
--- (`LogLimits`), in each world.
+-- (`LogLimits`), in each world; what it refuses goes no further (`Refused`).
 pub mod Words
 pub mod DueOrders
 pub mod DueViews
@@ -9,3 +9,4 @@ pub mod Checkpointed
 pub mod CarriedOut
 pub mod LogFloor
 pub mod LogLimits
+pub mod Refused
