@@ -56,7 +56,7 @@ module _ {S : Type 0} (self : Identity S) where
         | inr not_so ↦ rw not_so (0, omega arith, refl)
       ]
 
-  accepted_there : (m : StampedMessage) (x : Progress) → HasEntry self (Accepted (as_message m)) (accept self m x)
+  pub accepted_there : (m : StampedMessage) (x : Progress) → HasEntry self (Accepted (as_message m)) (accept self m x)
   accepted_there (stamped.Commit m) x = commit_there m x
   accepted_there (stamped.Prepare m) x = (0, omega arith, refl)
   accepted_there (stamped.Checkpoint m) x = (0, omega arith, refl)

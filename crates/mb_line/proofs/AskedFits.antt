@@ -1,33 +1,23 @@
 -- What clients asked has the values of the grammar: who asks and for what fits the schedule, and a client's number is at most that of the events.
-use Rattle.std.proofs.Common.{◌≡◌, ℕ, zero, suc, ◌+◌, ◌≤◌, ◌<◌, ◌^◌, ◌⊎◌, Bool, true, false, List, ◌∷◌, length, refl, ap, subst, ◌∙◌, inl, inr, arith, Option, Some, None, Ok, Err}
-use Rattle.std.specs.Prelude.{slice_get, Result}
-use Rattle.std.proofs.lemmas.Bool.{cases_Bool}
+use Rattle.std.proofs.Common.{◌≡◌, ℕ, zero, suc, ◌+◌, ◌≤◌, ◌<◌, ◌^◌, ◌⊎◌, List, ◌∷◌, length, refl, ap, subst, ◌∙◌, inl, inr, arith, Option, Some, None}
+use Rattle.std.specs.Prelude.{slice_get}
 use Rattle.std.proofs.lemmas.Option.{slice_get_within}
-use Rattle.mb_base.specs.Shapes.{Bytes, host_count}
+use Rattle.mb_base.specs.Shapes.{Bytes}
 use Rattle.mb_usig.proofs.Laws.{length-signed_request}
 use Rattle.mb_parts.specs.declared.request.Request.{Request}
 use Rattle.mb_parts.specs.Fits.{FitsRequest}
-use Rattle.mb_msg.specs.declared.message.Message.{Message}
-use Rattle.mb_msg.specs.declared.message.Message.TheVariants as message
-use Rattle.mb_msg.specs.declared.stamped.Stamped.{Stamped as StampedMessage}
-use Rattle.mb_msg.specs.declared.event.Event.{Event}
-use Rattle.mb_msg.specs.declared.event.Event.TheVariants as event
-use Rattle.mb_msg.specs.Reading.{message_of}
-use Rattle.mb_msg.specs.Spelling.{spelling}
-use Rattle.mb_msg.specs.Stamps.{as_stamped}
 use Rattle.mb_model.specs.Clients.{Asker, Taken, Waiting, Accepted, BadTag, OtherSeq, taken, left_by, takes}
 use Rattle.mb_model.specs.Members.{In}
-use Rattle.mb_schedule.specs.declared.schedule.Name.TheVariants as name
 use Rattle.mb_schedule.specs.declared.schedule.WorldEvent.{WorldEvent}
-use Rattle.mb_schedule.specs.declared.schedule.WorldEvent.TheVariants.{Ask, Give, Take, Raw, Patience, Nudge, Sign, TagReply, TagWish, StampPrepare, StampCommit, StampCheckpoint, StampChange, StampAs, StampRaw}
+use Rattle.mb_schedule.specs.declared.schedule.WorldEvent.TheVariants.{Ask}
 use Rattle.mb_schedule.specs.declared.schedule.Schedule.{Schedule}
-use Rattle.mb_schedule.specs.Limits.{is_faulty, is_faulty_client, EventFits, IsSchedule}
-use Rattle.mb_world_model.specs.World.{numbered, World, System, give_host, give_client, client_reads, heard, signal, made, request_of}
-use Rattle.mb_world_model.specs.FaultyHosts.{stamp_some, stamp_content, stamp_bytes, content, prepare_of, commit_for, checkpoint_with, change_after, reply_of_host, wish_of_host}
-use Rattle.mb_world_model.specs.WorldSteps.{where_faulty, with_message, stamps_some, happens, after, world}
+use Rattle.mb_schedule.specs.Limits.{EventFits, IsSchedule}
+use Rattle.mb_world_model.specs.World.{World, System, request_of}
+use Rattle.mb_world_model.specs.WorldSteps.{happens, after, world}
 use Rattle.mb_world_model.specs.Stops.{stop_of, IsUnstopped}
 use Rattle.mb_world_laws.proofs.Standings.{before_last}
 use Rattle.mb_line.proofs.AskerWorlds.{AskerMoves, after_moves as askers_move}
+use Rattle.mb_world_laws.proofs.Asked.{not_asked}
 
 module _ {S : Type 0} (system : System S) where
   abbrev s : Schedule
@@ -40,59 +30,10 @@ module _ {S : Type 0} (system : System S) where
     abbrev Asks : World → Type 0
     Asks v = (v.asked ≡ w.asked) ⊎ ((c : ℕ) × (op : Bytes) × EventFits s.shape (Ask c op) × (v.asked ≡ request_of s c ((w.askers c).number + 1) op ∷ w.asked))
 
-    host_same : (h : ℕ) (bytes : Bytes) → (give_host system h bytes w).asked ≡ w.asked
-    unfolding give_host
-    host_same h bytes = elim (cases_Bool (is_faulty s h)) [ inl faulty ↦ rw faulty refl | inr correct ↦ rw correct refl ]
-
-    signal_same : (h : ℕ) (e : Event) → (signal system h e w).asked ≡ w.asked
-    unfolding signal
-    signal_same h e = elim (cases_Bool (is_faulty s h)) [ inl faulty ↦ rw faulty refl | inr correct ↦ rw correct refl ]
-
-    given_same : (h : ℕ) (o : Option Bytes) → (with_message (give_host system h) o w).asked ≡ w.asked
-    given_same h None = refl
-    given_same h (Some bytes) = host_same h bytes
-
-    reads_same : (c : ℕ) (bytes : Bytes) (r : Result Message ℕ) → (client_reads s c r (heard s bytes w)).asked ≡ w.asked
-    reads_same c bytes (Err at) = refl
-    reads_same c bytes (Ok (message.Reply r)) = refl
-    reads_same c bytes (Ok m) = refl
-
-    client_same : (c : ℕ) (bytes : Bytes) → (give_client s c bytes w).asked ≡ w.asked
-    unfolding give_client
-    client_same c bytes = elim (cases_Bool (is_faulty_client s c)) [ inl faulty ↦ rw faulty refl | inr correct ↦ rw correct (reads_same c bytes (message_of s.shape bytes)) ]
-
-    taken_same : (c : ℕ) (o : Option Bytes) → (with_message (give_client s c) o w).asked ≡ w.asked
-    taken_same c None = refl
-    taken_same c (Some bytes) = client_same c bytes
-
-    faulty_same : (t : Bool) (f : World → World) → (f w).asked ≡ w.asked → (where_faulty t f w).asked ≡ w.asked
-    faulty_same true f e = e
-    faulty_same false f e = refl
-
-    stamp_same : (h : ℕ) (m : Option StampedMessage) → (stamps_some system h m w).asked ≡ w.asked
-    stamp_same h m = faulty_same (is_faulty s h) (stamp_some (stamp_content s h) m) (go m) where
-      go : (o : Option StampedMessage) → (stamp_some (stamp_content s h) o w).asked ≡ w.asked
-      go None = refl
-      go (Some x) = refl
-
     event_asks : (e : WorldEvent) → EventFits s.shape e → Asks (happens system w e)
     unfolding happens
     event_asks (Ask c op) fits = inr (c, op, fits, refl)
-    event_asks (Give m h) fits = inl (given_same h (numbered w.pool m))
-    event_asks (Take m c) fits = inl (taken_same c (numbered w.pool m))
-    event_asks (Raw (name.Host h) bytes) fits = inl (host_same h bytes)
-    event_asks (Raw (name.Client c) bytes) fits = inl (client_same c bytes)
-    event_asks (Patience h) fits = inl (signal_same h event.Patience)
-    event_asks (Nudge h) fits = inl (signal_same h event.Nudge)
-    event_asks (Sign c seq op) fits = inl (faulty_same (is_faulty_client s c) (made s (spelling (message.Request (request_of s c seq op)))) refl)
-    event_asks (TagReply h c seq pos result) fits = inl (faulty_same (is_faulty s h) (made s (spelling (reply_of_host s h c seq pos result))) refl)
-    event_asks (TagWish h view) fits = inl (faulty_same (is_faulty s h) (made s (spelling (wish_of_host s h view))) refl)
-    event_asks (StampPrepare h view pos messages) fits = inl (stamp_same h (prepare_of s w view pos messages))
-    event_asks (StampCommit h m) fits = inl (stamp_same h (content s w m commit_for))
-    event_asks (StampCheckpoint h pos digest) fits = inl (faulty_same (is_faulty s h) (stamp_content s h (checkpoint_with (host_count s.shape) pos digest)) refl)
-    event_asks (StampChange h view counter) fits = inl (faulty_same (is_faulty s h) (stamp_content s h (change_after s w h view counter)) refl)
-    event_asks (StampAs h m) fits = inl (stamp_same h (content s w m as_stamped))
-    event_asks (StampRaw h bytes) fits = inl (faulty_same (is_faulty s h) (stamp_bytes s h bytes) refl)
+    event_asks e fits = inl (not_asked system w e (λ c op is. absurd cc))
 
     left_number : (t : Taken) (a : Asker) (r : _) → (left_by s.shape s.secret 0 t a r).number ≡ a.number
     left_number (Accepted pos) a r = refl

@@ -21,7 +21,6 @@ use Rattle.mb_msg.specs.declared.message.Body.{Body}
 use Rattle.mb_msg.specs.declared.message.Body.TheVariants.{Whole, Bare as Short}
 use Rattle.mb_msg.specs.declared.message.Message.{Message}
 use Rattle.mb_msg.specs.declared.message.Message.TheVariants as message
-use Rattle.mb_msg.specs.declared.normal.Commit.{Commit}
 use Rattle.mb_msg.specs.declared.normal.Stop.{Stop}
 use Rattle.mb_msg.specs.declared.change.ReqViewChange.{ReqViewChange}
 use Rattle.mb_msg.specs.declared.change.ViewChange.{ViewChange}
@@ -54,7 +53,7 @@ use Rattle.mb_model.specs.Sending.{Progress, begin, write, note, next_of}
 use Rattle.mb_model.specs.GateChecks.{valid, is_bad_ui, is_own_future, conviction, is_permitted, gate_refusal, identifier_refusal}
 use Rattle.mb_model.specs.KindChecks.{unusable, only_where, is_of_view, has_bad_tag, is_badly_tagged, body_refusal, vote_refusal, is_member, member_fault, members_fault, announces, new_view_fault, is_body_of, opening_fault, kind_refusal, stamped_refusal}
 use Rattle.mb_model.specs.PlainChecks.{is_behind_pending, has_news_for, are_all_held, string_at, wrong_part, wrong_digest, last_seq, number_refusal, request_refusal, wish_refusal, resend_refusal, is_certified_floor, is_certified_evidence, log_refusal, fetch_refusal, is_list_right, fault_of, state_refusal, is_bad_stop, stop_answer}
-use Rattle.mb_model.specs.Given.{Answer, closing, named_prepare, casts_vote, accept, floor_shown, jump, go_on, install_where_all, answer_request, answer_state, give_stamped, give_request, give_wish, give_resend, give_fetch, give_state, give_entries, give_log, give}
+use Rattle.mb_model.specs.Given.{Answer, closing, floor_shown, jump, go_on, install_where_all, answer_request, answer_state, give_stamped, give_request, give_wish, give_resend, give_fetch, give_state, give_entries, give_log, give}
 use Rattle.mb_model.specs.HostStep.{rules_follow, asks_on, finished_where, on_bytes, transition}
 use Rattle.mb_model.proofs.Options.{option_cases, or_some, if_some}
 use Rattle.mb_steps.proofs.StepPassed.{passes_log}
@@ -64,8 +63,9 @@ use Rattle.mb_promise.specs.TakesValid.{IsCertified, IsTagged, AreTagged, IsPlan
 use Rattle.mb_world_model.specs.World.{self_of}
 use Rattle.mb_world_model.specs.WorldSteps.{world}
 use Rattle.mb_host_laws.proofs.Cases.{not_true, not_false, not_both, or_false, some_is, then_some_of, whole_is}
-use Rattle.mb_line.proofs.Walks.{each_entry, offer_keeps, entries_keep, finished_keeps}
+use Rattle.mb_line.proofs.Walks.{each_entry, entries_keep, finished_keeps}
 use Rattle.mb_due.proofs.LogsStand.{HasEntry, entry_walked}
+use Rattle.mb_due.proofs.TakesLogs.{accepted_there}
 use Rattle.mb_due.proofs.TakesValid.{certified, valid_passes}
 use Rattle.mb_pins.specs.TellsWhy.{IsVoteOf, IsOfPosition, kind_number, IsBadlyTagged, IsFaulty, IsNoMember, IsMisplanned, IsOwnAhead, WaitsAlready, IsIdle, Tells, TellsOf, IsOfEntry, IsThrough, TellsOfLog, TellsOfLogs, TellsOfMessages, TellsOfBytes, HostsTellWhy}
 use Rattle.mb_pins.proofs.OnlyValid.{log_so}
@@ -408,24 +408,6 @@ module _ {S : Type 0} (self : Identity S) where
 
   -- ---- what is answered is the refusal, or what was taken is written
 
-  offered_there : (m : Commit) (x : Progress) → HasEntry self (Accepted (message.Commit m)) (accept self (stamped.Commit m) x)
-  offered_there m x =
-      let e : Entry = Accepted (message.Commit m) in
-      elim (cases_Bool (casts_vote self x.history m)) [
-        | inl votes ↦ rw votes (offer_keeps self (HasEntry self e) (entry_walked self e) (named_prepare self m) (write e x) (0, omega arith, refl))
-        | inr other ↦ rw other (0, omega arith, refl)
-      ]
-
-  accepted_there : (m : StampedMessage) (x : Progress) → HasEntry self (Accepted (as_message m)) (accept self m x)
-  accepted_there (stamped.Commit m) x = offered_there m x
-  accepted_there (stamped.Prepare m) x = (0, omega arith, refl)
-  accepted_there (stamped.Checkpoint m) x = (0, omega arith, refl)
-  accepted_there (stamped.ViewChange m) x = (0, omega arith, refl)
-  accepted_there (stamped.NewView m) x = (0, omega arith, refl)
-  accepted_there (stamped.Enter m) x = (0, omega arith, refl)
-  accepted_there (stamped.Open m) x = (0, omega arith, refl)
-  accepted_there (stamped.Join m) x = (0, omega arith, refl)
-
   refused : (d left : History) (m : Message) (o : Outcome) → Tells self d m o → TellsOf self d left m o
   refused d left m outcome.Took t = absurd t
   refused d left m o t = t
@@ -435,7 +417,7 @@ module _ {S : Type 0} (self : Identity S) where
   stamped_told x y =
       let z : Progress = note (compared_in self y.history x) y in
       elim (option_cases (stamped_refusal self y.history x)) [
-        | inl none ↦ rw none (accepted_there x z)
+        | inl none ↦ rw none (accepted_there self x z)
         | inr (o, some) ↦ rw some (refused y.history (closing o (ui_of x) z).history (as_message x) o (each_is (Tells self y.history (as_message x)) (stamped_refusal self y.history x) o some (stamped_why y.history x)))
       ]
 
@@ -599,7 +581,7 @@ module _ {S : Type 0} (self : Identity S) where
         entry_says : (Contains (give_stamped self x y).left.history (Accepted (as_message x)) → Contains left (Accepted (as_message x))) → SaysOf left x (give_stamped self x y).outcome
         unfolding give_stamped
         entry_says = elim (option_cases (stamped_refusal self y.history x)) [
-          | inl none ↦ rw none (λ keeps. inl (keeps (accepted_there x (note (compared_in self y.history x) y))))
+          | inl none ↦ rw none (λ keeps. inl (keeps (accepted_there self x (note (compared_in self y.history x) y))))
           | inr (o, some) ↦ rw some (λ keeps. says_of o (each_is (Tells self y.history (as_message x)) (stamped_refusal self y.history x) o some (stamped_why y.history x)))
         ]
 

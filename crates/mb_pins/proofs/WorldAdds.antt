@@ -39,6 +39,7 @@ use Rattle.mb_host_laws.proofs.Cases.{some_is, none_some, not_both}
 use Rattle.mb_line.proofs.Executions.{in_parts}
 use Rattle.mb_pins.specs.WorldAdds.{IsStringOf, IsStateString, IsTagged, IsStepOf, IsNoStep, request_for, IsHashedNow, StampsNow, ExtendsLine, sent_by, AddsNoMore, EventsAddNoMore}
 use Rattle.mb_pins.proofs.Strings.{IsNoted, step_noted}
+use Rattle.mb_world_laws.proofs.Asked.{not_asked}
 
 -- ---- lists
 
@@ -422,63 +423,9 @@ module _ {S : Type 0} (system : System S) where
   -- ---- requests that are asked
 
   module _ (w : World) where
-    asked_host : (h : ℕ) (bytes : Bytes) → (give_host system h bytes w).asked ≡ w.asked
-    unfolding give_host
-    asked_host h bytes = elim (cases_Bool (is_faulty s h)) [ inl faulty ↦ rw faulty refl | inr correct ↦ rw correct refl ]
-
-    asked_signal : (h : ℕ) (x : Event) → (signal system h x w).asked ≡ w.asked
-    unfolding signal
-    asked_signal h x = elim (cases_Bool (is_faulty s h)) [ inl faulty ↦ rw faulty refl | inr correct ↦ rw correct refl ]
-
-    asked_reads : (c : ℕ) (bytes : Bytes) (r : Result Message ℕ) → (client_reads s c r (heard s bytes w)).asked ≡ w.asked
-    asked_reads c bytes (Err at) = refl
-    asked_reads c bytes (Ok (message.Reply r)) = refl
-    asked_reads c bytes (Ok m) = refl
-
-    asked_client : (c : ℕ) (bytes : Bytes) → (give_client s c bytes w).asked ≡ w.asked
-    unfolding give_client
-    asked_client c bytes = elim (cases_Bool (is_faulty_client s c)) [ inl faulty ↦ rw faulty refl | inr correct ↦ rw correct (asked_reads c bytes (message_of s.shape bytes)) ]
-
-    asked_given : (h : ℕ) (o : Option Bytes) → (with_message (give_host system h) o w).asked ≡ w.asked
-    asked_given h None = refl
-    asked_given h (Some bytes) = asked_host h bytes
-
-    asked_taken : (c : ℕ) (o : Option Bytes) → (with_message (give_client s c) o w).asked ≡ w.asked
-    asked_taken c None = refl
-    asked_taken c (Some bytes) = asked_client c bytes
-
-    asked_faulty : (t : Bool) (f : World → World) → (f w).asked ≡ w.asked → (where_faulty t f w).asked ≡ w.asked
-    asked_faulty true f e = e
-    asked_faulty false f e = refl
-
-    asked_some : (h : ℕ) (m : Option StampedMessage) → (stamps_some system h m w).asked ≡ w.asked
-    asked_some h m = asked_faulty (is_faulty s h) (stamp_some (stamp_content s h) m) (go m) where
-      go : (o : Option StampedMessage) → (stamp_some (stamp_content s h) o w).asked ≡ w.asked
-      go None = refl
-      go (Some x) = refl
-
     asked_now : (c : ℕ) (op : Bytes) → (happens system w (Ask c op)).asked ≡ request_for system w (Ask c op) c op ∷ w.asked
     unfolding happens
     asked_now c op = refl
-
-    not_asked : (e : WorldEvent) → ((c : ℕ) (op : Bytes) → e ≡ Ask c op → ⊥) → (happens system w e).asked ≡ w.asked
-    unfolding happens
-    not_asked (Ask c op) none = absurd (none c op refl)
-    not_asked (Give m h) none = asked_given h (numbered w.pool m)
-    not_asked (Raw (name.Host h) bytes) none = asked_host h bytes
-    not_asked (Patience h) none = asked_signal h event.Patience
-    not_asked (Nudge h) none = asked_signal h event.Nudge
-    not_asked (Take m c) none = asked_taken c (numbered w.pool m)
-    not_asked (Raw (name.Client c) bytes) none = asked_client c bytes
-    not_asked (Sign c seq op) none = asked_faulty (is_faulty_client s c) (made s (spelling (message.Request (request_of s c seq op)))) refl
-    not_asked (TagReply h c seq pos result) none = asked_faulty (is_faulty s h) (made s (spelling (reply_of_host s h c seq pos result))) refl
-    not_asked (TagWish h view) none = asked_faulty (is_faulty s h) (made s (spelling (wish_of_host s h view))) refl
-    not_asked (StampPrepare h view pos messages) none = asked_some h (prepare_of s w view pos messages)
-    not_asked (StampCommit h m) none = asked_some h (content s w m commit_for)
-    not_asked (StampCheckpoint h pos digest) none = asked_faulty (is_faulty s h) (stamp_content s h (checkpoint_with (host_count s.shape) pos digest)) refl
-    not_asked (StampChange h view counter) none = asked_faulty (is_faulty s h) (stamp_content s h (change_after s w h view counter)) refl
-    not_asked (StampAs h m) none = asked_some h (content s w m as_stamped)
-    not_asked (StampRaw h bytes) none = asked_faulty (is_faulty s h) (stamp_bytes s h bytes) refl
 
   -- ---- which of both it is
 
@@ -648,7 +595,7 @@ module _ {S : Type 0} (system : System S) where
     adds_no_more : AddsNoMore system w e
     adds_no_more = record {
       asks = λ c op is. subst (λ (f : WorldEvent). (happens system w f).asked ≡ request_for system w e c op ∷ w.asked) (sym is) (asked_now w c op);
-      asks_none = not_asked w e;
+      asks_none = not_asked system w e;
       gives = λ h bytes k. (step_at h (event.Given bytes) k).given;
       gives_none = none_given;
       tags = new_tagged;

@@ -15,3 +15,4 @@ pub mod AllKnown
 pub mod OwnStamps
 pub mod NobodyThere
 pub mod FactsOf
+pub mod Asked
