@@ -27,7 +27,7 @@ mod stamps;
 
 pub use additions::{add_messages, extend_line};
 pub use clients::{ask_of, askers, pens, reply_in, take_of};
-pub use lines::{client_lines, host_lines, refused_lines};
+pub use lines::{client_line, client_lines, host_lines, refused_lines, state_of};
 pub use marks::{Mark, mark_of, note_clean, note_sent};
 pub use members::{FaultyHost, Member, Stamp, new_members, step_at};
 pub use refusals::{outcome_line, refused_line};

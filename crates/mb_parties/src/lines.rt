@@ -22,7 +22,7 @@ use mb_service::Service;
 use std::alloc::{AllocError, Global};
 
 /// Where a correct host stands.
-fn state_of<V: Service + Drop>(replica: &Replica<V>) -> HostState
+pub fn state_of<V: Service + Drop>(replica: &Replica<V>) -> HostState
     ensures { (y : System V) (h : ℕ) (d : History) → IsCorrectHost y h replica.now d → result ≡ state_line (self_of y h) d }
 {
     let at = replica.at();
@@ -77,7 +77,8 @@ fn last_result(alloc: Global, asker: &Asker) -> Result<Option<LastResult>, Alloc
     }
 }
 
-fn client_line(alloc: Global, client: Client, asker: &Asker) -> Result<ClientLine, AllocError>
+/// The line of a client. An error comes where memory runs out, and only there.
+pub fn client_line(alloc: Global, client: Client, asker: &Asker) -> Result<ClientLine, AllocError>
     ensures { (s : Shape) (secret : Bytes) (w : WorldState) → Represents s secret client asker.now (w.askers client) → IfOk result (λ line. line ≡ client_line w client) }
 {
     Ok(ClientLine {

@@ -27,5 +27,6 @@ mod replies;
 mod seen;
 mod world;
 
+pub use refusals::refusal;
 pub use seen::{Seen, WorldStop};
 pub use world::World;

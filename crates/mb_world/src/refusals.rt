@@ -27,7 +27,8 @@ pub(crate) fn note_refusal(
     Ok(())
 }
 
-fn refusal(alloc: Global, event: u64, seen: Seen) -> Result<Option<RefusedLine>, AllocError>
+/// The line of an event, numbered from 1, that answered this. None where that is no refusal. An error comes where memory runs out, and only there.
+pub fn refusal(alloc: Global, event: u64, seen: Seen) -> Result<Option<RefusedLine>, AllocError>
     ensures { IfOk result (λ line. line ≡ refusal_in event (as_answer seen)) }
 {
     match seen {
