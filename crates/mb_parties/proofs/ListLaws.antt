@@ -1,11 +1,17 @@
 -- What stands at the places of a list after a write or a push.
-use Rattle.std.proofs.Common.{◌≡◌, ℕ, zero, suc, ◌⊎◌, inl, inr, List, [], ◌∷◌, ◌++◌, length, set, Some, refl, ap, arith, eq-eqb}
+use Rattle.std.proofs.Common.{◌≡◌, ℕ, zero, suc, ◌<◌, ◌⊎◌, ◌∙◌, inl, inr, List, [], ◌∷◌, ◌++◌, length, set, Some, refl, ap, arith, eq-eqb}
+use Rattle.std.specs.Prelude.{get_or}
 use Rattle.std.specs.List.{slice_get}
 use Rattle.std.proofs.lemmas.Bool.{cases_eq, ne_eqb}
+use Rattle.std.proofs.lemmas.Option.{slice_get_read}
 use Rattle.mb_world_model.specs.World.{update}
 
 pub some_is : {X : Type 0} (x y : X) → Some x ≡ Some y → x ≡ y
 some_is x y e = cc
+
+-- what was found at a place, and is this
+pub member_at : {X : Type 0} (xs : List X) (i : ℕ) (found x : X) → i < length xs → found ≡ get_or xs i found → found ≡ x → slice_get xs i ≡ Some x
+member_at xs i found x lt read is = slice_get_read xs (length xs) i found refl lt read ∙ ap Some is
 
 -- after a write
 pub set_read : {X : Type 0} (xs : List X) (i h : ℕ) (y r : X) → slice_get (set xs i y) h ≡ Some r → ((h ≡ i) × (y ≡ r)) ⊎ ((h ≡ i → ⊥) × (slice_get xs h ≡ Some r))

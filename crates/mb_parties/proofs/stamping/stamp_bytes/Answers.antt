@@ -1,25 +1,20 @@
-use Rattle.std.proofs.Common.{◌≡◌, ◌<◌, ◌∙◌, length, Some, ap, refl, subst, arith}
-use Rattle.std.specs.List.{slice_get}
-use Rattle.std.proofs.lemmas.Option.{slice_get_read}
+use Rattle.std.proofs.Common.{refl, subst, arith}
 use Rattle.mb_usig.specs.Trusted.{Trusted}
 use Rattle.mb_parties.specs.declared.members.Member.TheVariants as member
 use Rattle.mb_parties.specs.Stamping.{IsRawStamp, kept_stamp}
+use Rattle.mb_parties.proofs.ListLaws.{member_at}
 use Rattle.mb_parties.proofs.MemberLaws.{runs_set}
 use Rattle.mb_parties.proofs.StampLaws.{trusted_at, faulty_stamps, correct_at, stamped_more, shape_stays}
 use Rattle.mb_parties.proofs.stamping.stamp_bytes.Goals as goal
 
 pub bytes_by-requires-clause-of : goal.bytes_by-requires-clause-of
 bytes_by-requires-clause-of g c =
-    let lt : c.from.result < length c.args.members.now.items = omega (arith, c.from.ensures, c.requires.host) in
-    let read = slice_get_read c.args.members.now.items (length c.args.members.now.items) c.from.result c.index_mut.result.now refl lt c.index_mut.ensures.value in
-    let at : slice_get c.args.members.now.items c.from.result ≡ Some (member.Faulty c.in-Faulty.faulty) = read ∙ ap Some c.in-Faulty.is in
+    let at = member_at c.args.members.now.items c.from.result c.index_mut.result.now (member.Faulty c.in-Faulty.faulty) (omega (arith, c.from.ensures, c.requires.host)) c.index_mut.ensures.value c.in-Faulty.is in
     c.requires.of c.from.result (member.Faulty c.in-Faulty.faulty) at
 
 pub bytes_by-requires-clause-few : goal.bytes_by-requires-clause-few
 bytes_by-requires-clause-few g c =
-    let lt : c.from.result < length c.args.members.now.items = omega (arith, c.from.ensures, c.requires.host) in
-    let read = slice_get_read c.args.members.now.items (length c.args.members.now.items) c.from.result c.index_mut.result.now refl lt c.index_mut.ensures.value in
-    let at : slice_get c.args.members.now.items c.from.result ≡ Some (member.Faulty c.in-Faulty.faulty) = read ∙ ap Some c.in-Faulty.is in
+    let at = member_at c.args.members.now.items c.from.result c.index_mut.result.now (member.Faulty c.in-Faulty.faulty) (omega (arith, c.from.ensures, c.requires.host)) c.index_mut.ensures.value c.in-Faulty.is in
     let few = c.requires.few c.from.result (member.Faulty c.in-Faulty.faulty) at in
     omega (arith, few)
 
@@ -28,30 +23,22 @@ returns-in_err-bytes_by-in-Faulty-clause-runs g c = λ all. runs_set c.args.memb
 
 pub returns-in_err-bytes_by-in-Faulty-clause-within : goal.returns-in_err-bytes_by-in-Faulty-clause-within
 returns-in_err-bytes_by-in-Faulty-clause-within g c = λ n all.
-    let lt : c.from.result < length c.args.members.now.items = omega (arith, c.from.ensures, c.requires.host) in
-    let read = slice_get_read c.args.members.now.items (length c.args.members.now.items) c.from.result c.index_mut.result.now refl lt c.index_mut.ensures.value in
-    let at : slice_get c.args.members.now.items c.from.result ≡ Some (member.Faulty c.in-Faulty.faulty) = read ∙ ap Some c.in-Faulty.is in
+    let at = member_at c.args.members.now.items c.from.result c.index_mut.result.now (member.Faulty c.in-Faulty.faulty) (omega (arith, c.from.ensures, c.requires.host)) c.index_mut.ensures.value c.in-Faulty.is in
     stamped_more n c.args.members.now.items c.from.result c.in-Faulty.faulty c.bytes_by.new.faulty all at c.bytes_by.ensures.counter
 
 pub returns-in_err-bytes_by-in-Faulty-clause-of : goal.returns-in_err-bytes_by-in-Faulty-clause-of
 returns-in_err-bytes_by-in-Faulty-clause-of g c =
-    let lt : c.from.result < length c.args.members.now.items = omega (arith, c.from.ensures, c.requires.host) in
-    let read = slice_get_read c.args.members.now.items (length c.args.members.now.items) c.from.result c.index_mut.result.now refl lt c.index_mut.ensures.value in
-    let at : slice_get c.args.members.now.items c.from.result ≡ Some (member.Faulty c.in-Faulty.faulty) = read ∙ ap Some c.in-Faulty.is in
+    let at = member_at c.args.members.now.items c.from.result c.index_mut.result.now (member.Faulty c.in-Faulty.faulty) (omega (arith, c.from.ensures, c.requires.host)) c.index_mut.ensures.value c.in-Faulty.is in
     shape_stays c.args.shape.now c.args.members.now.items c.from.result c.in-Faulty.faulty c.bytes_by.new.faulty c.requires.of at c.bytes_by.ensures.of
 
 pub returns-in-Correct-clause-stands : goal.returns-in-Correct-clause-stands
 returns-in-Correct-clause-stands g c = λ y d stamps all.
-    let lt : c.from.result < length c.args.members.now.items = omega (arith, c.from.ensures, c.requires.host) in
-    let read = slice_get_read c.args.members.now.items (length c.args.members.now.items) c.from.result c.index_mut.result.now refl lt c.index_mut.ensures.value in
-    let at : slice_get c.args.members.now.items c.from.result ≡ Some (member.Correct c.in-Correct.field-0) = read ∙ ap Some c.in-Correct.is in
+    let at = member_at c.args.members.now.items c.from.result c.index_mut.result.now (member.Correct c.in-Correct.field-0) (omega (arith, c.from.ensures, c.requires.host)) c.index_mut.ensures.value c.in-Correct.is in
     rw (← c.from.ensures) (correct_at y c.args.members.now.items d stamps c.from.result c.in-Correct.field-0 all at)
 
 pub returns-in_ok-bytes_by-in-Faulty-clause-stands : goal.returns-in_ok-bytes_by-in-Faulty-clause-stands
 returns-in_ok-bytes_by-in-Faulty-clause-stands g c = λ y d stamps all.
-    let lt : c.from.result < length c.args.members.now.items = omega (arith, c.from.ensures, c.requires.host) in
-    let read = slice_get_read c.args.members.now.items (length c.args.members.now.items) c.from.result c.index_mut.result.now refl lt c.index_mut.ensures.value in
-    let at : slice_get c.args.members.now.items c.from.result ≡ Some (member.Faulty c.in-Faulty.faulty) = read ∙ ap Some c.in-Faulty.is in
+    let at = member_at c.args.members.now.items c.from.result c.index_mut.result.now (member.Faulty c.in-Faulty.faulty) (omega (arith, c.from.ensures, c.requires.host)) c.index_mut.ensures.value c.in-Faulty.is in
     let made = c.in_ok-bytes_by-in-Faulty.field-0 in
     let told = c.in_ok-bytes_by-in-Faulty.ensures in
     rw (← c.from.ensures) (
@@ -64,14 +51,10 @@ returns-in_ok-bytes_by-in-Faulty-clause-runs g c = λ all. runs_set c.args.membe
 
 pub returns-in_ok-bytes_by-in-Faulty-clause-within : goal.returns-in_ok-bytes_by-in-Faulty-clause-within
 returns-in_ok-bytes_by-in-Faulty-clause-within g c = λ n all.
-    let lt : c.from.result < length c.args.members.now.items = omega (arith, c.from.ensures, c.requires.host) in
-    let read = slice_get_read c.args.members.now.items (length c.args.members.now.items) c.from.result c.index_mut.result.now refl lt c.index_mut.ensures.value in
-    let at : slice_get c.args.members.now.items c.from.result ≡ Some (member.Faulty c.in-Faulty.faulty) = read ∙ ap Some c.in-Faulty.is in
+    let at = member_at c.args.members.now.items c.from.result c.index_mut.result.now (member.Faulty c.in-Faulty.faulty) (omega (arith, c.from.ensures, c.requires.host)) c.index_mut.ensures.value c.in-Faulty.is in
     stamped_more n c.args.members.now.items c.from.result c.in-Faulty.faulty c.bytes_by.new.faulty all at c.bytes_by.ensures.counter
 
 pub returns-in_ok-bytes_by-in-Faulty-clause-of : goal.returns-in_ok-bytes_by-in-Faulty-clause-of
 returns-in_ok-bytes_by-in-Faulty-clause-of g c =
-    let lt : c.from.result < length c.args.members.now.items = omega (arith, c.from.ensures, c.requires.host) in
-    let read = slice_get_read c.args.members.now.items (length c.args.members.now.items) c.from.result c.index_mut.result.now refl lt c.index_mut.ensures.value in
-    let at : slice_get c.args.members.now.items c.from.result ≡ Some (member.Faulty c.in-Faulty.faulty) = read ∙ ap Some c.in-Faulty.is in
+    let at = member_at c.args.members.now.items c.from.result c.index_mut.result.now (member.Faulty c.in-Faulty.faulty) (omega (arith, c.from.ensures, c.requires.host)) c.index_mut.ensures.value c.in-Faulty.is in
     shape_stays c.args.shape.now c.args.members.now.items c.from.result c.in-Faulty.faulty c.bytes_by.new.faulty c.requires.of at c.bytes_by.ensures.of
