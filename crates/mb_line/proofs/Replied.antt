@@ -18,6 +18,26 @@ use Rattle.mb_line.proofs.Walks.{is_reply}
 use Rattle.mb_line.proofs.StepDone.{IsStored, IsDone, step_done}
 use Rattle.mb_line.proofs.Moves.{IsStep, Moves, world_moves}
 
+-- What is there with the letters was there before, or one of them says it.
+from_letter : (t : List Message) (l : Letter) (m : Message) → In (with_tagged t l) m → In t m ⊎ ((l.says ≡ m) × (is_tagged_message m ≡ true))
+from_letter t l m i = elim (cases_Bool (is_tagged_message l.says)) [
+  | inr other ↦ inl (rw other at i)
+  | inl yes_so ↦ first (rw yes_so at i) yes_so
+] where
+  first : In (l.says ∷ t) m → is_tagged_message l.says ≡ true → In t m ⊎ ((l.says ≡ m) × (is_tagged_message m ≡ true))
+  first (inl is) k = inr (is, subst (λ (x : Message). is_tagged_message x ≡ true) is k)
+  first (inr i) k = inl i
+
+pub from_letters : (ls : List Letter) (t : List Message) (m : Message) → In (fold with_tagged t ls) m → In t m ⊎ ((l : Letter) × In ls l × (l.says ≡ m) × (is_tagged_message m ≡ true))
+from_letters [] t m i = inl i
+from_letters (l ∷ ls) t m i = elim (from_letters ls (with_tagged t l) m i) [
+  | inr (k, j, is, kind) ↦ inr (k, inr j, is, kind)
+  | inl before ↦ elim (from_letter t l m before) [
+    | inl old ↦ inl old
+    | inr (is, kind) ↦ inr (l, inl refl, is, kind)
+  ]
+]
+
 module _ {S : Type 0} (system : System S) where
   -- The message is a correct host's stored reply of a moment.
   pub record IsReplied (w : World) (m : Message) : Type 0 where
@@ -34,26 +54,6 @@ module _ {S : Type 0} (system : System S) where
 
   abbrev pub AllTagged : World → Type 0
   AllTagged w = (m : Message) → In w.tagged m → IsTagged w m
-
-  -- what is there with the letters was there before, or one of them says it
-  from_letter : (t : List Message) (l : Letter) (m : Message) → In (with_tagged t l) m → In t m ⊎ ((l.says ≡ m) × (is_tagged_message m ≡ true))
-  from_letter t l m i = elim (cases_Bool (is_tagged_message l.says)) [
-    | inr other ↦ inl (rw other at i)
-    | inl yes_so ↦ first (rw yes_so at i) yes_so
-  ] where
-    first : In (l.says ∷ t) m → is_tagged_message l.says ≡ true → In t m ⊎ ((l.says ≡ m) × (is_tagged_message m ≡ true))
-    first (inl is) k = inr (is, subst (λ (x : Message). is_tagged_message x ≡ true) is k)
-    first (inr i) k = inl i
-
-  from_letters : (ls : List Letter) (t : List Message) (m : Message) → In (fold with_tagged t ls) m → In t m ⊎ ((l : Letter) × In ls l × (l.says ≡ m) × (is_tagged_message m ≡ true))
-  from_letters [] t m i = inl i
-  from_letters (l ∷ ls) t m i = elim (from_letters ls (with_tagged t l) m i) [
-    | inr (k, j, is, kind) ↦ inr (k, inr j, is, kind)
-    | inl before ↦ elim (from_letter t l m before) [
-      | inl old ↦ inl old
-      | inr (is, kind) ↦ inr (l, inl refl, is, kind)
-    ]
-  ]
 
   module _ (w v : World) (step : IsStep system w v) (before : AllTagged w) where
     abbrev h : ℕ

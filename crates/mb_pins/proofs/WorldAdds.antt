@@ -40,6 +40,7 @@ use Rattle.mb_line.proofs.Executions.{in_parts}
 use Rattle.mb_pins.specs.WorldAdds.{IsStringOf, IsStateString, IsTagged, IsStepOf, IsNoStep, request_for, IsHashedNow, StampsNow, ExtendsLine, sent_by, AddsNoMore, EventsAddNoMore}
 use Rattle.mb_pins.proofs.Strings.{IsNoted, step_noted}
 use Rattle.mb_world_laws.proofs.Asked.{not_asked}
+use Rattle.mb_line.proofs.Replied.{from_letters as letters_tagged}
 
 -- ---- lists
 
@@ -79,23 +80,10 @@ is_tagged (message.Reply m) t = refl
 is_tagged (message.ReqViewChange m) t = refl
 is_tagged m t = absurd t
 
-from_letter : (t : List Message) (l : Letter) (m : Message) → In (with_tagged t l) m → In t m ⊎ ((l.says ≡ m) × IsTagged m)
-from_letter t l m i = elim (cases_Bool (is_tagged_message l.says)) [
-  | inr other ↦ inl (rw other at i)
-  | inl yes_so ↦ first yes_so (rw yes_so at i)
-] where
-  first : is_tagged_message l.says ≡ true → In (l.says ∷ t) m → In t m ⊎ ((l.says ≡ m) × IsTagged m)
-  first e (inl is) = inr (is, subst IsTagged is (tagged_is l.says e))
-  first e (inr j) = inl j
-
 from_letters : (ls : List Letter) (t : List Message) (m : Message) → In (fold with_tagged t ls) m → In t m ⊎ (IsTagged m × (l : Letter) × (In ls l) × (l.says ≡ m))
-from_letters [] t m i = inl i
-from_letters (l ∷ ls) t m i = elim (from_letters ls (with_tagged t l) m i) [
-  | inr (kind, k, j, is) ↦ inr (kind, k, inr j, is)
-  | inl before ↦ elim (from_letter t l m before) [
-    | inl old ↦ inl old
-    | inr (is, kind) ↦ inr (kind, l, inl refl, is)
-  ]
+from_letters ls t m i = elim (letters_tagged ls t m i) [
+  | inl old ↦ inl old
+  | inr (l, j, is, kind) ↦ inr (tagged_is m kind, l, j, is)
 ]
 
 stays_tagged : (ls : List Letter) (t : List Message) (m : Message) → In t m → In (fold with_tagged t ls) m
