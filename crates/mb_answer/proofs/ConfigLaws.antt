@@ -7,6 +7,7 @@ use Rattle.std.proofs.lemmas.Bool.{leb-true, and_parts}
 use Rattle.hex.specs.Hex.{decode_of}
 use Rattle.hex.specs.declared.error.FromHexError.{FromHexError}
 use Rattle.hex.proofs.HexLemmas.{decode_of-ok}
+use Rattle.mb_base.specs.Limits.{text_limit}
 use Rattle.mb_base.specs.Shapes.{Bytes}
 use Rattle.mb_base.specs.declared.shape.Shape.{Shape}
 use Rattle.mb_parts.specs.Fits.{FitsText}
@@ -62,7 +63,7 @@ decoded_is (Err d) bytes e = absurd cc
 operation_short : (word op : Bytes) → operation_of word ≡ Some op → FitsText op
 operation_short word op e =
     let a = allowed (is_operation word) (bytes_of word) op e in
-    let within : length word ≤ 2 * 1024 = leb-true _ _ (and_parts (is_hex word) (leb (length word) (2 * 1024)) a.0).1 in
+    let within : length word ≤ 2 * text_limit = leb-true _ _ (and_parts (is_hex word) (leb (length word) (2 * text_limit)) a.0).1 in
     let b = allowed (is_hex word) (cond (is "-" word) (Some []) (result_ok (decode_of word))) op a.1 in
     elim (true_or_false (is "-" word)) [
       | inl dash ↦ let none : Some [] ≡ Some op = rw dash at b.1 in rw (← some_is [] op none) (omega arith)

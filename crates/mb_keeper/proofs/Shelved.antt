@@ -5,9 +5,10 @@ use Rattle.std.specs.List.{AllByRecursion, range_with_len}
 use Rattle.std.proofs.lemmas.Bool.{cases_Bool, le-leb, lt-leb}
 use Rattle.std.proofs.lemmas.List.FromFn.{length-map-range_with_len, map-range_with_len_more}
 use Rattle.sha2.specs.Sha256.{sha256}
+use Rattle.mb_base.specs.Limits.{part_count, service_parts}
 use Rattle.mb_base.specs.Shapes.{Bytes}
 use Rattle.mb_model.specs.Service.{Served}
-use Rattle.mb_model.specs.States.{Snapshots, table_bytes, parts_of, part_count}
+use Rattle.mb_model.specs.States.{Snapshots, table_bytes, parts_of}
 use Rattle.mb_model.specs.Making.{fitting, first_fitting}
 use Rattle.mb_fetch.specs.Snapshots.{Snapshot, part_in}
 use Rattle.mb_keeper.specs.Keeping.{AreShort}
@@ -41,7 +42,7 @@ part_more f l n x is x_is =
     let here : 0 + n ≡ n = omega arith in
     ap (λ (k : List Bytes). k ++ x ∷ []) is ∙ (ap (λ (y : Bytes). map f (range_with_len 0 n) ++ y ∷ []) x_is ∙ sym (map-range_with_len_more f 0 n n here))
 
-pub with_table : {S : Type 0} (snapshots : Snapshots S) (x : Served S) (l : List Bytes) (n : ℕ) (table : Bytes) → l ≡ map (snapshots.part x.state) (range_with_len 0 n) → n ≡ 64 → table ≡ table_bytes x.table → l ++ table ∷ [] ≡ parts_of snapshots x
+pub with_table : {S : Type 0} (snapshots : Snapshots S) (x : Served S) (l : List Bytes) (n : ℕ) (table : Bytes) → l ≡ map (snapshots.part x.state) (range_with_len 0 n) → n ≡ service_parts → table ≡ table_bytes x.table → l ++ table ∷ [] ≡ parts_of snapshots x
 unfolding parts_of
 with_table snapshots x l n table is all table_is = rw (is, all, table_is) refl
 

@@ -31,10 +31,10 @@ pub enum Fetched {
 
 impl<V: Service + Drop> Keeper<V> {
     ghost use Rattle.std.specs.Prelude.{◌≡◌, ℕ, length, Option, None, IfOk};
+    ghost use Rattle.mb_base.specs.Limits.{part_count};
     ghost use Rattle.mb_base.specs.Shapes.{Bytes};
     ghost use Rattle.mb_model.specs.Histories.{Identity, History};
     ghost use Rattle.mb_model.specs.Execution.{missing};
-    ghost use Rattle.mb_model.specs.States.{part_count};
     ghost use Rattle.mb_fetch.specs.Checks.{HasParts};
     ghost use Rattle.mb_fetch.specs.Parts.{Represents, first_missing};
     ghost use Rattle.mb_cache.specs.Represents.{snapshots_of};

@@ -1,7 +1,8 @@
 //! Snapshots of the state, and what is sent of them.
 
 ghost use Rattle.std.specs.Prelude.{◌≡◌, ◌≤◌, ◌<◌, ◌^◌, ◌++◌, length, drop, IfOk, OnOk};
-ghost use Rattle.mb_model.specs.States.{parts_of, part_count, part_digests};
+ghost use Rattle.mb_base.specs.Limits.{part_count};
+ghost use Rattle.mb_model.specs.States.{parts_of, part_digests};
 ghost use Rattle.mb_model.specs.Making.{fitting, first_fitting};
 ghost use Rattle.mb_cache.specs.Represents.{joined, snapshots_of};
 ghost use Rattle.mb_keeper.specs.Keeping.{AreShort};

@@ -24,12 +24,12 @@ pub enum Due {
 
 impl Normal {
     ghost use Rattle.std.specs.Prelude.{◌≡◌, ◌+◌, ◌<◌, ◌^◌, ◌&&◌, ◌==◌, ℕ, nat_lt, nat_le, not, is_some, option_copied, IfSome};
+    ghost use Rattle.mb_base.specs.Limits.{ahead_limit};
     ghost use Rattle.mb_base.specs.Shapes.{client_count, span, quorum, primary};
     ghost use Rattle.mb_base.specs.declared.shape.Shape.{Shape as ShapeValue};
     ghost use Rattle.mb_parts.specs.Fits.{FitsText};
     ghost use Rattle.mb_model.specs.Batches.{first_batch};
     ghost use Rattle.mb_model.specs.Positions.{slot_vote, position_limit};
-    ghost use Rattle.mb_model.specs.EnabledRules.{ahead_limit};
     ghost use Rattle.mb_normal.specs.Searches.{Searches, matching, unordered, unordered_of};
     ghost use Rattle.mb_normal.specs.Tables.{Represents, batch_of};
     ghost use Rattle.mb_normal.specs.Rules.{first_rule, in_window, is_committed, Names};

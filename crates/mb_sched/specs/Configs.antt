@@ -2,6 +2,7 @@
 use Rattle.std.specs.Prelude.{◌≡◌, ℕ, ◌≤◌, length, codes, List, [], ◌∷◌, ◌++◌, drop, Option, Result, Ok}
 use Rattle.std.specs.List.{flat_map, AllByRecursion}
 use Rattle.hex.specs.Hex.{IsBytes}
+use Rattle.mb_base.specs.Limits.{text_limit}
 use Rattle.mb_base.specs.Shapes.{Bytes, max_faults, interval, client_count}
 use Rattle.mb_sched.specs.declared.configs.Config.{Config}
 use Rattle.mb_sched.specs.Words.{operation_of}
@@ -65,4 +66,4 @@ pub record SettingsFit (c : Config) : Type 0 where
 -- the config keeps the limits of the grammar: so do its settings, and each operation has at most 1,024 bytes
 pub record ConfigFits (c : Config) : Type 0 where
   pub settings : SettingsFit c
-  pub ops : AllByRecursion (λ (op : Bytes). (length op ≤ 1024) × IsBytes op) c.ops
+  pub ops : AllByRecursion (λ (op : Bytes). (length op ≤ text_limit) × IsBytes op) c.ops

@@ -2,6 +2,7 @@
 use Rattle.std.specs.Prelude.{ℕ, slice_get, codes, List, [], ◌∷◌, ◌++◌, Option, Result, Ok}
 use Rattle.std.specs.Fmt.{decimal}
 use Rattle.hex.specs.Hex.{encode_lower}
+use Rattle.mb_base.specs.Limits.{most_faults, least_interval, most_interval, most_clients}
 use Rattle.mb_base.specs.Shapes.{Bytes, max_faults, interval, client_count}
 use Rattle.mb_base.specs.declared.shape.Shape.{Shape}
 use Rattle.mb_sched.specs.declared.settings.Settings.{Settings}
@@ -22,9 +23,9 @@ pub record SettingsContents : Type 0 where
 unfoldable pub settings_by : Bytes → Option Bytes → Option Bytes → Option Bytes → Option Bytes → Option Bytes → Option Bytes → Result SettingsContents ℕ
 settings_by title first faults interval count key socket = do
   _ ← read_line 1 (exact_line title) first
-  f ← read_line 2 (keyword_line (codes "f") (number_in 1 3)) faults
-  k ← read_line 3 (keyword_line (codes "k") (number_in 4 32)) interval
-  clients ← read_line 4 (keyword_line (codes "clients") (number_in 1 64)) count
+  f ← read_line 2 (keyword_line (codes "f") (number_in 1 most_faults)) faults
+  k ← read_line 3 (keyword_line (codes "k") (number_in least_interval most_interval)) interval
+  clients ← read_line 4 (keyword_line (codes "clients") (number_in 1 most_clients)) count
   secret ← read_line 5 (keyword_line (codes "secret") digest_of) key
   port ← read_line 6 (keyword_line (codes "port") (number_in 1024 60000)) socket
   Ok (record { f = f; k = k; clients = clients; secret = secret; port = port })

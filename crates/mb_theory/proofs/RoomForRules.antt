@@ -2,6 +2,7 @@
 use Rattle.std.proofs.Common.{◌≡◌, ℕ, ◌+◌, true, ◌&&◌, ◌||◌, not, subst, inl, inr, Option, Some, None}
 use Rattle.std.specs.Prelude.{nat_lt, nat_le, option_map}
 use Rattle.std.proofs.lemmas.Bool.{and_parts}
+use Rattle.mb_base.specs.Limits.{ahead_limit}
 use Rattle.mb_parts.specs.declared.batch.Batch.{Batch}
 use Rattle.mb_parts.specs.declared.certificates.Evidence.{Evidence}
 use Rattle.mb_msg.specs.declared.change.Plan.{Plan}
@@ -12,7 +13,7 @@ use Rattle.mb_model.specs.Held.{chosen, new_view_of, new_view_in_view, evidence_
 use Rattle.mb_model.specs.Stable.{low_of}
 use Rattle.mb_model.specs.OwnLog.{has_room, has_other_room}
 use Rattle.mb_model.specs.Positions.{exec_of, slot_at, in_window}
-use Rattle.mb_model.specs.EnabledRules.{Rule, change_enabled, announce_enabled, enter_enabled, open_enabled, join_enabled, commit_enabled, execute_enabled, prepare_enabled, next_rule, target, may_open, open_with, is_evidence_of, lags_behind, is_past_plan, has_evidence, next_position, with_batch, unordered, may_order, ahead_limit, if_committed, is_committed}
+use Rattle.mb_model.specs.EnabledRules.{Rule, change_enabled, announce_enabled, enter_enabled, open_enabled, join_enabled, commit_enabled, execute_enabled, prepare_enabled, next_rule, target, may_open, open_with, is_evidence_of, lags_behind, is_past_plan, has_evidence, next_position, with_batch, unordered, may_order, if_committed, is_committed}
 use Rattle.mb_model.specs.EnabledRules as rule
 use Rattle.mb_model.proofs.Options.{or_some, if_some, map_some}
 

@@ -10,7 +10,7 @@ use mb_base::{Counter, Host, Items, MESSAGE_LIMIT, NoMemory, View};
 use mb_forged::{Checker, ForgedClaim, change_with, checkpoint_with, commit_for, prepare_with};
 use mb_msg::{Batch, Message, Stamped, Undecoded, decode};
 use mb_parties::{Member, mark_of};
-use mb_parts::{MAX_BATCH, Part, Request, Requests};
+use mb_parts::{LOG_INTERVALS, MAX_BATCH, OTHER_LIMIT, Part, Request, Requests};
 use mb_schedule::{Name, WorldEvent};
 use mb_service::Service;
 use std::alloc::Global;
@@ -51,6 +51,7 @@ impl<V: Service + Drop> World<V> {
     ghost use Rattle.std.specs.Prelude.{◌≡◌, ◌≤◌, ◌<◌, ◌+◌, ◌-◌, ◌^◌, true, not, length, reverse, find, is_none, Some, None, Ok, Err, option_map, option_and_then, IfOk, IfSome};
     ghost use Rattle.std.specs.Bool.{then_some};
     ghost use Rattle.std.specs.List.{AllByRecursion};
+    ghost use Rattle.mb_base.specs.Limits.{batch_limit};
     ghost use Rattle.mb_base.specs.Shapes.{host_count};
     ghost use Rattle.mb_parts.specs.Fits.{IsPosition, FitsBatch, FitsRequest};
     ghost use Rattle.mb_msg.specs.Fits.{Fits, FitsStamped};
@@ -228,7 +229,7 @@ impl<V: Service + Drop> World<V> {
 
     /// The requests of these messages, where each is a REQUEST, and they have at most 2,048 bytes.
     fn batch_of(&self, alloc: Global, numbers: &[u64]) -> Result<Batch, WorldStop>
-        requires { (1 ≤ length numbers.now) × (length numbers.now ≤ 16) }
+        requires { (1 ≤ length numbers.now) × (length numbers.now ≤ batch_limit) }
         ensures stops { (y : System V) (x : WorldState) → RepresentsWorld y self.now x → Tells (option_map WrongKind (misfit y.schedule x 0 numbers.now)) result }
         ensures batch { (y : System V) (x : WorldState) → RepresentsWorld y self.now x → IfOk result (λ b. b ≡ batch_from y.schedule x numbers.now) }
         ensures fits { IfOk result (FitsBatch self.now.shape) }
@@ -299,7 +300,9 @@ impl<V: Service + Drop> World<V> {
         ensures runs { (result ≡ Err stop.Halted) → ⊥ }
     {
         let messages = self.stamped_after(alloc, host, counter)?;
-        if messages.len() > 6 * usize::from(self.shape.k()) + 768 {
+        if messages.len()
+            > LOG_INTERVALS as usize * usize::from(self.shape.k()) + OTHER_LIMIT as usize
+        {
             return Err(WorldStop::WrongKind { number: counter });
         }
         let content = change_with(alloc, &self.shape, view, messages)?;

@@ -1,4 +1,5 @@
 use Rattle.std.proofs.Common.{◌≡◌, ◌≤◌, ◌∙◌, List, [], ◌∷◌, ◌++◌, length, sym, subst, arith}
+use Rattle.mb_base.specs.Limits.{service_parts}
 use Rattle.mb_base.specs.Shapes.{Bytes}
 use Rattle.mb_steps.proofs.StepPlanBases.{all_append}
 use Rattle.mb_cache.specs.Represents.{joined, snapshots_of}
@@ -16,7 +17,7 @@ pub returns-clause-parts : goal.returns-clause-parts
 returns-clause-parts g c =
     let at_most = c.loop-part.auto.part-end in
     let at_least = c.loop-part-test.false in
-    let all : c.loop-part.part ≡ 64 = omega (arith, at_most, at_least) in
+    let all : c.loop-part.part ≡ service_parts = omega (arith, at_most, at_least) in
     c.in_ok-push-2.ensures.items
     ∙ with_table (snapshots_of g.V.Service.part_of g.V.Service.restored) (joined c.args.service.now c.args.table.now) c.loop-part.parts.items c.loop-part.part c.in_ok-part.field-0 c.loop-part.invariant.parts all c.in_ok-part.ensures.part
 

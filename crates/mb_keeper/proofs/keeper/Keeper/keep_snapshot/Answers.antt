@@ -1,6 +1,6 @@
 use Rattle.std.proofs.Common.{◌≡◌, ◌∙◌, [], ◌∷◌, length, sym, ap, subst}
 use Rattle.std.specs.List.{AllByRecursion}
-use Rattle.mb_model.specs.States.{part_count}
+use Rattle.mb_base.specs.Limits.{part_count}
 use Rattle.mb_steps.proofs.StepPlanBases.{all_append}
 use Rattle.mb_fetch.specs.Snapshots.{Snapshot, snapshot}
 use Rattle.mb_cache.specs.Represents.{joined, snapshots_of}
