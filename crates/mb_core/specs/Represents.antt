@@ -2,6 +2,8 @@
 use Rattle.std.specs.Prelude.{ℕ, List, Result}
 use Rattle.mb_base.specs.Shapes.{Bytes}
 use Rattle.mb_model.specs.Histories.{History, Identity}
+use Rattle.mb_model.specs.Given.{Answer}
+use Rattle.mb_steps.proofs.StepArises.{IsWhole}
 use Rattle.mb_replica.specs.Represents as state
 use Rattle.mb_core.specs.declared.replica.Replica.{Replica}
 
@@ -17,3 +19,7 @@ module _ {V : Type 0} where
   -- There is a history between two events that it represents, of a host with this service.
   abbrev pub IsAtRest : (V → Type 0) → (V → Bytes → V) → (V → Bytes → Bytes) → (V → ℕ → Bytes) → (List Bytes → Result V (ℕ × ℕ)) → Replica V → Type 0
   IsAtRest is_state after result part restored r = state.IsAtRest is_state after result part restored r.state
+
+  -- It stands for what the answer leaves, which is a whole history.
+  abbrev pub StandsBehind : Identity V → Answer → Replica V → Type 0
+  StandsBehind me a r = Represents me r a.left.history × IsWhole a.left.history

@@ -10,6 +10,7 @@ ghost use Rattle.mb_model.specs.OwnLog.{has_room};
 ghost use Rattle.mb_model.specs.Sending.{Progress, stamp};
 ghost use Rattle.mb_steps.proofs.StepArises.{JustExecuted};
 ghost use Rattle.mb_replica.specs.Represents.{Represents, StandsAt};
+ghost use Rattle.mb_core.specs.Steps.{Certifies};
 
 use crate::stamping::{NO_UI, publish, sign};
 use mb_base::{Digest, Duplicate, Host, Items, NoMemory, Pos};
@@ -27,7 +28,7 @@ pub(crate) fn checkpoint<V: Service + Drop>(
     done: &mut Done,
 ) -> Result<(), NoMemory>
     requires { BringsCheckpoint replica.old done.old pos state }
-    ensures { (me : Identity V) (x : Progress) → StandsAt me replica.old done.old x → JustExecuted me x.history pos → (pos % interval me.shape == 0) ≡ true → has_room me x.history ≡ true → state ≡ state_digest (present_parts me x.history) pos → OnOk result (StandsAt me replica.new done.new (stamp me (checkpoint me x.history pos) x)) }
+    ensures { (me : Identity V) (x : Progress) → Certifies me x pos state result replica.old done.old replica.new done.new }
 {
     let floors = floors_under(replica, alloc, pos)?;
     let checkpoint = Checkpoint {

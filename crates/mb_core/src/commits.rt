@@ -11,6 +11,7 @@ ghost use Rattle.mb_model.specs.CarriedOut.{carry_out};
 ghost use Rattle.mb_core.specs.declared.rules.Due.TheVariants as due;
 ghost use Rattle.mb_core.specs.Due.{IsDue};
 ghost use Rattle.mb_replica.specs.Represents.{StandsAt};
+ghost use Rattle.mb_core.specs.Steps.{CarriesOut};
 
 use crate::stamping::{NO_UI, publish, sign};
 use mb_base::{Duplicate, NoMemory, Pos};
@@ -27,7 +28,7 @@ pub(crate) fn commit<V: Service + Drop>(
     done: &mut Done,
 ) -> Result<(), NoMemory>
     requires { IsDue V.is_state V.after V.answer V.part_of V.restored replica.old done.old (due.Commit pos) }
-    ensures { (me : Identity V) (x : Progress) → (k : KnownSlot) (b : BatchValue) → StandsAt me replica.old done.old x → next_rule me x.history ≡ Some (rules.Commit pos k b) → OnOk result (StandsAt me replica.new done.new (carry_out me (rules.Commit pos k b) x)) }
+    ensures { (me : Identity V) (x : Progress) (k : KnownSlot) (b : BatchValue) → CarriesOut me x (rules.Commit pos k b) result replica.old done.old replica.new done.new }
 {
     let Some(order) = replica.agreement.normal.cert_at(pos) else {
         return Ok(());

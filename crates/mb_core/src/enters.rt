@@ -7,6 +7,7 @@ ghost use Rattle.mb_change.specs.Represents.{StandsWith};
 ghost use Rattle.mb_model.specs.Histories.{Identity};
 ghost use Rattle.mb_replica.specs.Represents.{StandsAt};
 ghost use Rattle.mb_replica.specs.Between.{WritesChange};
+ghost use Rattle.mb_core.specs.Steps.{CarriesOut};
 ghost use Rattle.mb_msg.specs.declared.change.NewView.{NewView as NewViewValue};
 ghost use Rattle.mb_model.specs.Sending.{Progress};
 ghost use Rattle.mb_model.specs.EnabledRules.{next_rule};
@@ -29,7 +30,7 @@ pub(crate) fn enter<V: Service + Drop>(
     done: &mut Done,
 ) -> Result<(), NoMemory>
     requires { IsDue V.is_state V.after V.answer V.part_of V.restored replica.old done.old due.Enter }
-    ensures { (me : Identity V) (x : Progress) → (n : NewViewValue) → StandsAt me replica.old done.old x → next_rule me x.history ≡ Some (rules.Enter n) → OnOk result (StandsAt me replica.new done.new (carry_out me (rules.Enter n) x)) }
+    ensures { (me : Identity V) (x : Progress) (n : NewViewValue) → CarriesOut me x (rules.Enter n) result replica.old done.old replica.new done.new }
 {
     let Some(new_view) = replica.agreement.change.new_view() else {
         return Ok(());

@@ -12,6 +12,8 @@ ghost use Rattle.mb_model.specs.HostStep.{transition, on_bytes, on_message, on_p
 ghost use Rattle.mb_msg.specs.declared.event.Outcome.{Outcome as OutcomeValue};
 ghost use Rattle.mb_replica.specs.Represents.{Represents, Serves, StandsAt, IsInStep};
 ghost use Rattle.mb_replica.specs.Told.{KnowsBytes, KnowsEvent, KnowsMessage};
+ghost use Rattle.mb_replica.specs.Steps.{AnswersEvent};
+ghost use Rattle.mb_core.specs.Steps.{Finishes};
 
 use crate::nudges::on_nudge;
 use crate::patience::on_patience;
@@ -31,7 +33,7 @@ pub(crate) fn on_event<V: Service + Drop>(
 ) -> Result<Outcome, NoMemory>
     requires stepping { IsInStep V.is_state V.after V.answer V.part_of V.restored replica.old done.old }
     requires known { KnowsEvent replica.old.agreement.shape known.now event.now }
-    ensures { (me : Identity V) (d : History) → Serves V.is_state V.after V.answer V.part_of V.restored me → StandsAt me replica.old done.old (begin d) → IfOk result (λ o. (o ≡ (transition me d event.now).outcome) × StandsAt me replica.new done.new (transition me d event.now).left) }
+    ensures { AnswersEvent (Serves V.is_state V.after V.answer V.part_of V.restored) (λ me d. transition me d event.now) result replica.old done.old replica.new done.new }
 {
     match event {
         Event::Given(bytes) => on_bytes(replica, alloc, bytes.as_slice(), known, done),
@@ -51,7 +53,7 @@ fn on_bytes<V: Service + Drop>(
 ) -> Result<Outcome, NoMemory>
     requires stepping { IsInStep V.is_state V.after V.answer V.part_of V.restored replica.old done.old }
     requires known { KnowsBytes replica.old.agreement.shape known.now bytes.now }
-    ensures { (me : Identity V) (d : History) → Serves V.is_state V.after V.answer V.part_of V.restored me → StandsAt me replica.old done.old (begin d) → IfOk result (λ o. (o ≡ (on_bytes me (message_of replica.old.agreement.shape bytes.now) d).outcome) × StandsAt me replica.new done.new (on_bytes me (message_of replica.old.agreement.shape bytes.now) d).left) }
+    ensures { AnswersEvent (Serves V.is_state V.after V.answer V.part_of V.restored) (λ me d. on_bytes me (message_of replica.old.agreement.shape bytes.now) d) result replica.old done.old replica.new done.new }
 {
     match decode(alloc, &replica.agreement.shape, bytes) {
         Ok(message) => on_message(replica, alloc, message, known, done),
@@ -70,7 +72,7 @@ fn on_message<V: Service + Drop>(
     requires fits { Fits replica.old.agreement.shape message }
     requires known { KnowsMessage known.now message }
     requires stepping { IsInStep V.is_state V.after V.answer V.part_of V.restored replica.old done.old }
-    ensures { (me : Identity V) (d : History) → Serves V.is_state V.after V.answer V.part_of V.restored me → StandsAt me replica.old done.old (begin d) → IfOk result (λ o. (o ≡ (on_message me d message).outcome) × StandsAt me replica.new done.new (on_message me d message).left) }
+    ensures { AnswersEvent (Serves V.is_state V.after V.answer V.part_of V.restored) (λ me d. on_message me d message) result replica.old done.old replica.new done.new }
 {
     let before = replica.low();
     let answer = replica.give(alloc, message, known, done)?;
@@ -84,7 +86,7 @@ fn after_patience<V: Service + Drop>(
     done: &mut Done,
 ) -> Result<Outcome, NoMemory>
     requires { IsInStep V.is_state V.after V.answer V.part_of V.restored replica.old done.old }
-    ensures { (me : Identity V) (d : History) → Serves V.is_state V.after V.answer V.part_of V.restored me → StandsAt me replica.old done.old (begin d) → IfOk result (λ o. (o ≡ (after_patience me d (on_patience me (begin d))).outcome) × StandsAt me replica.new done.new (after_patience me d (on_patience me (begin d))).left) }
+    ensures { AnswersEvent (Serves V.is_state V.after V.answer V.part_of V.restored) (λ me d. after_patience me d (on_patience me (begin d))) result replica.old done.old replica.new done.new }
 {
     let before = replica.low();
     let outcome = on_patience(replica, alloc, done)?;
@@ -98,7 +100,7 @@ fn after_nudge<V: Service + Drop>(
     done: &mut Done,
 ) -> Result<Outcome, NoMemory>
     requires { IsInStep V.is_state V.after V.answer V.part_of V.restored replica.old done.old }
-    ensures { (me : Identity V) (d : History) → Serves V.is_state V.after V.answer V.part_of V.restored me → StandsAt me replica.old done.old (begin d) → IfOk result (λ o. (o ≡ (finished me true d (on_nudge me (begin d))).outcome) × StandsAt me replica.new done.new (finished me true d (on_nudge me (begin d))).left) }
+    ensures { AnswersEvent (Serves V.is_state V.after V.answer V.part_of V.restored) (λ me d. finished me true d (on_nudge me (begin d))) result replica.old done.old replica.new done.new }
 {
     let before = replica.low();
     on_nudge(replica, alloc, done)?;
@@ -116,7 +118,7 @@ fn finished_where<V: Service + Drop>(
     done: &mut Done,
 ) -> Result<(), NoMemory>
     requires { IsInStep V.is_state V.after V.answer V.part_of V.restored replica.old done.old }
-    ensures { (me : Identity V) (d : History) (x : Progress) (o : OutcomeValue) → Serves V.is_state V.after V.answer V.part_of V.restored me → StandsAt me replica.old done.old x → before ≡ low_of me d → OnOk result (StandsAt me replica.new done.new (finished_where me answer.rules_follow answer.asks d (answered o x)).left) }
+    ensures { Finishes (Serves V.is_state V.after V.answer V.part_of V.restored) before (λ me d a. finished_where me answer.rules_follow answer.asks d a) result replica.old done.old replica.new done.new }
 {
     if answer.rules_follow {
         return finished(replica, alloc, answer.asks, before, done);
@@ -133,7 +135,7 @@ fn finished<V: Service + Drop>(
     done: &mut Done,
 ) -> Result<(), NoMemory>
     requires { IsInStep V.is_state V.after V.answer V.part_of V.restored replica.old done.old }
-    ensures { (me : Identity V) (d : History) (x : Progress) (o : OutcomeValue) → Serves V.is_state V.after V.answer V.part_of V.restored me → StandsAt me replica.old done.old x → before ≡ low_of me d → OnOk result (StandsAt me replica.new done.new (finished me asks d (answered o x)).left) }
+    ensures { Finishes (Serves V.is_state V.after V.answer V.part_of V.restored) before (λ me d a. finished me asks d a) result replica.old done.old replica.new done.new }
 {
     run_rules(replica, alloc, done)?;
     with_fetch(replica, alloc, asks, before, done)

@@ -16,6 +16,8 @@ ghost use Rattle.mb_normal.specs.Tables.{batch_of};
 ghost use Rattle.mb_core.specs.declared.rules.Due.TheVariants as due;
 ghost use Rattle.mb_core.specs.Due.{IsDue};
 ghost use Rattle.mb_replica.specs.Represents.{Serves, StandsServing, StandsAt, Represents};
+ghost use Rattle.mb_replica.specs.Steps.{StepsWhere};
+ghost use Rattle.mb_core.specs.Steps.{CarriesOut, ServesAll, ServesOne, RepliesTo, KeepsSnapshot};
 ghost use Rattle.mb_core.specs.Serving.{ServesOn, IsInBatch, IsBehindBatch, WritesShelf, KeepsWhere};
 ghost use Rattle.mb_model.specs.States.{parts_of};
 ghost use Rattle.mb_fetch.specs.Snapshots.{parts_at};
@@ -37,7 +39,7 @@ pub(crate) fn execute<V: Service + Drop>(
     done: &mut Done,
 ) -> Result<(), NoMemory>
     requires { IsDue V.is_state V.after V.answer V.part_of V.restored replica.old done.old (due.Execute pos) }
-    ensures { (me : Identity V) (x : Progress) → (b : BatchValue) → Serves V.is_state V.after V.answer V.part_of V.restored me → StandsAt me replica.old done.old x → next_rule me x.history ≡ Some (Execute pos b) → OnOk result (StandsAt me replica.new done.new (carry_out me (Execute pos b) x)) }
+    ensures { (me : Identity V) (x : Progress) (b : BatchValue) → Serves V.is_state V.after V.answer V.part_of V.restored me → CarriesOut me x (Execute pos b) result replica.old done.old replica.new done.new }
 {
     let Some(batch) = batch_at(replica, alloc, pos)? else {
         return Ok(());
@@ -58,7 +60,7 @@ fn serve_all<V: Service + Drop>(
     done: &mut Done,
 ) -> Result<Items<Placed>, NoMemory>
     requires { IsInBatch V.is_state V.after V.answer V.part_of V.restored replica.old done.old pos batch.requests [] }
-    ensures { (me : Identity V) (x : Progress) → Serves V.is_state V.after V.answer V.part_of V.restored me → ServesOn me replica.old done.old pos batch.requests [] x → IfOk result (λ served. ServesOn me replica.new done.new pos [] served (serve_all me pos batch.requests x)) }
+    ensures { (me : Identity V) (x : Progress) → Serves V.is_state V.after V.answer V.part_of V.restored me → ServesAll me x pos batch.requests result replica.old done.old replica.new done.new }
 {
     let mut requests = Items::new(alloc);
     for request in batch.requests.into_vec() {
@@ -77,7 +79,7 @@ fn serve<V: Service + Drop>(
     done: &mut Done,
 ) -> Result<bool, NoMemory>
     requires { (more : List RequestValue) × ((served : List PlacedValue) × IsInBatch V.is_state V.after V.answer V.part_of V.restored replica.old done.old pos (request.now ∷ more) served) }
-    ensures { (me : Identity V) (x : Progress) (more : List RequestValue) (served : List PlacedValue) → Serves V.is_state V.after V.answer V.part_of V.restored me → ServesOn me replica.old done.old pos (request.now ∷ more) served x → IfOk result (λ fresh. ServesOn me replica.new done.new pos more (served ++ (record { request = request.now; fresh = fresh }) ∷ []) (serve me pos request.now x)) }
+    ensures { (me : Identity V) (x : Progress) (more : List RequestValue) (served : List PlacedValue) → Serves V.is_state V.after V.answer V.part_of V.restored me → ServesOne me x pos request.now more served result replica.old done.old replica.new done.new }
 {
     let fresh = replica.keeper.execute(alloc, pos, request)?;
     replica.agreement.normal.settle(request.client, request.seq);
@@ -95,7 +97,7 @@ fn with_reply<V: Service + Drop>(
 ) -> Result<(), NoMemory>
     requires client { client < client_count replica.now.agreement.shape }
     requires clients { length replica.now.keeper.served.table ≡ client_count replica.now.agreement.shape }
-    ensures { (me : Identity V) (x : Progress) (p : PlacedValue) (served : List PlacedValue) → StandsServing me replica.now done.old served x → p.request.client ≡ client → p.fresh ≡ fresh → (fresh ≡ true → 1 ≤ last_seq me x.history client) → OnOk result (StandsServing me replica.now done.new served (with_reply me p x)) }
+    ensures { (me : Identity V) (x : Progress) (p : PlacedValue) → RepliesTo me x p client fresh result replica.now done.old done.new }
 {
     if fresh {
         return replica.send_stored_reply(alloc, client, done);
@@ -131,7 +133,7 @@ fn keep_at_interval<V: Service + Drop>(
     requires above { (other : ℕ) → pos ≤ other → parts_at replica.old.keeper.snapshots other ≡ None }
     requires room { length replica.old.keeper.snapshots < 3 }
     ensures writes { OnOk result (WritesShelf replica.old replica.new) }
-    ensures kept { OnOk result (KeepsWhere (pos % interval replica.old.agreement.shape == 0) pos (parts_of (snapshots_of V.part_of V.restored) replica.old.keeper.served) replica.old.keeper.snapshots replica.new.keeper.snapshots) }
+    ensures kept { OnOk result (KeepsSnapshot (snapshots_of V.part_of V.restored) pos replica.old replica.new) }
 {
     if !replica.is_at_interval(pos) {
         return Ok(());
@@ -147,7 +149,7 @@ fn at_interval<V: Service + Drop>(
     done: &mut Done,
 ) -> Result<(), NoMemory>
     requires { IsBehindBatch V.is_state V.after V.answer V.part_of V.restored replica.old done.old pos }
-    ensures { (me : Identity V) (x : Progress) → Serves V.is_state V.after V.answer V.part_of V.restored me → StandsAt me replica.old done.old x → JustExecuted me x.history pos → OnOk result (StandsAt me replica.new done.new (at_interval me pos x)) }
+    ensures { StepsWhere (Serves V.is_state V.after V.answer V.part_of V.restored) (λ me x. JustExecuted me x.history pos) (λ me x. at_interval me pos x) result replica.old done.old replica.new done.new }
 {
     if replica.is_at_interval(pos) {
         return with_checkpoint(replica, alloc, pos, done);
@@ -164,7 +166,7 @@ fn with_checkpoint<V: Service + Drop>(
 ) -> Result<(), NoMemory>
     requires interval { (pos % interval replica.old.agreement.shape == 0) ≡ true }
     requires standing { IsBehindBatch V.is_state V.after V.answer V.part_of V.restored replica.old done.old pos }
-    ensures { (me : Identity V) (x : Progress) → Serves V.is_state V.after V.answer V.part_of V.restored me → StandsAt me replica.old done.old x → JustExecuted me x.history pos → OnOk result (StandsAt me replica.new done.new (with_checkpoint me pos x)) }
+    ensures { StepsWhere (Serves V.is_state V.after V.answer V.part_of V.restored) (λ me x. JustExecuted me x.history pos) (λ me x. with_checkpoint me pos x) result replica.old done.old replica.new done.new }
 {
     if !has_room(replica) {
         return Ok(());

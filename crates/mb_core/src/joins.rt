@@ -2,6 +2,7 @@
 
 ghost use Rattle.std.specs.Prelude.{None, ◌≡◌, Some, OnOk, IfOk};
 ghost use Rattle.mb_replica.specs.Represents.{Represents, StandsAt};
+ghost use Rattle.mb_core.specs.Steps.{CarriesOut};
 ghost use Rattle.mb_model.specs.Sending.{Progress};
 ghost use Rattle.mb_model.specs.EnabledRules.{next_rule};
 ghost use Rattle.mb_model.specs.EnabledRules as rules;
@@ -25,7 +26,7 @@ pub(crate) fn join<V: Service + Drop>(
     done: &mut Done,
 ) -> Result<(), NoMemory>
     requires { IsDue V.is_state V.after V.answer V.part_of V.restored replica.old done.old due.Join }
-    ensures { (me : Identity V) (x : Progress) → StandsAt me replica.old done.old x → next_rule me x.history ≡ Some (rules.Join) → OnOk result (StandsAt me replica.new done.new (carry_out me (rules.Join) x)) }
+    ensures { (me : Identity V) (x : Progress) → CarriesOut me x rules.Join result replica.old done.old replica.new done.new }
 {
     let evidence = join_evidence(replica, alloc)?;
     let stable = replica.agreement.stable.duplicate(alloc)?;

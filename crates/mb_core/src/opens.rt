@@ -16,6 +16,7 @@ ghost use Rattle.mb_model.specs.Histories.{Identity, History};
 ghost use Rattle.mb_model.specs.Held.{plan_at, plan_of_view};
 ghost use Rattle.mb_replica.specs.Between.{WritesNormal, WritesChange};
 ghost use Rattle.mb_replica.specs.Holding.{length_in};
+ghost use Rattle.mb_core.specs.Steps.{CarriesOut};
 ghost use Rattle.mb_change.specs.Searches.{with_evidence};
 ghost use Rattle.mb_change.specs.Represents.{StandsWith};
 ghost use Rattle.mb_parts.specs.Bares.{batch_digest};
@@ -36,7 +37,7 @@ pub(crate) fn open<V: Service + Drop>(
     done: &mut Done,
 ) -> Result<(), NoMemory>
     requires { IsDue V.is_state V.after V.answer V.part_of V.restored replica.old done.old due.Open }
-    ensures { (me : Identity V) (x : Progress) → (e : EvidenceValue) (plan : PlanValue) → StandsAt me replica.old done.old x → next_rule me x.history ≡ Some (rules.Open e plan) → OnOk result (StandsAt me replica.new done.new (carry_out me (rules.Open e plan) x)) }
+    ensures { (me : Identity V) (x : Progress) (e : EvidenceValue) (plan : PlanValue) → CarriesOut me x (rules.Open e plan) result replica.old done.old replica.new done.new }
 {
     let view = replica.view();
     let found = replica.agreement.change.evidence_for(alloc, view)?;

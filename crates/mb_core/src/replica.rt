@@ -11,7 +11,7 @@ ghost use Rattle.mb_steps.proofs.StepArises.{IsWhole};
 ghost use Rattle.mb_core.specs.Halting.{Halts};
 ghost use Rattle.mb_replica.specs.Lengths.{AreMessageLong, AreOutgoingLong};
 ghost use Rattle.mb_replica.specs.Represents.{Serves, IsStep, IsTold};
-ghost use Rattle.mb_core.specs.Represents.{Represents, IsHost, IsAtRest};
+ghost use Rattle.mb_core.specs.Represents.{Represents, IsHost, IsAtRest, StandsBehind};
 ghost use Rattle.mb_replica.specs.Told.{KnowsEvent};
 ghost use Rattle.mb_replica.specs.Waiting.{wants};
 
@@ -65,7 +65,7 @@ impl<V: Service + Drop> Replica<V> {
     pub fn step(&mut self, alloc: Global, event: &Event) -> Result<Step, Stop>
         requires { self.old.halted ≡ false → IsAtRest V.is_state V.after V.answer V.part_of V.restored self.old }
         ensures stands { (me : Identity V) (d : History) → Serves V.is_state V.after V.answer V.part_of V.restored me → Represents me self.old d → IsWhole d
-            → IfOk result (λ s. IsStep s (transition me d event.now) × (Represents me self.new (transition me d event.now).left.history × IsWhole (transition me d event.now).left.history)) }
+            → IfOk result (λ s. IsStep s (transition me d event.now) × StandsBehind me (transition me d event.now) self.new) }
         ensures lengths { IfOk result (λ s. AreMessageLong s.sent) }
         ensures rests { self.new.halted ≡ false → IsAtRest V.is_state V.after V.answer V.part_of V.restored self.new }
         ensures halts { Halts self.old result self.new }
@@ -90,7 +90,7 @@ impl<V: Service + Drop> Replica<V> {
         requires rests { self.old.halted ≡ false → IsAtRest V.is_state V.after V.answer V.part_of V.restored self.old }
         requires known { KnowsEvent self.old.state.agreement.shape known.now event.now }
         ensures stands { (me : Identity V) (d : History) → Serves V.is_state V.after V.answer V.part_of V.restored me → Represents me self.old d → IsWhole d
-            → IfOk result (λ t. IsTold t (transition me d event.now) × (Represents me self.new (transition me d event.now).left.history × IsWhole (transition me d event.now).left.history)) }
+            → IfOk result (λ t. IsTold t (transition me d event.now) × StandsBehind me (transition me d event.now) self.new) }
         ensures lengths { IfOk result (λ t. AreOutgoingLong t.sent) }
         ensures rests { self.new.halted ≡ false → IsAtRest V.is_state V.after V.answer V.part_of V.restored self.new }
         ensures halts { Halts self.old result self.new }

@@ -13,6 +13,7 @@ ghost use Rattle.mb_msg.specs.Fits.{FitsViewChange, FitsStamped};
 ghost use Rattle.mb_msg.specs.declared.change.ViewChange.{ViewChange as ViewChangeValue};
 ghost use Rattle.mb_msg.specs.Stamps.{with_ui};
 ghost use Rattle.mb_replica.specs.Between.{WritesChange, WritesNormal};
+ghost use Rattle.mb_core.specs.Steps.{CarriesOut};
 ghost use Rattle.mb_model.specs.Sending.{Progress};
 ghost use Rattle.mb_model.specs.EnabledRules.{next_rule};
 ghost use Rattle.mb_model.specs.EnabledRules as rules;
@@ -39,7 +40,7 @@ pub(crate) fn change_view<V: Service + Drop>(
     done: &mut Done,
 ) -> Result<(), NoMemory>
     requires { IsDue V.is_state V.after V.answer V.part_of V.restored replica.old done.old (due.ChangeView view) }
-    ensures { (me : Identity V) (x : Progress) → StandsAt me replica.old done.old x → next_rule me x.history ≡ Some (rules.ChangeView view) → OnOk result (StandsAt me replica.new done.new (carry_out me (rules.ChangeView view) x)) }
+    ensures { (me : Identity V) (x : Progress) → CarriesOut me x (rules.ChangeView view) result replica.old done.old replica.new done.new }
 {
     let message = view_change(replica, alloc, view)?;
     let signed = sign(replica, alloc, message)?;

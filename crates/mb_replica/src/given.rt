@@ -20,6 +20,7 @@ pub struct Answer {
 impl Answer {
     ghost use Rattle.std.specs.Prelude.{◌≡◌, false};
     ghost use Rattle.mb_replica.specs.Answers.{is_taken};
+    ghost use Rattle.mb_replica.specs.Steps.{Reacts};
 
     /// That of a message other than LOG and STATE, or of lost patience.
     pub fn of(outcome: Outcome) -> Answer
@@ -54,7 +55,7 @@ impl<V: Service + Drop> ReplicaState<V> {
         requires fits { FitsFields self.old.agreement.shape message }
         requires stepping { IsInStep V.is_state V.after V.answer V.part_of V.restored self.old done.old }
         requires known { KnowsMessage known.now message }
-        ensures { (me : Identity V) (x : Progress) → Serves V.is_state V.after V.answer V.part_of V.restored me → StandsAt me self.old done.old x → IfOk result (λ a. Answers me message a (give me message x) × StandsAt me self.new done.new (give me message x).left) }
+        ensures { (me : Identity V) (x : Progress) → Serves V.is_state V.after V.answer V.part_of V.restored me → StandsAt me self.old done.old x → Reacts me message (give me message x) result self.new done.new }
     {
         match message {
             Message::Request(m) => Ok(Answer::of(self.give_request(alloc, m, done)?)),
@@ -78,7 +79,7 @@ impl<V: Service + Drop> ReplicaState<V> {
         requires fits { FitsFields self.old.agreement.shape message }
         requires history { HasHistory self.old }
         requires known { KnowsMessage known.now message }
-        ensures { (me : Identity V) (x : Progress) → (done : Done) → Serves V.is_state V.after V.answer V.part_of V.restored me → IsOther message → StandsAt me self.old done x → IfOk result (λ a. Answers me message a (give me message x) × StandsAt me self.new done (give me message x).left) }
+        ensures { (me : Identity V) (x : Progress) → (done : Done) → Serves V.is_state V.after V.answer V.part_of V.restored me → IsOther message → StandsAt me self.old done x → Reacts me message (give me message x) result self.new done }
     {
         match message.into_stamped() {
             Ok(stamped) => Ok(Answer::of(self.give_stamped(alloc, stamped, known)?)),

@@ -22,6 +22,7 @@ impl<V: Service + Drop> ReplicaState<V> {
     ghost use Rattle.mb_base.specs.Shapes.{client_count};
     ghost use Rattle.mb_cache.specs.Tables.{last_of};
     ghost use Rattle.mb_replica.specs.Represents.{Serves, StandsAt, IsInStep, Answers, Represents};
+    ghost use Rattle.mb_replica.specs.Steps.{AnswersAt, Reacts};
     ghost use Rattle.mb_replica.specs.Between.{WritesNormal};
     ghost use Rattle.mb_replica.specs.Installing.{Settles, WritesInstalled, DoesInstall};
     ghost use Rattle.mb_model.specs.Histories.{Identity, History};
@@ -35,7 +36,7 @@ impl<V: Service + Drop> ReplicaState<V> {
     ) -> Result<Answer, NoMemory>
         requires fits { FitsState self.old.agreement.shape m.now }
         requires standing { IsInStep V.is_state V.after V.answer V.part_of V.restored self.old done.old }
-        ensures { (me : Identity V) (x : Progress) → Serves V.is_state V.after V.answer V.part_of V.restored me → StandsAt me self.old done.old x → IfOk result (λ a. Answers me (message.State m.now) a (give_state me m.now x) × StandsAt me self.new done.new (give_state me m.now x).left) }
+        ensures { (me : Identity V) (x : Progress) → Serves V.is_state V.after V.answer V.part_of V.restored me → StandsAt me self.old done.old x → Reacts me (message.State m.now) (give_state me m.now x) result self.new done.new }
     {
         if !self.is_wanted(m.pos) {
             return Ok(answered(Outcome::Idle));
@@ -53,7 +54,7 @@ impl<V: Service + Drop> ReplicaState<V> {
         requires stable { m.now.pos ≡ self.old.agreement.stable.pos }
         requires behind { self.old.agreement.exec < self.old.agreement.stable.pos }
         requires standing { IsInStep V.is_state V.after V.answer V.part_of V.restored self.old done.old }
-        ensures { (me : Identity V) (x : Progress) → Serves V.is_state V.after V.answer V.part_of V.restored me → StandsAt me self.old done.old x → IfOk result (λ o. (o ≡ (give_state me m.now x).outcome) × StandsAt me self.new done.new (give_state me m.now x).left) }
+        ensures { AnswersAt (Serves V.is_state V.after V.answer V.part_of V.restored) (λ me x. give_state me m.now x) result self.old done.old self.new done.new }
     {
         let certified = self.agreement.stable.state;
         match self.keeper.take_state(alloc, &certified, m)? {

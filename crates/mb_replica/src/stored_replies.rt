@@ -20,6 +20,7 @@ impl<V: Service + Drop> ReplicaState<V> {
     ghost use Rattle.mb_model.specs.PlainChecks.{last_seq};
     ghost use Rattle.mb_model.specs.Given.{stored_reply};
     ghost use Rattle.mb_replica.specs.Represents.{StandsServing, Represents};
+    ghost use Rattle.mb_replica.specs.Steps.{SendsWhere};
 
     /// Sends a client the reply to its last executed request, where there is one.
     pub fn send_stored_reply(
@@ -30,7 +31,7 @@ impl<V: Service + Drop> ReplicaState<V> {
     ) -> Result<(), NoMemory>
         requires client { client < client_count self.now.agreement.shape }
         requires clients { length self.now.keeper.served.table ≡ client_count self.now.agreement.shape }
-        ensures { (me : Identity V) (x : Progress) (served : List PlacedValue) → StandsServing me self.now done.old served x → 1 ≤ last_seq me x.history client → OnOk result (StandsServing me self.now done.new served (send (to_client client (stored_reply me x.history client)) x)) }
+        ensures { (me : Identity V) (x : Progress) → SendsWhere me x (1 ≤ last_seq me x.history client) (send (to_client client (stored_reply me x.history client)) x) result self.now done.old done.new }
     {
         match self.keeper.reply(client) {
             Some((seq, pos, answer)) => {
