@@ -32,7 +32,8 @@ use Rattle.mb_answer.specs.Clusters.{run_status, cluster_statuses, HasRisen, Run
 use Rattle.mb_answer.proofs.Statuses.{low_no_end}
 use Rattle.mb_answer.proofs.Contained.{any_of}
 use Rattle.mb_answer.specs.Configs.{IsConfigText, too_long, bad_line, LacksConfig, lack_statuses, FindsConfig, used, unused}
-use Rattle.mb_answer.specs.Devices.{Device, Devices, IsLow, answered, unread, starved}
+use Rattle.mb_edge.specs.Seen.{Device}
+use Rattle.mb_answer.specs.Devices.{Devices, IsLow, answered, unread, starved}
 use Rattle.mb_answer.proofs.SameShapes.{same_shape}
 
 -- ---- one config

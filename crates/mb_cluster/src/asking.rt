@@ -76,11 +76,11 @@ impl Program {
         requires ops { OpsFit ops.now }
         requires none { self.old.listener.asker.number ≡ 0 }
         ensures asks { (s : ShapeRecord) (secret : Bytes) (c : Hearing) → Listens s secret self.old.listener c
-            → AsksOps s secret ops.now result c self.old self.new (wire (L.received link.old) (L.sent link.old)) (wire (L.received link.new) (L.sent link.new)) (K.written sink.old) (K.written sink.new) }
+            → AsksOps s secret ops.now result c self.old self.new (wire (L.seen link.old).received (L.seen link.old).sent) (wire (L.seen link.new).received (L.seen link.new).sent) (K.seen sink.old).bytes (K.seen sink.new).bytes }
         ensures hosts { self.new.post.hosts ≡ self.old.post.hosts }
-        ensures opens { L.opens link.new ≡ L.opens link.old }
-        ensures link_faults { TellsFaults (L.never_fails link.old) (L.never_fails link.new) (L.faults link.old) (L.faults link.new) (IsErrOf result ClusterStop.LinkFault) }
-        ensures sink_faults { TellsFaults (K.never_fails sink.old) (K.never_fails sink.new) (K.faults sink.old) (K.faults sink.new) (IsErrOf result ClusterStop.SinkFault) }
+        ensures opens { (L.seen link.new).opens ≡ (L.seen link.old).opens }
+        ensures link_faults { TellsFaults (L.never_fails link.old) (L.never_fails link.new) (L.seen link.old).faults (L.seen link.new).faults (IsErrOf result ClusterStop.LinkFault) }
+        ensures sink_faults { TellsFaults (K.never_fails sink.old) (K.never_fails sink.new) (K.seen sink.old).faults (K.seen sink.new).faults (IsErrOf result ClusterStop.SinkFault) }
     {
         for op in ops {
             self.ask_one(op.as_slice(), link, sink)?;
@@ -98,13 +98,13 @@ impl Program {
         requires op { FitsText op.now }
         requires few { self.old.listener.asker.number < 2 ^ 64 - 1 }
         ensures asks { (s : ShapeRecord) (secret : Bytes) (c : Hearing) → Listens s secret self.old.listener c
-            → AsksOps s secret (op.now ∷ []) result c self.old self.new (wire (L.received link.old) (L.sent link.old)) (wire (L.received link.new) (L.sent link.new)) (K.written sink.old) (K.written sink.new) }
+            → AsksOps s secret (op.now ∷ []) result c self.old self.new (wire (L.seen link.old).received (L.seen link.old).sent) (wire (L.seen link.new).received (L.seen link.new).sent) (K.seen sink.old).bytes (K.seen sink.new).bytes }
         ensures number { OnOk result (self.new.listener.asker.number ≡ self.old.listener.asker.number + 1) }
         ensures turns { self.new.turns ≡ self.old.turns }
         ensures hosts { self.new.post.hosts ≡ self.old.post.hosts }
-        ensures opens { L.opens link.new ≡ L.opens link.old }
-        ensures link_faults { TellsFaults (L.never_fails link.old) (L.never_fails link.new) (L.faults link.old) (L.faults link.new) (IsErrOf result ClusterStop.LinkFault) }
-        ensures sink_faults { TellsFaults (K.never_fails sink.old) (K.never_fails sink.new) (K.faults sink.old) (K.faults sink.new) (IsErrOf result ClusterStop.SinkFault) }
+        ensures opens { (L.seen link.new).opens ≡ (L.seen link.old).opens }
+        ensures link_faults { TellsFaults (L.never_fails link.old) (L.never_fails link.new) (L.seen link.old).faults (L.seen link.new).faults (IsErrOf result ClusterStop.LinkFault) }
+        ensures sink_faults { TellsFaults (K.never_fails sink.old) (K.never_fails sink.new) (K.seen sink.old).faults (K.seen sink.new).faults (IsErrOf result ClusterStop.SinkFault) }
     {
         match self.exchange(op, link) {
             Ok(Some(reply)) => write_result(self.alloc, &reply, sink),
@@ -121,12 +121,12 @@ impl Program {
         requires op { FitsText op.now }
         requires few { self.old.listener.asker.number < 2 ^ 64 - 1 }
         ensures exchanges { (s : ShapeRecord) (secret : Bytes) (c : Hearing) → Listens s secret self.old.listener c
-            → Exchanges s secret op.now result c self.old self.new (wire (L.received link.old) (L.sent link.old)) (wire (L.received link.new) (L.sent link.new)) }
+            → Exchanges s secret op.now result c self.old self.new (wire (L.seen link.old).received (L.seen link.old).sent) (wire (L.seen link.new).received (L.seen link.new).sent) }
         ensures number { OnOk result (self.new.listener.asker.number ≡ self.old.listener.asker.number + 1) }
         ensures turns { self.new.turns ≡ self.old.turns }
         ensures hosts { self.new.post.hosts ≡ self.old.post.hosts }
-        ensures opens { L.opens link.new ≡ L.opens link.old }
-        ensures faults { TellsFaults (L.never_fails link.old) (L.never_fails link.new) (L.faults link.old) (L.faults link.new) (IsErrOf result Failed.Device) }
+        ensures opens { (L.seen link.new).opens ≡ (L.seen link.old).opens }
+        ensures faults { TellsFaults (L.never_fails link.old) (L.never_fails link.new) (L.seen link.old).faults (L.seen link.new).faults (IsErrOf result Failed.Device) }
     {
         let request = self.listener.ask(self.alloc, op)?;
         self.post.send(self.alloc, &request, link)?;
@@ -142,12 +142,12 @@ impl Program {
         requires some { 1 ≤ length request.now }
         requires short { length request.now ≤ MESSAGE_LIMIT }
         ensures awaits { (s : ShapeRecord) (secret : Bytes) (c : Hearing) → Listens s secret self.old.listener c → c.asker.waits ≡ true
-            → Awaits s secret request.now result c self.old self.new (wire (L.received link.old) (L.sent link.old)) (wire (L.received link.new) (L.sent link.new)) }
+            → Awaits s secret request.now result c self.old self.new (wire (L.seen link.old).received (L.seen link.old).sent) (wire (L.seen link.new).received (L.seen link.new).sent) }
         ensures number { self.new.listener.asker.number ≡ self.old.listener.asker.number }
         ensures turns { self.new.turns ≡ self.old.turns }
         ensures hosts { self.new.post.hosts ≡ self.old.post.hosts }
-        ensures opens { L.opens link.new ≡ L.opens link.old }
-        ensures faults { TellsFaults (L.never_fails link.old) (L.never_fails link.new) (L.faults link.old) (L.faults link.new) (IsErrOf result Failed.Device) }
+        ensures opens { (L.seen link.new).opens ≡ (L.seen link.old).opens }
+        ensures faults { TellsFaults (L.never_fails link.old) (L.never_fails link.new) (L.seen link.old).faults (L.seen link.new).faults (IsErrOf result Failed.Device) }
     {
         for _ in 0..self.turns {
             match self.receive(request, link) {
@@ -164,12 +164,12 @@ impl Program {
         requires some { 1 ≤ length request.now }
         requires short { length request.now ≤ MESSAGE_LIMIT }
         ensures receives { (s : ShapeRecord) (secret : Bytes) (c : Hearing) → Listens s secret self.old.listener c
-            → ReceivesOne s secret request.now result c self.old self.new (wire (L.received link.old) (L.sent link.old)) (wire (L.received link.new) (L.sent link.new)) }
+            → ReceivesOne s secret request.now result c self.old self.new (wire (L.seen link.old).received (L.seen link.old).sent) (wire (L.seen link.new).received (L.seen link.new).sent) }
         ensures number { self.new.listener.asker.number ≡ self.old.listener.asker.number }
         ensures turns { self.new.turns ≡ self.old.turns }
         ensures hosts { self.new.post.hosts ≡ self.old.post.hosts }
-        ensures opens { L.opens link.new ≡ L.opens link.old }
-        ensures faults { TellsFaults (L.never_fails link.old) (L.never_fails link.new) (L.faults link.old) (L.faults link.new) (IsErrOf result Failed.Device) }
+        ensures opens { (L.seen link.new).opens ≡ (L.seen link.old).opens }
+        ensures faults { TellsFaults (L.never_fails link.old) (L.never_fails link.new) (L.seen link.old).faults (L.seen link.new).faults (IsErrOf result Failed.Device) }
     {
         match link.recv(&mut self.buffer) {
             Got::Datagram(count) => match self.listener.hear(self.alloc, &self.buffer[..count]) {
@@ -187,8 +187,8 @@ impl Program {
 
 /// Writes the line of a result.
 fn write_result<K: Sink>(alloc: Global, reply: &Reply, sink: &mut K) -> Result<(), ClusterStop>
-    ensures written { WritesLine result (result_line reply.now) (K.written sink.old) (K.written sink.new) }
-    ensures faults { TellsFaults (K.never_fails sink.old) (K.never_fails sink.new) (K.faults sink.old) (K.faults sink.new) (IsErrOf result ClusterStop.SinkFault) }
+    ensures written { WritesLine result (result_line reply.now) (K.seen sink.old).bytes (K.seen sink.new).bytes }
+    ensures faults { TellsFaults (K.never_fails sink.old) (K.never_fails sink.new) (K.seen sink.old).faults (K.seen sink.new).faults (IsErrOf result ClusterStop.SinkFault) }
 {
     let line = result_line(alloc, reply)?;
     write_all(sink, line.as_bytes())?;

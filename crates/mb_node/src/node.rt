@@ -68,15 +68,15 @@ impl Node {
         requires few { self.old.quiets < 2 ^ 64 - 1 }
         requires runs { replica.old.halted ≡ false }
         requires rests { IsAtRest V.is_state V.after V.answer V.part_of V.restored replica.old }
-        ensures rounds { Rounds V.is_state V.after V.answer V.part_of V.restored self.old self.new replica.old replica.new (L.received link.old) (L.received link.new)
-            (record { written = K.written out.old; sent = L.sent link.old }) (record { written = K.written out.new; sent = L.sent link.new }) result }
+        ensures rounds { Rounds V.is_state V.after V.answer V.part_of V.restored self.old self.new replica.old replica.new (L.seen link.old).received (L.seen link.new).received
+            (record { written = (K.seen out.old).bytes; sent = (L.seen link.old).sent }) (record { written = (K.seen out.new).bytes; sent = (L.seen link.new).sent }) result }
         ensures alone { IfErr result (λ s. ¬ IsOfDisk s) }
         ensures few { self.new.quiets ≤ self.old.quiets + 1 }
         ensures runs { OnOk result (replica.new.halted ≡ false) }
         ensures rests { replica.new.halted ≡ false → IsAtRest V.is_state V.after V.answer V.part_of V.restored replica.new }
-        ensures opens { L.opens link.new ≡ L.opens link.old }
-        ensures link { TellsFaults (L.never_fails link.old) (L.never_fails link.new) (L.faults link.old) (L.faults link.new) (IsErrOf result ServeStop.LinkFault) }
-        ensures sink { TellsFaults (K.never_fails out.old) (K.never_fails out.new) (K.faults out.old) (K.faults out.new) (IsErrOf result ServeStop.SinkFault) }
+        ensures opens { (L.seen link.new).opens ≡ (L.seen link.old).opens }
+        ensures link { TellsFaults (L.never_fails link.old) (L.never_fails link.new) (L.seen link.old).faults (L.seen link.new).faults (IsErrOf result ServeStop.LinkFault) }
+        ensures sink { TellsFaults (K.never_fails out.old) (K.never_fails out.new) (K.seen out.old).faults (K.seen out.new).faults (IsErrOf result ServeStop.SinkFault) }
     {
         let arrival = self.receiver.receive(alloc, link)?;
         let Some(event) = self.event_of(replica, arrival) else {
@@ -103,16 +103,16 @@ impl Node {
         requires runs { replica.old.halted ≡ false }
         requires rests { IsAtRest V.is_state V.after V.answer V.part_of V.restored replica.old }
         requires keeps { journal.old.halted ≡ false }
-        ensures rounds { KeptRounds V.is_state V.after V.answer V.part_of V.restored self.old self.new replica.old replica.new journal.old journal.new (D.moments disk.old) (D.moments disk.new)
-            (L.received link.old) (L.received link.new) (record { written = K.written out.old; sent = L.sent link.old }) (record { written = K.written out.new; sent = L.sent link.new }) result }
+        ensures rounds { KeptRounds V.is_state V.after V.answer V.part_of V.restored self.old self.new replica.old replica.new journal.old journal.new (D.seen disk.old).moments (D.seen disk.new).moments
+            (L.seen link.old).received (L.seen link.new).received (record { written = (K.seen out.old).bytes; sent = (L.seen link.old).sent }) (record { written = (K.seen out.new).bytes; sent = (L.seen link.new).sent }) result }
         ensures few { self.new.quiets ≤ self.old.quiets + 1 }
         ensures runs { OnOk result (replica.new.halted ≡ false) }
         ensures rests { replica.new.halted ≡ false → IsAtRest V.is_state V.after V.answer V.part_of V.restored replica.new }
         ensures keeps { OnOk result (journal.new.halted ≡ false) }
-        ensures opens { L.opens link.new ≡ L.opens link.old }
-        ensures link { TellsFaults (L.never_fails link.old) (L.never_fails link.new) (L.faults link.old) (L.faults link.new) (IsErrOf result ServeStop.LinkFault) }
-        ensures sink { TellsFaults (K.never_fails out.old) (K.never_fails out.new) (K.faults out.old) (K.faults out.new) (IsErrOf result ServeStop.SinkFault) }
-        ensures disk { TellsFaults (D.never_fails disk.old) (D.never_fails disk.new) (D.faults disk.old) (D.faults disk.new) (IsErrOf result ServeStop.DiskFault) }
+        ensures opens { (L.seen link.new).opens ≡ (L.seen link.old).opens }
+        ensures link { TellsFaults (L.never_fails link.old) (L.never_fails link.new) (L.seen link.old).faults (L.seen link.new).faults (IsErrOf result ServeStop.LinkFault) }
+        ensures sink { TellsFaults (K.never_fails out.old) (K.never_fails out.new) (K.seen out.old).faults (K.seen out.new).faults (IsErrOf result ServeStop.SinkFault) }
+        ensures disk { TellsFaults (D.never_fails disk.old) (D.never_fails disk.new) (D.seen disk.old).faults (D.seen disk.new).faults (IsErrOf result ServeStop.DiskFault) }
     {
         let arrived = self.receiver.receive(alloc, link)?;
         let Some(event) = self.event_of(replica, arrived) else {

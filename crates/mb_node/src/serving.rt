@@ -31,13 +31,13 @@ pub fn serve<V: Service + Drop, K: Sink, L: Link>(
 ) -> Result<(), ServeStop>
     requires runs { replica.old.halted ≡ false }
     requires rests { IsAtRest V.is_state V.after V.answer V.part_of V.restored replica.old }
-    ensures serves { HasServed V.is_state V.after V.answer V.part_of V.restored replica.old replica.new events (L.received link.old) (L.received link.new)
-        (record { written = K.written out.old; sent = L.sent link.old }) (record { written = K.written out.new; sent = L.sent link.new }) result }
+    ensures serves { HasServed V.is_state V.after V.answer V.part_of V.restored replica.old replica.new events (L.seen link.old).received (L.seen link.new).received
+        (record { written = (K.seen out.old).bytes; sent = (L.seen link.old).sent }) (record { written = (K.seen out.new).bytes; sent = (L.seen link.new).sent }) result }
     ensures alone { IfErr result (λ s. ¬ IsOfDisk s) }
     ensures rests { replica.new.halted ≡ false → IsAtRest V.is_state V.after V.answer V.part_of V.restored replica.new }
-    ensures opens { L.opens link.new ≡ L.opens link.old }
-    ensures link { TellsFaults (L.never_fails link.old) (L.never_fails link.new) (L.faults link.old) (L.faults link.new) (IsErrOf result ServeStop.LinkFault) }
-    ensures sink { TellsFaults (K.never_fails out.old) (K.never_fails out.new) (K.faults out.old) (K.faults out.new) (IsErrOf result ServeStop.SinkFault) }
+    ensures opens { (L.seen link.new).opens ≡ (L.seen link.old).opens }
+    ensures link { TellsFaults (L.never_fails link.old) (L.never_fails link.new) (L.seen link.old).faults (L.seen link.new).faults (IsErrOf result ServeStop.LinkFault) }
+    ensures sink { TellsFaults (K.never_fails out.old) (K.never_fails out.new) (K.seen out.old).faults (K.seen out.new).faults (IsErrOf result ServeStop.SinkFault) }
 {
     let mut node = Node::make(alloc, replica.shape(), replica.host())?;
     for _ in 0..events {
@@ -65,13 +65,13 @@ pub fn serve_kept<V: Service + Drop, K: Sink, L: Link, D: Disk>(
     requires runs { replica.old.halted ≡ false }
     requires rests { IsAtRest V.is_state V.after V.answer V.part_of V.restored replica.old }
     requires keeps { journal.old.halted ≡ false }
-    ensures serves { HasServedKept V.is_state V.after V.answer V.part_of V.restored replica.old replica.new journal.old journal.new (D.moments disk.old) (D.moments disk.new) receives
-        (L.received link.old) (L.received link.new) (record { written = K.written out.old; sent = L.sent link.old }) (record { written = K.written out.new; sent = L.sent link.new }) result }
+    ensures serves { HasServedKept V.is_state V.after V.answer V.part_of V.restored replica.old replica.new journal.old journal.new (D.seen disk.old).moments (D.seen disk.new).moments receives
+        (L.seen link.old).received (L.seen link.new).received (record { written = (K.seen out.old).bytes; sent = (L.seen link.old).sent }) (record { written = (K.seen out.new).bytes; sent = (L.seen link.new).sent }) result }
     ensures rests { replica.new.halted ≡ false → IsAtRest V.is_state V.after V.answer V.part_of V.restored replica.new }
-    ensures opens { L.opens link.new ≡ L.opens link.old }
-    ensures link { TellsFaults (L.never_fails link.old) (L.never_fails link.new) (L.faults link.old) (L.faults link.new) (IsErrOf result ServeStop.LinkFault) }
-    ensures sink { TellsFaults (K.never_fails out.old) (K.never_fails out.new) (K.faults out.old) (K.faults out.new) (IsErrOf result ServeStop.SinkFault) }
-    ensures disk { TellsFaults (D.never_fails disk.old) (D.never_fails disk.new) (D.faults disk.old) (D.faults disk.new) (IsErrOf result ServeStop.DiskFault) }
+    ensures opens { (L.seen link.new).opens ≡ (L.seen link.old).opens }
+    ensures link { TellsFaults (L.never_fails link.old) (L.never_fails link.new) (L.seen link.old).faults (L.seen link.new).faults (IsErrOf result ServeStop.LinkFault) }
+    ensures sink { TellsFaults (K.never_fails out.old) (K.never_fails out.new) (K.seen out.old).faults (K.seen out.new).faults (IsErrOf result ServeStop.SinkFault) }
+    ensures disk { TellsFaults (D.never_fails disk.old) (D.never_fails disk.new) (D.seen disk.old).faults (D.seen disk.new).faults (IsErrOf result ServeStop.DiskFault) }
 {
     let mut node = Node::make(alloc, replica.shape(), replica.host())?;
     for _ in 0..receives {

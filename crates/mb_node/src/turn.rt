@@ -84,16 +84,16 @@ pub(crate) fn take_turn<V: Service + Drop, K: Sink, L: Link>(
     requires rests { IsAtRest V.is_state V.after V.answer V.part_of V.restored replica.old }
     ensures stands { (me : Identity V) (d : History) (n : ℕ) → Serves V.is_state V.after V.answer V.part_of V.restored me → Represents me replica.old d → IsWhole d
         → outbox.old.hosts ≡ host_count me.shape → outbox.old.host ≡ me.host → outbox.old.number ≡ n % 2 ^ 32
-        → Turned me d n event (record { written = K.written out.old; sent = L.sent link.old }) (record { written = K.written out.new; sent = L.sent link.new }) replica.new outbox.new result }
+        → Turned me d n event (record { written = (K.seen out.old).bytes; sent = (L.seen link.old).sent }) (record { written = (K.seen out.new).bytes; sent = (L.seen link.new).sent }) replica.new outbox.new result }
     ensures unspent { (n : ℕ) → IsErrOf result (ServeStop.Budget n) → ⊥ }
     ensures alone { IfErr result (λ s. ¬ IsOfDisk s) }
     ensures who { (outbox.new.host ≡ outbox.old.host) × (outbox.new.hosts ≡ outbox.old.hosts) }
     ensures rests { replica.new.halted ≡ false → IsAtRest V.is_state V.after V.answer V.part_of V.restored replica.new }
     ensures runs { OnOk result (replica.new.halted ≡ false) }
-    ensures received { L.received link.new ≡ L.received link.old }
-    ensures opens { L.opens link.new ≡ L.opens link.old }
-    ensures link { TellsFaults (L.never_fails link.old) (L.never_fails link.new) (L.faults link.old) (L.faults link.new) (IsErrOf result ServeStop.LinkFault) }
-    ensures sink { TellsFaults (K.never_fails out.old) (K.never_fails out.new) (K.faults out.old) (K.faults out.new) (IsErrOf result ServeStop.SinkFault) }
+    ensures received { (L.seen link.new).received ≡ (L.seen link.old).received }
+    ensures opens { (L.seen link.new).opens ≡ (L.seen link.old).opens }
+    ensures link { TellsFaults (L.never_fails link.old) (L.never_fails link.new) (L.seen link.old).faults (L.seen link.new).faults (IsErrOf result ServeStop.LinkFault) }
+    ensures sink { TellsFaults (K.never_fails out.old) (K.never_fails out.new) (K.seen out.old).faults (K.seen out.new).faults (IsErrOf result ServeStop.SinkFault) }
 {
     let step = step_of(alloc, replica, &event)?;
     let turn = Turn {

@@ -13,7 +13,8 @@ use Rattle.mb_model.specs.States.{Snapshots}
 use Rattle.mb_msg.specs.declared.event.Slot.{Slot}
 use Rattle.mb_sched.specs.declared.records.Record.{Record}
 use Rattle.mb_sched.specs.Report.{slot_lines}
-use Rattle.mb_answer.specs.Devices.{Device, Responds}
+use Rattle.mb_edge.specs.Seen.{Device}
+use Rattle.mb_answer.specs.Devices.{Responds}
 use Rattle.mb_answer.specs.Records.{IsRecordText, AnswersText}
 use Rattle.mb_learn.specs.declared.learner.Learner.{Learner}
 use Rattle.mb_learn.specs.declared.learner.LearnStop.{LearnStop}

@@ -46,14 +46,15 @@ use Rattle.std.specs.Fmt.{decimal}
 use Rattle.mb_answer.specs.declared.answer.Answer.{Answer}
 use Rattle.mb_answer.specs.Texts.{exists_text, bad_journal_text}
 use Rattle.mb_answer.specs.Configs.{used, unused, lack_statuses}
-use Rattle.mb_answer.specs.Devices.{Device, LinkState, Says, said, cut_short, IsToldBy}
+use Rattle.mb_edge.specs.Seen.{Device, LinkState, DiskState}
+use Rattle.mb_answer.specs.Devices.{Says, said, cut_short, IsToldBy}
 use Rattle.mb_answer.specs.Devices as devices
 use Rattle.mb_answer.proofs.Contained.{any_of}
 use Rattle.mb_answer.proofs.ConfigLaws.{same_config, lacks_none}
 use Rattle.mb_serving.specs.Nodes.{outside, served_status, HasListened, Fails, IsUnbegun, headless, unopened}
 use Rattle.mb_serving.specs.Records.{host_of}
 use Rattle.mb_serving.specs.declared.journals.TheConstants.{JOURNAL_LIMIT}
-use Rattle.mb_serving.specs.Journals.{DiskState, SparesFile, IsNew, IsThere, Makes, made, exists, unmade, Opens, IsOpen, IsBad, Rises, start_of, kept_head, ServesBehind, served, unbegun, ServesKept, opened, bad, unread, no_host, KeptNodes, IsServedKept, making_statuses, kept_node_statuses, IsMade, IsOpened, IsOfWriting}
+use Rattle.mb_serving.specs.Journals.{SparesFile, IsNew, IsThere, Makes, made, exists, unmade, Opens, IsOpen, IsBad, Rises, start_of, kept_head, ServesBehind, served, unbegun, ServesKept, opened, bad, unread, no_host, KeptNodes, IsServedKept, making_statuses, kept_node_statuses, IsMade, IsOpened, IsOfWriting}
 
 -- ---- entries are written
 

@@ -28,10 +28,10 @@ use Rattle.mb_node.proofs.Runs.{lines_more}
 use Rattle.mb_sched.specs.declared.configs.Config.{Config}
 use Rattle.mb_sched.specs.declared.records.Entry.{Entry}
 use Rattle.mb_sched.specs.Records.{record_head, entry_text, EventFits}
-use Rattle.mb_answer.specs.Devices.{Device, LinkState}
+use Rattle.mb_edge.specs.Seen.{Device, LinkState, DiskState}
 use Rattle.mb_serving.specs.Nodes.{outside, headless, unopened}
 use Rattle.mb_serving.specs.Records.{host_of}
-use Rattle.mb_serving.specs.Journals.{DiskState, start_of, kept_head, ServesOn, ServesBehind, served, unbegun}
+use Rattle.mb_serving.specs.Journals.{start_of, kept_head, ServesOn, ServesBehind, served, unbegun}
 use Rattle.mb_serving.specs.Written.{WritesFront, KeptNodesLeaveRecords}
 use Rattle.mb_serving.proofs.ReadConfigs.{settings_fit}
 use Rattle.mb_serving.proofs.WrittenLaws.{appends_none, parts_are_left}

@@ -7,7 +7,7 @@ use Rattle.mb_answer.proofs.ConfigLaws.{same_config, lacks_none}
 use Rattle.mb_answer.specs.Clusters.{IsUnbroken}
 use Rattle.mb_answer.specs.Configs.{used, unused, lack_statuses}
 use Rattle.mb_answer.proofs.Contained.{any_of}
-use Rattle.mb_answer.specs.Devices.{Device, LinkState}
+use Rattle.mb_edge.specs.Seen.{Device, LinkState}
 use Rattle.mb_base.specs.Shapes.{Bytes, host_count}
 use Rattle.mb_replica.specs.Represents as Represented
 use Rattle.mb_core.specs.declared.replica.Replica.{Replica}

@@ -29,19 +29,12 @@ use Rattle.mb_node.specs.Keeping.{EndsKept}
 use Rattle.mb_sched.specs.declared.configs.Config.{Config}
 use Rattle.mb_sched.specs.Records.{record_head, entry_text}
 use Rattle.mb_answer.specs.Configs.{IsConfigText, Uses}
-use Rattle.mb_answer.specs.Devices.{Device, LinkState, Says}
+use Rattle.mb_edge.specs.Seen.{Device, LinkState, DiskState}
+use Rattle.mb_answer.specs.Devices.{Says}
 use Rattle.mb_answer.specs.Texts.{usage_text, exists_text, bad_journal_text}
 use Rattle.mb_serving.specs.Nodes.{outside, served_status, HasListened, Fails, IsUnbegun}
 use Rattle.mb_serving.specs.Records.{host_of}
 use Rattle.mb_serving.specs.declared.journals.TheConstants.{JOURNAL_LIMIT}
-
--- a disk at a moment: what it tells of what stands on it, and its count of faults
-pub record DiskState : Type 0 where
-  pub moments : Option Moments
-  pub faults : ℕ
-
-abbrev pub disk_state : Option Moments → ℕ → DiskState
-disk_state moments faults = record { moments = moments; faults = faults }
 
 -- ---- a journal is made
 

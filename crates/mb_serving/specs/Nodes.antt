@@ -18,7 +18,8 @@ use Rattle.mb_sched.specs.declared.configs.Config.{Config}
 use Rattle.mb_sched.specs.Records.{record_head}
 use Rattle.mb_answer.specs.Clusters.{IsUnbroken}
 use Rattle.mb_answer.specs.Configs.{IsConfigText, Uses}
-use Rattle.mb_answer.specs.Devices.{Device, LinkState, Says}
+use Rattle.mb_edge.specs.Seen.{Device, LinkState}
+use Rattle.mb_answer.specs.Devices.{Says}
 use Rattle.mb_serving.specs.Records.{host_of}
 use Rattle.mb_answer.specs.Texts.{usage_text}
 

@@ -11,7 +11,8 @@ use Rattle.mb_model.specs.Histories.{Identity}
 use Rattle.mb_node.specs.Retracing.{AreOwn, Differs}
 use Rattle.mb_sched.specs.declared.configs.Config.{Config}
 use Rattle.mb_sched.specs.declared.records.Record.{Record}
-use Rattle.mb_answer.specs.Devices.{Device, Responds}
+use Rattle.mb_edge.specs.Seen.{Device}
+use Rattle.mb_answer.specs.Devices.{Responds}
 use Rattle.mb_answer.specs.Records.{IsRecordText, AnswersText}
 
 -- a host of a config's system, made with the key-value service of no keys

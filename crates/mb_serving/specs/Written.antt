@@ -15,11 +15,11 @@ use Rattle.mb_sched.specs.declared.records.Record.{Record}
 use Rattle.mb_sched.specs.Configs.{SettingsFit}
 use Rattle.mb_sched.specs.Records.{max_record, record_head, entry_text, EventFits, IsShort}
 use Rattle.mb_answer.specs.Configs.{IsConfigText}
-use Rattle.mb_answer.specs.Devices.{Device, LinkState}
+use Rattle.mb_edge.specs.Seen.{Device, LinkState, DiskState}
 use Rattle.mb_answer.specs.Records.{IsRecordText}
 use Rattle.mb_serving.specs.Nodes.{events_of, Serves}
 use Rattle.mb_serving.specs.Records.{host_of, IsOwnRecord, same_text}
-use Rattle.mb_serving.specs.Journals.{DiskState, start_of, ServesBehind}
+use Rattle.mb_serving.specs.Journals.{start_of, ServesBehind}
 
 -- a host of a config
 module _ (c : Config) (host : ℕ) where

@@ -9,7 +9,7 @@ ghost use Rattle.mb_sched.specs.declared.configs.Config.{Config};
 ghost use Rattle.mb_sched.specs.Configs.{SettingsFit};
 ghost use Rattle.mb_sched.specs.Records.{max_record, record_head, EventFits};
 ghost use Rattle.mb_answer.specs.Configs.{IsConfigText};
-ghost use Rattle.mb_answer.specs.Devices.{Device, LinkState};
+ghost use Rattle.mb_edge.specs.Seen.{Device, LinkState};
 ghost use Rattle.mb_serving.specs.Nodes.{Serves};
 ghost use Rattle.mb_serving.specs.Records.{host_of};
 ghost use Rattle.mb_serving.specs.Written.{IsOwnSoFar, WritesReceived, NodesLeaveRecords, KeptNodesLeaveRecords};

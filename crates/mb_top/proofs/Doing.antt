@@ -7,12 +7,12 @@ use Rattle.mb_top.specs.declared.command.Command.{Command}
 use Rattle.mb_top.specs.declared.command.Command.TheVariants.{Replay, Soak, Node, KeptNode, Journal, Retrace, Cluster, Audit, Learn}
 use Rattle.mb_top.specs.Commands.{reads}
 use Rattle.mb_answer.specs.Clusters.{StayIdle, Clusters}
-use Rattle.mb_answer.specs.Devices.{Device, Devices, Says}
+use Rattle.mb_edge.specs.Seen.{Device, DiskState}
+use Rattle.mb_answer.specs.Devices.{Devices, Says}
 use Rattle.mb_top.specs.Responses.{Replays, Soaks, summed_up, exhausted}
 use Rattle.mb_top.specs.Soaks.{soak_text}
 use Rattle.mb_answer.proofs.Statuses.{said_is}
 use Rattle.mb_serving.specs.Records.{Retraces}
-use Rattle.mb_serving.specs.Journals.{DiskState}
 use Rattle.mb_top.specs.Doings.{DoesWith, DoesWithRecord, Does, DoesAtDisk, IsIdle, IsDiskIdle, statuses}
 use Rattle.mb_serving.specs.Nodes.{Nodes}
 use Rattle.mb_reviewing.specs.Audits.{Audits, audit_findings}

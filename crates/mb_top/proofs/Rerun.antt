@@ -19,11 +19,11 @@ use Rattle.mb_restart.specs.Servings.{EndsRun}
 use Rattle.mb_restart.proofs.Served.{ends_run}
 use Rattle.mb_sched.specs.declared.configs.Config.{Config}
 use Rattle.mb_answer.specs.Configs.{used, unused}
-use Rattle.mb_answer.specs.Devices.{Device, LinkState}
+use Rattle.mb_edge.specs.Seen.{Device, LinkState, DiskState}
 use Rattle.mb_answer.proofs.ConfigLaws.{same_config}
 use Rattle.mb_serving.specs.Nodes.{outside, served_status, IsUnbegun, headless, unopened}
 use Rattle.mb_serving.specs.Records.{host_of}
-use Rattle.mb_serving.specs.Journals.{DiskState, IsOpen, ServesOn, ServesBehind, served, unbegun, ServesKept, opened, bad, unread, no_host, KeptNodes}
+use Rattle.mb_serving.specs.Journals.{IsOpen, ServesOn, ServesBehind, served, unbegun, ServesKept, opened, bad, unread, no_host, KeptNodes}
 use Rattle.mb_top.specs.Reruns.{KeepsFile, IsRerun, IsUnsent, Reruns}
 
 -- where a host stands to which these events came

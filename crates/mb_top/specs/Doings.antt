@@ -9,11 +9,12 @@ use Rattle.mb_sched.specs.Records.{max_record}
 use Rattle.mb_top.specs.declared.command.Command.{Command}
 use Rattle.mb_top.specs.declared.command.Command.TheVariants.{Replay, Soak, Node, KeptNode, Journal, Retrace, Cluster, Audit, Learn}
 use Rattle.mb_answer.specs.Clusters.{StayIdle, Clusters, cluster_statuses}
-use Rattle.mb_answer.specs.Devices.{Device, Devices, Says}
+use Rattle.mb_edge.specs.Seen.{Device, DiskState}
+use Rattle.mb_answer.specs.Devices.{Devices, Says}
 use Rattle.mb_top.specs.Responses.{Replays, Soaks}
 use Rattle.mb_serving.specs.Records.{Retraces, retrace_statuses}
 use Rattle.mb_serving.specs.Nodes.{Nodes, node_statuses}
-use Rattle.mb_serving.specs.Journals.{DiskState, KeptNodes, MakesBy, IsServedKept, kept_node_statuses, making_statuses}
+use Rattle.mb_serving.specs.Journals.{KeptNodes, MakesBy, IsServedKept, kept_node_statuses, making_statuses}
 use Rattle.mb_reviewing.specs.Audits.{Audits, audit_statuses, audit_findings}
 use Rattle.mb_reviewing.specs.Learning.{LearnsFrom, learn_statuses, learn_findings}
 use Rattle.mb_answer.specs.Texts.{usage_text}

@@ -45,18 +45,18 @@ returns-in_err-kept_round-clause-serves g c =
 pub returns-then-branch-clause-serves : goal.returns-then-branch-clause-serves
 returns-then-branch-clause-serves g c =
     let v = g.V.Service in
-    let on = subst (λ (b : Bool). KeepsOn v.is_state v.after v.answer v.part_of v.restored c.loop.node c.kept_round.new.self c.loop.replica c.kept_round.new.replica c.loop.journal c.kept_round.new.journal (g.D.Disk.moments c.loop.disk) (g.D.Disk.moments c.kept_round.new.disk)
-    (g.L.Link.received c.loop.link) (g.L.Link.received c.kept_round.new.link)
-    (record { written = g.K.Sink.written c.loop.out; sent = g.L.Link.sent c.loop.link }) (record { written = g.K.Sink.written c.kept_round.new.out; sent = g.L.Link.sent c.kept_round.new.link }) b) c.if-branch.true c.in_ok-kept_round.ensures.rounds in
+    let on = subst (λ (b : Bool). KeepsOn v.is_state v.after v.answer v.part_of v.restored c.loop.node c.kept_round.new.self c.loop.replica c.kept_round.new.replica c.loop.journal c.kept_round.new.journal (g.D.Disk.seen c.loop.disk).moments (g.D.Disk.seen c.kept_round.new.disk).moments
+    (g.L.Link.seen c.loop.link).received (g.L.Link.seen c.kept_round.new.link).received
+    (record { written = (g.K.Sink.seen c.loop.out).bytes; sent = (g.L.Link.seen c.loop.link).sent }) (record { written = (g.K.Sink.seen c.kept_round.new.out).bytes; sent = (g.L.Link.seen c.kept_round.new.link).sent }) b) c.if-branch.true c.in_ok-kept_round.ensures.rounds in
     kept_to_stop _ _ _ _ _ c.args.replica.now _ _ _ _ c.loop.replica c.kept_round.new.replica _ _ _ _ _ _ _ _ c.loop.node c.kept_round.new.self c.loop.counter c.loop.invariant.so_far c.loop.invariant.keeps c.args.receives (omega (arith, c.loop-test.true)) c.in_ok-kept_round.ensures.keeps on
 
 pub loop-preserved : goal.loop-preserved
 loop-preserved g c =
     let so_far = c.loop.invariant in
     let v = g.V.Service in
-    let on = subst (λ (b : Bool). KeepsOn v.is_state v.after v.answer v.part_of v.restored c.loop.node c.kept_round.new.self c.loop.replica c.kept_round.new.replica c.loop.journal c.kept_round.new.journal (g.D.Disk.moments c.loop.disk) (g.D.Disk.moments c.kept_round.new.disk)
-    (g.L.Link.received c.loop.link) (g.L.Link.received c.kept_round.new.link)
-    (record { written = g.K.Sink.written c.loop.out; sent = g.L.Link.sent c.loop.link }) (record { written = g.K.Sink.written c.kept_round.new.out; sent = g.L.Link.sent c.kept_round.new.link }) b) c.if-branch.false c.in_ok-kept_round.ensures.rounds in
+    let on = subst (λ (b : Bool). KeepsOn v.is_state v.after v.answer v.part_of v.restored c.loop.node c.kept_round.new.self c.loop.replica c.kept_round.new.replica c.loop.journal c.kept_round.new.journal (g.D.Disk.seen c.loop.disk).moments (g.D.Disk.seen c.kept_round.new.disk).moments
+    (g.L.Link.seen c.loop.link).received (g.L.Link.seen c.kept_round.new.link).received
+    (record { written = (g.K.Sink.seen c.loop.out).bytes; sent = (g.L.Link.seen c.loop.link).sent }) (record { written = (g.K.Sink.seen c.kept_round.new.out).bytes; sent = (g.L.Link.seen c.kept_round.new.link).sent }) b) c.if-branch.false c.in_ok-kept_round.ensures.rounds in
     record {
       so_far = kept_more _ _ _ _ _ c.args.replica.now _ _ _ _ c.loop.replica c.kept_round.new.replica _ _ _ _ _ _ _ _ c.loop.node c.kept_round.new.self c.loop.counter so_far.so_far so_far.keeps on;
       few = omega (arith, so_far.few, c.in_ok-kept_round.ensures.few);
@@ -74,5 +74,5 @@ returns-clause-serves g c =
     let v = g.V.Service in
     let all : c.loop.counter ≡ c.args.receives = omega (arith, c.loop-test.false, c.loop.auto.counter-end) in
     kept_by_budget _ _ _ _ _ c.args.replica.now _ _ _ _ c.loop.replica _ _ _ _ c.loop.node c.args.receives c.loop.invariant.keeps
-    (subst (λ (n : ℕ). KeptSoFar v.is_state v.after v.answer v.part_of v.restored c.args.replica.now c.args.journal.now (g.D.Disk.moments c.args.disk.now) (g.L.Link.received c.args.link.now) (record { written = g.K.Sink.written c.args.out.now; sent = g.L.Link.sent c.args.link.now })
-    c.loop.replica c.loop.journal (g.D.Disk.moments c.loop.disk) (g.L.Link.received c.loop.link) (record { written = g.K.Sink.written c.loop.out; sent = g.L.Link.sent c.loop.link }) c.loop.node n) all c.loop.invariant.so_far)
+    (subst (λ (n : ℕ). KeptSoFar v.is_state v.after v.answer v.part_of v.restored c.args.replica.now c.args.journal.now (g.D.Disk.seen c.args.disk.now).moments (g.L.Link.seen c.args.link.now).received (record { written = (g.K.Sink.seen c.args.out.now).bytes; sent = (g.L.Link.seen c.args.link.now).sent })
+    c.loop.replica c.loop.journal (g.D.Disk.seen c.loop.disk).moments (g.L.Link.seen c.loop.link).received (record { written = (g.K.Sink.seen c.loop.out).bytes; sent = (g.L.Link.seen c.loop.link).sent }) c.loop.node n) all c.loop.invariant.so_far)

@@ -23,7 +23,7 @@ run-requires g c = c.command_in.ensures.within
 pub returns-clause-report : goal.returns-clause-report
 returns-clause-report g c = λ asked zero.
     let is = c.command_in.ensures.command ∙ asked in
-    (replay_ends _ _ _ _ c.run.ensures.does is zero, IfSome_then (g.S.Source.left c.args.source.now) (replays _ _ _ _ c.run.ensures.does is) (λ text r. reports text _ _ _ _ _ r zero))
+    (replay_ends _ _ _ _ c.run.ensures.does is zero, IfSome_then (g.S.Source.seen c.args.source.now).bytes (replays _ _ _ _ c.run.ensures.does is) (λ text r. reports text _ _ _ _ _ r zero))
 
 pub returns-clause-history : goal.returns-clause-history
 returns-clause-history g c = λ asked zero text s left is.
@@ -35,7 +35,7 @@ returns-clause-history_so_far g c = λ asked text s left is k le none apart. hol
 
 pub returns-clause-forged : goal.returns-clause-forged
 returns-clause-forged g c = λ asked three.
-    IfSome_then (g.S.Source.left c.args.source.now) (replays _ _ _ _ c.run.ensures.does (c.command_in.ensures.command ∙ asked)) (λ text r. tells_forged text _ _ _ _ _ r three)
+    IfSome_then (g.S.Source.seen c.args.source.now).bytes (replays _ _ _ _ c.run.ensures.does (c.command_in.ensures.command ∙ asked)) (λ text r. tells_forged text _ _ _ _ _ r three)
 
 pub returns-clause-history_before : goal.returns-clause-history_before
 returns-clause-history_before g c = λ asked three text s e left is first. hold_before_forged s (schedule_fits text s is) e first
@@ -45,7 +45,7 @@ returns-clause-replay g c = λ asked. replays _ _ _ _ c.run.ensures.does (c.comm
 
 pub returns-clause-complete : goal.returns-clause-complete
 returns-clause-complete g c = λ asked.
-    IfSome_then (g.S.Source.left c.args.source.now) (replays _ _ _ _ c.run.ensures.does (c.command_in.ensures.command ∙ asked)) (λ text r. completes text _ _ _ _ _ r)
+    IfSome_then (g.S.Source.seen c.args.source.now).bytes (replays _ _ _ _ c.run.ensures.does (c.command_in.ensures.command ∙ asked)) (λ text r. completes text _ _ _ _ _ r)
 
 pub returns-clause-soak : goal.returns-clause-soak
 returns-clause-soak g c = λ seed n asked. soaks _ _ _ _ c.run.ensures.does seed n (c.command_in.ensures.command ∙ asked)
@@ -58,32 +58,32 @@ returns-clause-retrace g c = λ asked. retraces _ _ _ _ c.run.ensures.does (c.co
 
 pub returns-clause-retrace_complete : goal.returns-clause-retrace_complete
 returns-clause-retrace_complete g c = λ asked.
-    IfSome_then (g.S.Source.left c.args.source.now) (retraces _ _ _ _ c.run.ensures.does (c.command_in.ensures.command ∙ asked)) (λ text r. retrace_completes text _ _ _ _ _ r)
+    IfSome_then (g.S.Source.seen c.args.source.now).bytes (retraces _ _ _ _ c.run.ensures.does (c.command_in.ensures.command ∙ asked)) (λ text r. retrace_completes text _ _ _ _ _ r)
 
 pub returns-clause-retrace_left : goal.returns-clause-retrace_left
 returns-clause-retrace_left g c = λ asked.
-    IfSome_then (g.S.Source.left c.args.source.now) (retraces _ _ _ _ c.run.ensures.does (c.command_in.ensures.command ∙ asked)) (λ text r. retraces_left text _ _ _ _ _ r)
+    IfSome_then (g.S.Source.seen c.args.source.now).bytes (retraces _ _ _ _ c.run.ensures.does (c.command_in.ensures.command ∙ asked)) (λ text r. retraces_left text _ _ _ _ _ r)
 
 pub returns-clause-node : goal.returns-clause-node
 returns-clause-node g c = λ host n asked. nodes _ _ _ _ c.run.ensures.does host n (c.command_in.ensures.command ∙ asked)
 
 pub returns-clause-node_complete : goal.returns-clause-node_complete
 returns-clause-node_complete g c = λ host n asked.
-    IfSome_then (g.S.Source.left c.args.source.now) (nodes _ _ _ _ c.run.ensures.does host n (c.command_in.ensures.command ∙ asked)) (λ text r. node_completes text host n _ _ _ _ _ _ _ r)
+    IfSome_then (g.S.Source.seen c.args.source.now).bytes (nodes _ _ _ _ c.run.ensures.does host n (c.command_in.ensures.command ∙ asked)) (λ text r. node_completes text host n _ _ _ _ _ _ _ r)
 
 pub returns-clause-cluster : goal.returns-clause-cluster
 returns-clause-cluster g c = λ n asked. clusters _ _ _ _ c.run.ensures.does n (c.command_in.ensures.command ∙ asked)
 
 pub returns-clause-cluster_complete : goal.returns-clause-cluster_complete
 returns-clause-cluster_complete g c = λ n asked.
-    IfSome_then (g.S.Source.left c.args.source.now) (clusters _ _ _ _ c.run.ensures.does n (c.command_in.ensures.command ∙ asked)) (λ text r. cluster_completes text n _ _ _ r)
+    IfSome_then (g.S.Source.seen c.args.source.now).bytes (clusters _ _ _ _ c.run.ensures.does n (c.command_in.ensures.command ∙ asked)) (λ text r. cluster_completes text n _ _ _ r)
 
 pub returns-clause-audit : goal.returns-clause-audit
 returns-clause-audit g c = λ host asked. audits _ _ _ _ c.run.ensures.does host (c.command_in.ensures.command ∙ asked)
 
 pub returns-clause-audit_complete : goal.returns-clause-audit_complete
 returns-clause-audit_complete g c = λ host asked.
-    IfSome_then (g.S.Source.left c.args.source.now) (audits _ _ _ _ c.run.ensures.does host (c.command_in.ensures.command ∙ asked)) (λ text r. audit_completes host text _ _ _ _ _ r)
+    IfSome_then (g.S.Source.seen c.args.source.now).bytes (audits _ _ _ _ c.run.ensures.does host (c.command_in.ensures.command ∙ asked)) (λ text r. audit_completes host text _ _ _ _ _ r)
 
 pub returns-clause-audit_ended : goal.returns-clause-audit_ended
 returns-clause-audit_ended g c = λ host asked. audit_ends _ _ _ _ c.run.ensures.does host (c.command_in.ensures.command ∙ asked)
@@ -103,7 +103,7 @@ returns-clause-learn g c = λ asked. learns _ _ _ _ c.run.ensures.does (c.comman
 
 pub returns-clause-learn_complete : goal.returns-clause-learn_complete
 returns-clause-learn_complete g c = λ asked.
-    IfSome_then (g.S.Source.left c.args.source.now) (learns _ _ _ _ c.run.ensures.does (c.command_in.ensures.command ∙ asked)) (λ text r. learn_completes text _ _ _ _ _ r)
+    IfSome_then (g.S.Source.seen c.args.source.now).bytes (learns _ _ _ _ c.run.ensures.does (c.command_in.ensures.command ∙ asked)) (λ text r. learn_completes text _ _ _ _ _ r)
 
 pub returns-clause-learn_ended : goal.returns-clause-learn_ended
 returns-clause-learn_ended g c = λ asked. learn_ends _ _ _ _ c.run.ensures.does (c.command_in.ensures.command ∙ asked)
@@ -133,15 +133,15 @@ returns-clause-journal g c = λ host asked. at_disk_as _ (Some (Journal host)) _
 
 pub returns-clause-kept_node : goal.returns-clause-kept_node
 returns-clause-kept_node g c = λ host n asked.
-    IfSome_then (g.S.Source.left c.args.source.now) (at_disk_as _ (Some (KeptNode host n)) _ _ _ _ _ (c.command_in.ensures.command ∙ asked) c.run.ensures.at_disk) (λ text does. does.0)
+    IfSome_then (g.S.Source.seen c.args.source.now).bytes (at_disk_as _ (Some (KeptNode host n)) _ _ _ _ _ (c.command_in.ensures.command ∙ asked) c.run.ensures.at_disk) (λ text does. does.0)
 
 pub returns-clause-kept_node_complete : goal.returns-clause-kept_node_complete
 returns-clause-kept_node_complete g c = λ host n asked.
-    IfSome_then (g.S.Source.left c.args.source.now) (at_disk_as _ (Some (KeptNode host n)) _ _ _ _ _ (c.command_in.ensures.command ∙ asked) c.run.ensures.at_disk) (λ text does. does.1)
+    IfSome_then (g.S.Source.seen c.args.source.now).bytes (at_disk_as _ (Some (KeptNode host n)) _ _ _ _ _ (c.command_in.ensures.command ∙ asked) c.run.ensures.at_disk) (λ text does. does.1)
 
 pub returns-clause-kept_node_runs : goal.returns-clause-kept_node_runs
 returns-clause-kept_node_runs g c = λ host n asked.
-    IfSome_then (g.S.Source.left c.args.source.now) (at_disk_as _ (Some (KeptNode host n)) _ _ _ _ _ (c.command_in.ensures.command ∙ asked) c.run.ensures.at_disk) (λ text does. kept_nodes_run text host n _ _ _ _ _ _ _ _ _ does.0)
+    IfSome_then (g.S.Source.seen c.args.source.now).bytes (at_disk_as _ (Some (KeptNode host n)) _ _ _ _ _ (c.command_in.ensures.command ∙ asked) c.run.ensures.at_disk) (λ text does. kept_nodes_run text host n _ _ _ _ _ _ _ _ _ does.0)
 
 pub returns-clause-disk_idle : goal.returns-clause-disk_idle
 returns-clause-disk_idle g c = rw (← c.command_in.ensures.command) (disk_idle _ _ _ _ _ _ c.run.ensures.at_disk)

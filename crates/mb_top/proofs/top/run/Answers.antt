@@ -180,43 +180,43 @@ pub returns-in-Some-Replay-clause-stops : goal.returns-in-Some-Replay-clause-sto
 returns-in-Some-Replay-clause-stops g c = λ never. inl refl
 
 pub returns-in-Some-Replay-clause-waits : goal.returns-in-Some-Replay-clause-waits
-returns-in-Some-Replay-clause-waits g c = λ never. none_started (g.S.Source.left c.args.source.now) (g.P.Spawner.faults c.args.spawner.now) (g.P.Spawner.starts c.args.spawner.now) (g.P.Spawner.waits c.args.spawner.now)
+returns-in-Some-Replay-clause-waits g c = λ never. none_started (g.S.Source.seen c.args.source.now).bytes (g.P.Spawner.seen c.args.spawner.now).faults (g.P.Spawner.seen c.args.spawner.now).starts (g.P.Spawner.seen c.args.spawner.now).waits
 
 pub returns-in-Some-Soak-clause-stops : goal.returns-in-Some-Soak-clause-stops
 returns-in-Some-Soak-clause-stops g c = λ never. inl refl
 
 pub returns-in-Some-Soak-clause-waits : goal.returns-in-Some-Soak-clause-waits
-returns-in-Some-Soak-clause-waits g c = λ never. none_started (g.S.Source.left c.args.source.now) (g.P.Spawner.faults c.args.spawner.now) (g.P.Spawner.starts c.args.spawner.now) (g.P.Spawner.waits c.args.spawner.now)
+returns-in-Some-Soak-clause-waits g c = λ never. none_started (g.S.Source.seen c.args.source.now).bytes (g.P.Spawner.seen c.args.spawner.now).faults (g.P.Spawner.seen c.args.spawner.now).starts (g.P.Spawner.seen c.args.spawner.now).waits
 
 pub returns-in-Some-Node-clause-stops : goal.returns-in-Some-Node-clause-stops
 returns-in-Some-Node-clause-stops g c = λ never. inl refl
 
 pub returns-in-Some-Node-clause-waits : goal.returns-in-Some-Node-clause-waits
-returns-in-Some-Node-clause-waits g c = λ never. none_started (g.S.Source.left c.args.source.now) (g.P.Spawner.faults c.args.spawner.now) (g.P.Spawner.starts c.args.spawner.now) (g.P.Spawner.waits c.args.spawner.now)
+returns-in-Some-Node-clause-waits g c = λ never. none_started (g.S.Source.seen c.args.source.now).bytes (g.P.Spawner.seen c.args.spawner.now).faults (g.P.Spawner.seen c.args.spawner.now).starts (g.P.Spawner.seen c.args.spawner.now).waits
 
 pub returns-in-Some-Retrace-clause-stops : goal.returns-in-Some-Retrace-clause-stops
 returns-in-Some-Retrace-clause-stops g c = λ never. inl refl
 
 pub returns-in-Some-Retrace-clause-waits : goal.returns-in-Some-Retrace-clause-waits
-returns-in-Some-Retrace-clause-waits g c = λ never. none_started (g.S.Source.left c.args.source.now) (g.P.Spawner.faults c.args.spawner.now) (g.P.Spawner.starts c.args.spawner.now) (g.P.Spawner.waits c.args.spawner.now)
+returns-in-Some-Retrace-clause-waits g c = λ never. none_started (g.S.Source.seen c.args.source.now).bytes (g.P.Spawner.seen c.args.spawner.now).faults (g.P.Spawner.seen c.args.spawner.now).starts (g.P.Spawner.seen c.args.spawner.now).waits
 
 pub returns-in-Some-Audit-clause-stops : goal.returns-in-Some-Audit-clause-stops
 returns-in-Some-Audit-clause-stops g c = λ never. inl refl
 
 pub returns-in-Some-Audit-clause-waits : goal.returns-in-Some-Audit-clause-waits
-returns-in-Some-Audit-clause-waits g c = λ never. none_started (g.S.Source.left c.args.source.now) (g.P.Spawner.faults c.args.spawner.now) (g.P.Spawner.starts c.args.spawner.now) (g.P.Spawner.waits c.args.spawner.now)
+returns-in-Some-Audit-clause-waits g c = λ never. none_started (g.S.Source.seen c.args.source.now).bytes (g.P.Spawner.seen c.args.spawner.now).faults (g.P.Spawner.seen c.args.spawner.now).starts (g.P.Spawner.seen c.args.spawner.now).waits
 
 pub returns-in-Some-Learn-clause-stops : goal.returns-in-Some-Learn-clause-stops
 returns-in-Some-Learn-clause-stops g c = λ never. inl refl
 
 pub returns-in-Some-Learn-clause-waits : goal.returns-in-Some-Learn-clause-waits
-returns-in-Some-Learn-clause-waits g c = λ never. none_started (g.S.Source.left c.args.source.now) (g.P.Spawner.faults c.args.spawner.now) (g.P.Spawner.starts c.args.spawner.now) (g.P.Spawner.waits c.args.spawner.now)
+returns-in-Some-Learn-clause-waits g c = λ never. none_started (g.S.Source.seen c.args.source.now).bytes (g.P.Spawner.seen c.args.spawner.now).faults (g.P.Spawner.seen c.args.spawner.now).starts (g.P.Spawner.seen c.args.spawner.now).waits
 
 pub returns-in-None-clause-stops : goal.returns-in-None-clause-stops
 returns-in-None-clause-stops g c = λ never. inl refl
 
 pub returns-in-None-clause-waits : goal.returns-in-None-clause-waits
-returns-in-None-clause-waits g c = λ never. none_started (g.S.Source.left c.args.source.now) (g.P.Spawner.faults c.args.spawner.now) (g.P.Spawner.starts c.args.spawner.now) (g.P.Spawner.waits c.args.spawner.now)
+returns-in-None-clause-waits g c = λ never. none_started (g.S.Source.seen c.args.source.now).bytes (g.P.Spawner.seen c.args.spawner.now).faults (g.P.Spawner.seen c.args.spawner.now).starts (g.P.Spawner.seen c.args.spawner.now).waits
 
 pub returns-in-Some-KeptNode-clause-does : goal.returns-in-Some-KeptNode-clause-does
 returns-in-Some-KeptNode-clause-does g c =
@@ -333,13 +333,13 @@ pub returns-in-Some-KeptNode-clause-stops : goal.returns-in-Some-KeptNode-clause
 returns-in-Some-KeptNode-clause-stops g c = λ never. inl refl
 
 pub returns-in-Some-KeptNode-clause-waits : goal.returns-in-Some-KeptNode-clause-waits
-returns-in-Some-KeptNode-clause-waits g c = λ never. none_started (g.S.Source.left c.args.source.now) (g.P.Spawner.faults c.args.spawner.now) (g.P.Spawner.starts c.args.spawner.now) (g.P.Spawner.waits c.args.spawner.now)
+returns-in-Some-KeptNode-clause-waits g c = λ never. none_started (g.S.Source.seen c.args.source.now).bytes (g.P.Spawner.seen c.args.spawner.now).faults (g.P.Spawner.seen c.args.spawner.now).starts (g.P.Spawner.seen c.args.spawner.now).waits
 
 pub returns-in-Some-Journal-clause-stops : goal.returns-in-Some-Journal-clause-stops
 returns-in-Some-Journal-clause-stops g c = λ never. inl refl
 
 pub returns-in-Some-Journal-clause-waits : goal.returns-in-Some-Journal-clause-waits
-returns-in-Some-Journal-clause-waits g c = λ never. none_started (g.S.Source.left c.args.source.now) (g.P.Spawner.faults c.args.spawner.now) (g.P.Spawner.starts c.args.spawner.now) (g.P.Spawner.waits c.args.spawner.now)
+returns-in-Some-Journal-clause-waits g c = λ never. none_started (g.S.Source.seen c.args.source.now).bytes (g.P.Spawner.seen c.args.spawner.now).faults (g.P.Spawner.seen c.args.spawner.now).starts (g.P.Spawner.seen c.args.spawner.now).waits
 
 pub returns-in-Some-Learn-clause-disk : goal.returns-in-Some-Learn-clause-disk
 returns-in-Some-Learn-clause-disk g c = tells_none _ (low_no_disk _ c.learn.ensures.low)
