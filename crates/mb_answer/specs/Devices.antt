@@ -16,8 +16,8 @@ pub record Devices : Type 0 where
   pub link : LinkState
   pub spawner : SpawnerState
 
-abbrev pub devices : Device → Device → LinkState → SpawnerState → Devices
-devices source sink link spawner = record { source = source; sink = sink; link = link; spawner = spawner }
+abbrev pub edge : Device → Device → LinkState → SpawnerState → Devices
+edge source sink link spawner = record { source = source; sink = sink; link = link; spawner = spawner }
 
 -- ---- texts
 

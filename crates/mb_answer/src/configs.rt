@@ -9,8 +9,8 @@ ghost use Rattle.mb_cluster.specs.Runs.{OpsFit};
 ghost use Rattle.mb_sched.specs.Configs.{max_config};
 ghost use Rattle.mb_answer.specs.Configs.{FindsConfig, IsLack, lack_statuses};
 ghost use Rattle.mb_edge.specs.Seen.{Device, device, link_state, spawner_state};
-ghost use Rattle.mb_answer.specs.Devices.{devices};
-ghost use Rattle.mb_answer.specs.Clusters.{Clusters, TellsToStop, AwaitsStarted, TellsBadEnds, cluster_statuses};
+ghost use Rattle.mb_answer.specs.Devices.{edge};
+ghost use Rattle.mb_answer.specs.Clusters.{RunsWith, TellsStops, AwaitsNodes, TellsBadEnds, cluster_statuses};
 
 use crate::answer::refusal;
 use crate::ends::run_status;
@@ -66,9 +66,8 @@ pub fn cluster<S: Source, K: Sink, L: Link, P: Spawner>(
     link: &mut L,
     spawner: &mut P,
 ) -> u8
-    ensures told { IfSome (S.seen source.old).bytes (λ text. Clusters text turns result
-        (devices (S.seen source.old) (K.seen sink.old) (L.seen link.old) (P.seen spawner.old))
-        (devices (S.seen source.new) (K.seen sink.new) (L.seen link.new) (P.seen spawner.new))) }
+    ensures told { RunsWith turns result
+        (edge (S.seen source.old) (K.seen sink.old) (L.seen link.old) (P.seen spawner.old)) (edge (S.seen source.new) (K.seen sink.new) (L.seen link.new) (P.seen spawner.new)) }
     ensures statuses { Contains cluster_statuses result }
     ensures ended { result ≡ 0 → IsAtEnd (S.seen source.new).bytes }
     ensures limit { ConsumesBetween 0 (max_config + 1) (S.seen source.old).bytes (S.seen source.new).bytes }
@@ -79,10 +78,8 @@ pub fn cluster<S: Source, K: Sink, L: Link, P: Spawner>(
     ensures bad_ends { TellsBadEnds (P.all_end_well spawner.old) (P.seen spawner.old).bad_ends (P.seen spawner.new).bad_ends (result ≡ 18) }
     // Whatever the status is: no more STOPs are missing than the link failed, and no more waits than the spawner failed, unless a send or a wait may be refused
     // memory.
-    ensures stops { L.sends_without_memory
-        → TellsToStop (S.seen source.old).bytes (spawned (P.seen spawner.old).starts (P.seen spawner.old).waits) (spawned (P.seen spawner.new).starts (P.seen spawner.new).waits) (L.seen link.old).faults (L.seen link.new).faults (L.seen link.old).sent (L.seen link.new).sent }
-    ensures waits { P.waits_without_memory
-        → AwaitsStarted (S.seen source.old).bytes (P.seen spawner.old).faults (P.seen spawner.new).faults (spawned (P.seen spawner.old).starts (P.seen spawner.old).waits) (spawned (P.seen spawner.new).starts (P.seen spawner.new).waits) }
+    ensures stops { L.sends_without_memory → TellsStops (S.seen source.old) (P.seen spawner.old) (P.seen spawner.new) (L.seen link.old) (L.seen link.new) }
+    ensures waits { P.waits_without_memory → AwaitsNodes (S.seen source.old) (P.seen spawner.old) (P.seen spawner.new) }
 {
     match config_from(alloc, source, sink) {
         Ok(config) => {

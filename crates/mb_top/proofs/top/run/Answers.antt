@@ -228,7 +228,7 @@ pub returns-in-Some-KeptNode-clause-at_disk : goal.returns-in-Some-KeptNode-clau
 returns-in-Some-KeptNode-clause-at_disk g c =
     let first : c.args.command ≡ Some c.in-Some-KeptNode.field-0 = c.in-Some-KeptNode.is in
     let named : c.in-Some-KeptNode.field-0 ≡ KeptNode c.in-Some-KeptNode.host c.in-Some-KeptNode.events = rw first at c.in-Some-KeptNode.field-0-is in
-    at_disk_as (Some (KeptNode c.in-Some-KeptNode.host c.in-Some-KeptNode.events)) _ _ _ _ _ _ (sym (first ∙ ap Some named)) (told_both _ _ _ c.kept_node.ensures.told c.kept_node.ensures.complete)
+    at_disk_as (Some (KeptNode c.in-Some-KeptNode.host c.in-Some-KeptNode.events)) _ _ _ _ _ _ _ _ _ _ (sym (first ∙ ap Some named)) (told_both _ _ _ c.kept_node.ensures.told c.kept_node.ensures.complete)
 
 pub returns-in-Some-KeptNode-clause-statuses : goal.returns-in-Some-KeptNode-clause-statuses
 returns-in-Some-KeptNode-clause-statuses g c =
@@ -246,7 +246,7 @@ pub returns-in-Some-Journal-clause-at_disk : goal.returns-in-Some-Journal-clause
 returns-in-Some-Journal-clause-at_disk g c =
     let first : c.args.command ≡ Some c.in-Some-Journal.field-0 = c.in-Some-Journal.is in
     let named : c.in-Some-Journal.field-0 ≡ Journal c.in-Some-Journal.host = rw first at c.in-Some-Journal.field-0-is in
-    at_disk_as (Some (Journal c.in-Some-Journal.host)) _ _ _ _ _ _ (sym (first ∙ ap Some named)) (c.make_journal.ensures.told)
+    at_disk_as (Some (Journal c.in-Some-Journal.host)) _ _ _ _ _ _ _ _ _ _ (sym (first ∙ ap Some named)) (c.make_journal.ensures.told)
 
 pub returns-in-Some-Journal-clause-statuses : goal.returns-in-Some-Journal-clause-statuses
 returns-in-Some-Journal-clause-statuses g c =
@@ -294,40 +294,40 @@ pub returns-in-Some-Replay-clause-at_disk : goal.returns-in-Some-Replay-clause-a
 returns-in-Some-Replay-clause-at_disk g c =
     let first : c.args.command ≡ Some c.in-Some-Replay.field-0 = c.in-Some-Replay.is in
     let named : c.in-Some-Replay.field-0 ≡ Replay = rw first at c.in-Some-Replay.field-0-is in
-    at_disk_as (Some Replay) _ _ _ _ _ _ (sym (first ∙ ap Some named)) refl
+    at_disk_as (Some Replay) _ _ _ _ _ _ _ _ _ _ (sym (first ∙ ap Some named)) refl
 
 pub returns-in-Some-Soak-clause-at_disk : goal.returns-in-Some-Soak-clause-at_disk
 returns-in-Some-Soak-clause-at_disk g c =
     let first : c.args.command ≡ Some c.in-Some-Soak.field-0 = c.in-Some-Soak.is in
     let named : c.in-Some-Soak.field-0 ≡ Soak c.in-Some-Soak.seed c.in-Some-Soak.events = rw first at c.in-Some-Soak.field-0-is in
-    at_disk_as (Some (Soak c.in-Some-Soak.seed c.in-Some-Soak.events)) _ _ _ _ _ _ (sym (first ∙ ap Some named)) refl
+    at_disk_as (Some (Soak c.in-Some-Soak.seed c.in-Some-Soak.events)) _ _ _ _ _ _ _ _ _ _ (sym (first ∙ ap Some named)) refl
 
 pub returns-in-Some-Node-clause-at_disk : goal.returns-in-Some-Node-clause-at_disk
 returns-in-Some-Node-clause-at_disk g c =
     let first : c.args.command ≡ Some c.in-Some-Node.field-0 = c.in-Some-Node.is in
     let named : c.in-Some-Node.field-0 ≡ Node c.in-Some-Node.host c.in-Some-Node.events = rw first at c.in-Some-Node.field-0-is in
-    at_disk_as (Some (Node c.in-Some-Node.host c.in-Some-Node.events)) _ _ _ _ _ _ (sym (first ∙ ap Some named)) refl
+    at_disk_as (Some (Node c.in-Some-Node.host c.in-Some-Node.events)) _ _ _ _ _ _ _ _ _ _ (sym (first ∙ ap Some named)) refl
 
 pub returns-in-Some-Retrace-clause-at_disk : goal.returns-in-Some-Retrace-clause-at_disk
 returns-in-Some-Retrace-clause-at_disk g c =
     let first : c.args.command ≡ Some c.in-Some-Retrace.field-0 = c.in-Some-Retrace.is in
     let named : c.in-Some-Retrace.field-0 ≡ Retrace = rw first at c.in-Some-Retrace.field-0-is in
-    at_disk_as (Some Retrace) _ _ _ _ _ _ (sym (first ∙ ap Some named)) refl
+    at_disk_as (Some Retrace) _ _ _ _ _ _ _ _ _ _ (sym (first ∙ ap Some named)) refl
 
 pub returns-in-Some-Cluster-clause-at_disk : goal.returns-in-Some-Cluster-clause-at_disk
 returns-in-Some-Cluster-clause-at_disk g c =
     let first : c.args.command ≡ Some c.in-Some-Cluster.field-0 = c.in-Some-Cluster.is in
     let named : c.in-Some-Cluster.field-0 ≡ Cluster c.in-Some-Cluster.turns = rw first at c.in-Some-Cluster.field-0-is in
-    at_disk_as (Some (Cluster c.in-Some-Cluster.turns)) _ _ _ _ _ _ (sym (first ∙ ap Some named)) refl
+    at_disk_as (Some (Cluster c.in-Some-Cluster.turns)) _ _ _ _ _ _ _ _ _ _ (sym (first ∙ ap Some named)) refl
 
 pub returns-in-Some-Audit-clause-at_disk : goal.returns-in-Some-Audit-clause-at_disk
 returns-in-Some-Audit-clause-at_disk g c =
     let first : c.args.command ≡ Some c.in-Some-Audit.field-0 = c.in-Some-Audit.is in
     let named : c.in-Some-Audit.field-0 ≡ Audit c.in-Some-Audit.host = rw first at c.in-Some-Audit.field-0-is in
-    at_disk_as (Some (Audit c.in-Some-Audit.host)) _ _ _ _ _ _ (sym (first ∙ ap Some named)) refl
+    at_disk_as (Some (Audit c.in-Some-Audit.host)) _ _ _ _ _ _ _ _ _ _ (sym (first ∙ ap Some named)) refl
 
 pub returns-in-None-clause-at_disk : goal.returns-in-None-clause-at_disk
-returns-in-None-clause-at_disk g c = at_disk_as None _ _ _ _ _ _ (sym c.in-None.is) refl
+returns-in-None-clause-at_disk g c = at_disk_as None _ _ _ _ _ _ _ _ _ _ (sym c.in-None.is) refl
 
 pub returns-in-Some-KeptNode-clause-stops : goal.returns-in-Some-KeptNode-clause-stops
 returns-in-Some-KeptNode-clause-stops g c = λ never. inl refl
@@ -348,4 +348,4 @@ pub returns-in-Some-Learn-clause-at_disk : goal.returns-in-Some-Learn-clause-at_
 returns-in-Some-Learn-clause-at_disk g c =
     let first : c.args.command ≡ Some c.in-Some-Learn.field-0 = c.in-Some-Learn.is in
     let named : c.in-Some-Learn.field-0 ≡ Learn = rw first at c.in-Some-Learn.field-0-is in
-    at_disk_as (Some Learn) _ _ _ _ _ _ (sym (first ∙ ap Some named)) refl
+    at_disk_as (Some Learn) _ _ _ _ _ _ _ _ _ _ (sym (first ∙ ap Some named)) refl
