@@ -1,6 +1,7 @@
 -- What a replica is: the state of a host, which stands for a history of it.
 use Rattle.std.specs.Prelude.{ℕ, List, Result}
 use Rattle.mb_base.specs.Shapes.{Bytes}
+use Rattle.mb_service.specs.Machine.{ServiceMachine}
 use Rattle.mb_model.specs.Histories.{History, Identity}
 use Rattle.mb_model.specs.Given.{Answer}
 use Rattle.mb_steps.proofs.StepArises.{IsWhole}
@@ -17,8 +18,8 @@ module _ {V : Type 0} where
   Represents me r d = state.Represents me r.state d
 
   -- There is a history between two events that it represents, of a host with this service.
-  abbrev pub IsAtRest : (V → Type 0) → (V → Bytes → V) → (V → Bytes → Bytes) → (V → ℕ → Bytes) → (List Bytes → Result V (ℕ × ℕ)) → Replica V → Type 0
-  IsAtRest is_state after result part restored r = state.IsAtRest is_state after result part restored r.state
+  abbrev pub IsAtRest : ServiceMachine V → Replica V → Type 0
+  IsAtRest machine r = state.IsAtRest machine r.state
 
   -- It stands for what the answer leaves, which is a whole history.
   abbrev pub StandsBehind : Identity V → Answer → Replica V → Type 0

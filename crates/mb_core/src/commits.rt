@@ -27,7 +27,7 @@ pub(crate) fn commit<V: Service + Drop>(
     pos: Pos,
     done: &mut Done,
 ) -> Result<(), NoMemory>
-    requires { IsDue V.is_state V.after V.answer V.part_of V.restored replica.old done.old (due.Commit pos) }
+    requires { IsDue V.machine replica.old done.old (due.Commit pos) }
     ensures { (me : Identity V) (x : Progress) (k : KnownSlot) (b : BatchValue) → CarriesOut me x (rules.Commit pos k b) result replica.old done.old replica.new done.new }
 {
     let Some(order) = replica.agreement.normal.cert_at(pos) else {

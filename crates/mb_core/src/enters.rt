@@ -29,7 +29,7 @@ pub(crate) fn enter<V: Service + Drop>(
     alloc: Global,
     done: &mut Done,
 ) -> Result<(), NoMemory>
-    requires { IsDue V.is_state V.after V.answer V.part_of V.restored replica.old done.old due.Enter }
+    requires { IsDue V.machine replica.old done.old due.Enter }
     ensures { (me : Identity V) (x : Progress) (n : NewViewValue) → CarriesOut me x (rules.Enter n) result replica.old done.old replica.new done.new }
 {
     let Some(new_view) = replica.agreement.change.new_view() else {

@@ -31,9 +31,9 @@ pub(crate) fn on_event<V: Service + Drop>(
     known: &Option<Digest>,
     done: &mut Done,
 ) -> Result<Outcome, NoMemory>
-    requires stepping { IsInStep V.is_state V.after V.answer V.part_of V.restored replica.old done.old }
+    requires stepping { IsInStep V.machine replica.old done.old }
     requires known { KnowsEvent replica.old.agreement.shape known.now event.now }
-    ensures { AnswersEvent (Serves V.is_state V.after V.answer V.part_of V.restored) (λ me d. transition me d event.now) result replica.old done.old replica.new done.new }
+    ensures { AnswersEvent (Serves V.machine) (λ me d. transition me d event.now) result replica.old done.old replica.new done.new }
 {
     match event {
         Event::Given(bytes) => on_bytes(replica, alloc, bytes.as_slice(), known, done),
@@ -51,9 +51,9 @@ fn on_bytes<V: Service + Drop>(
     known: &Option<Digest>,
     done: &mut Done,
 ) -> Result<Outcome, NoMemory>
-    requires stepping { IsInStep V.is_state V.after V.answer V.part_of V.restored replica.old done.old }
+    requires stepping { IsInStep V.machine replica.old done.old }
     requires known { KnowsBytes replica.old.agreement.shape known.now bytes.now }
-    ensures { AnswersEvent (Serves V.is_state V.after V.answer V.part_of V.restored) (λ me d. on_bytes me (message_of replica.old.agreement.shape bytes.now) d) result replica.old done.old replica.new done.new }
+    ensures { AnswersEvent (Serves V.machine) (λ me d. on_bytes me (message_of replica.old.agreement.shape bytes.now) d) result replica.old done.old replica.new done.new }
 {
     match decode(alloc, &replica.agreement.shape, bytes) {
         Ok(message) => on_message(replica, alloc, message, known, done),
@@ -71,8 +71,8 @@ fn on_message<V: Service + Drop>(
 ) -> Result<Outcome, NoMemory>
     requires fits { Fits replica.old.agreement.shape message }
     requires known { KnowsMessage known.now message }
-    requires stepping { IsInStep V.is_state V.after V.answer V.part_of V.restored replica.old done.old }
-    ensures { AnswersEvent (Serves V.is_state V.after V.answer V.part_of V.restored) (λ me d. on_message me d message) result replica.old done.old replica.new done.new }
+    requires stepping { IsInStep V.machine replica.old done.old }
+    ensures { AnswersEvent (Serves V.machine) (λ me d. on_message me d message) result replica.old done.old replica.new done.new }
 {
     let before = replica.low();
     let answer = replica.give(alloc, message, known, done)?;
@@ -85,8 +85,8 @@ fn after_patience<V: Service + Drop>(
     alloc: Global,
     done: &mut Done,
 ) -> Result<Outcome, NoMemory>
-    requires { IsInStep V.is_state V.after V.answer V.part_of V.restored replica.old done.old }
-    ensures { AnswersEvent (Serves V.is_state V.after V.answer V.part_of V.restored) (λ me d. after_patience me d (on_patience me (begin d))) result replica.old done.old replica.new done.new }
+    requires { IsInStep V.machine replica.old done.old }
+    ensures { AnswersEvent (Serves V.machine) (λ me d. after_patience me d (on_patience me (begin d))) result replica.old done.old replica.new done.new }
 {
     let before = replica.low();
     let outcome = on_patience(replica, alloc, done)?;
@@ -99,8 +99,8 @@ fn after_nudge<V: Service + Drop>(
     alloc: Global,
     done: &mut Done,
 ) -> Result<Outcome, NoMemory>
-    requires { IsInStep V.is_state V.after V.answer V.part_of V.restored replica.old done.old }
-    ensures { AnswersEvent (Serves V.is_state V.after V.answer V.part_of V.restored) (λ me d. finished me true d (on_nudge me (begin d))) result replica.old done.old replica.new done.new }
+    requires { IsInStep V.machine replica.old done.old }
+    ensures { AnswersEvent (Serves V.machine) (λ me d. finished me true d (on_nudge me (begin d))) result replica.old done.old replica.new done.new }
 {
     let before = replica.low();
     on_nudge(replica, alloc, done)?;
@@ -117,8 +117,8 @@ fn finished_where<V: Service + Drop>(
     before: Pos,
     done: &mut Done,
 ) -> Result<(), NoMemory>
-    requires { IsInStep V.is_state V.after V.answer V.part_of V.restored replica.old done.old }
-    ensures { Finishes (Serves V.is_state V.after V.answer V.part_of V.restored) before (λ me d a. finished_where me answer.rules_follow answer.asks d a) result replica.old done.old replica.new done.new }
+    requires { IsInStep V.machine replica.old done.old }
+    ensures { Finishes (Serves V.machine) before (λ me d a. finished_where me answer.rules_follow answer.asks d a) result replica.old done.old replica.new done.new }
 {
     if answer.rules_follow {
         return finished(replica, alloc, answer.asks, before, done);
@@ -134,8 +134,8 @@ fn finished<V: Service + Drop>(
     before: Pos,
     done: &mut Done,
 ) -> Result<(), NoMemory>
-    requires { IsInStep V.is_state V.after V.answer V.part_of V.restored replica.old done.old }
-    ensures { Finishes (Serves V.is_state V.after V.answer V.part_of V.restored) before (λ me d a. finished me asks d a) result replica.old done.old replica.new done.new }
+    requires { IsInStep V.machine replica.old done.old }
+    ensures { Finishes (Serves V.machine) before (λ me d a. finished me asks d a) result replica.old done.old replica.new done.new }
 {
     run_rules(replica, alloc, done)?;
     with_fetch(replica, alloc, asks, before, done)
@@ -149,7 +149,7 @@ fn with_fetch<V: Service + Drop>(
     before: Pos,
     done: &mut Done,
 ) -> Result<(), NoMemory>
-    requires { IsInStep V.is_state V.after V.answer V.part_of V.restored replica.now done.old }
+    requires { IsInStep V.machine replica.now done.old }
     ensures { (me : Identity V) (d : History) (x : Progress) → StandsAt me replica.now done.old x → before ≡ low_of me d → OnOk result (StandsAt me replica.now done.new (with_fetch me asks d x)) }
 {
     if asks_for_state(replica, asks, before) {

@@ -38,8 +38,8 @@ pub(crate) fn execute<V: Service + Drop>(
     pos: Pos,
     done: &mut Done,
 ) -> Result<(), NoMemory>
-    requires { IsDue V.is_state V.after V.answer V.part_of V.restored replica.old done.old (due.Execute pos) }
-    ensures { (me : Identity V) (x : Progress) (b : BatchValue) → Serves V.is_state V.after V.answer V.part_of V.restored me → CarriesOut me x (Execute pos b) result replica.old done.old replica.new done.new }
+    requires { IsDue V.machine replica.old done.old (due.Execute pos) }
+    ensures { (me : Identity V) (x : Progress) (b : BatchValue) → Serves V.machine me → CarriesOut me x (Execute pos b) result replica.old done.old replica.new done.new }
 {
     let Some(batch) = batch_at(replica, alloc, pos)? else {
         return Ok(());
@@ -59,8 +59,8 @@ fn serve_all<V: Service + Drop>(
     batch: Batch,
     done: &mut Done,
 ) -> Result<Items<Placed>, NoMemory>
-    requires { IsInBatch V.is_state V.after V.answer V.part_of V.restored replica.old done.old pos batch.requests [] }
-    ensures { (me : Identity V) (x : Progress) → Serves V.is_state V.after V.answer V.part_of V.restored me → ServesAll me x pos batch.requests result replica.old done.old replica.new done.new }
+    requires { IsInBatch V.machine replica.old done.old pos batch.requests [] }
+    ensures { (me : Identity V) (x : Progress) → Serves V.machine me → ServesAll me x pos batch.requests result replica.old done.old replica.new done.new }
 {
     let mut requests = Items::new(alloc);
     for request in batch.requests.into_vec() {
@@ -78,8 +78,8 @@ fn serve<V: Service + Drop>(
     request: &Request,
     done: &mut Done,
 ) -> Result<bool, NoMemory>
-    requires { (more : List RequestValue) × ((served : List PlacedValue) × IsInBatch V.is_state V.after V.answer V.part_of V.restored replica.old done.old pos (request.now ∷ more) served) }
-    ensures { (me : Identity V) (x : Progress) (more : List RequestValue) (served : List PlacedValue) → Serves V.is_state V.after V.answer V.part_of V.restored me → ServesOne me x pos request.now more served result replica.old done.old replica.new done.new }
+    requires { (more : List RequestValue) × ((served : List PlacedValue) × IsInBatch V.machine replica.old done.old pos (request.now ∷ more) served) }
+    ensures { (me : Identity V) (x : Progress) (more : List RequestValue) (served : List PlacedValue) → Serves V.machine me → ServesOne me x pos request.now more served result replica.old done.old replica.new done.new }
 {
     let fresh = replica.keeper.execute(alloc, pos, request)?;
     replica.agreement.normal.settle(request.client, request.seq);
@@ -115,8 +115,8 @@ fn close_slot<V: Service + Drop>(
     requests: Items<Placed>,
     done: &mut Done,
 ) -> Result<(), NoMemory>
-    requires { IsInBatch V.is_state V.after V.answer V.part_of V.restored replica.old done.old pos [] requests }
-    ensures { (me : Identity V) (x : Progress) → Serves V.is_state V.after V.answer V.part_of V.restored me → ServesOn me replica.old done.old pos [] requests x → OnOk result (StandsAt me replica.new done.new (close_slot me pos x)) }
+    requires { IsInBatch V.machine replica.old done.old pos [] requests }
+    ensures { (me : Identity V) (x : Progress) → Serves V.machine me → ServesOn me replica.old done.old pos [] requests x → OnOk result (StandsAt me replica.new done.new (close_slot me pos x)) }
 {
     keep_at_interval(replica, alloc, pos)?;
     replica.agreement.exec = pos;
@@ -133,7 +133,7 @@ fn keep_at_interval<V: Service + Drop>(
     requires above { (other : ℕ) → pos ≤ other → parts_at replica.old.keeper.snapshots other ≡ None }
     requires room { length replica.old.keeper.snapshots < 3 }
     ensures writes { OnOk result (WritesShelf replica.old replica.new) }
-    ensures kept { OnOk result (KeepsSnapshot (snapshots_of V.part_of V.restored) pos replica.old replica.new) }
+    ensures kept { OnOk result (KeepsSnapshot (snapshots_of V.machine) pos replica.old replica.new) }
 {
     if !replica.is_at_interval(pos) {
         return Ok(());
@@ -148,8 +148,8 @@ fn at_interval<V: Service + Drop>(
     pos: Pos,
     done: &mut Done,
 ) -> Result<(), NoMemory>
-    requires { IsBehindBatch V.is_state V.after V.answer V.part_of V.restored replica.old done.old pos }
-    ensures { StepsWhere (Serves V.is_state V.after V.answer V.part_of V.restored) (λ me x. JustExecuted me x.history pos) (λ me x. at_interval me pos x) result replica.old done.old replica.new done.new }
+    requires { IsBehindBatch V.machine replica.old done.old pos }
+    ensures { StepsWhere (Serves V.machine) (λ me x. JustExecuted me x.history pos) (λ me x. at_interval me pos x) result replica.old done.old replica.new done.new }
 {
     if replica.is_at_interval(pos) {
         return with_checkpoint(replica, alloc, pos, done);
@@ -165,8 +165,8 @@ fn with_checkpoint<V: Service + Drop>(
     done: &mut Done,
 ) -> Result<(), NoMemory>
     requires interval { (pos % interval replica.old.agreement.shape == 0) ≡ true }
-    requires standing { IsBehindBatch V.is_state V.after V.answer V.part_of V.restored replica.old done.old pos }
-    ensures { StepsWhere (Serves V.is_state V.after V.answer V.part_of V.restored) (λ me x. JustExecuted me x.history pos) (λ me x. with_checkpoint me pos x) result replica.old done.old replica.new done.new }
+    requires standing { IsBehindBatch V.machine replica.old done.old pos }
+    ensures { StepsWhere (Serves V.machine) (λ me x. JustExecuted me x.history pos) (λ me x. with_checkpoint me pos x) result replica.old done.old replica.new done.new }
 {
     if !has_room(replica) {
         return Ok(());

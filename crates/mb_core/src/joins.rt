@@ -25,7 +25,7 @@ pub(crate) fn join<V: Service + Drop>(
     alloc: Global,
     done: &mut Done,
 ) -> Result<(), NoMemory>
-    requires { IsDue V.is_state V.after V.answer V.part_of V.restored replica.old done.old due.Join }
+    requires { IsDue V.machine replica.old done.old due.Join }
     ensures { (me : Identity V) (x : Progress) → CarriesOut me x rules.Join result replica.old done.old replica.new done.new }
 {
     let evidence = join_evidence(replica, alloc)?;

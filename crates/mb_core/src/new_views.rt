@@ -35,7 +35,7 @@ pub(crate) fn announce<V: Service + Drop>(
     alloc: Global,
     done: &mut Done,
 ) -> Result<(), NoMemory>
-    requires { IsDue V.is_state V.after V.answer V.part_of V.restored replica.old done.old due.Announce }
+    requires { IsDue V.machine replica.old done.old due.Announce }
     ensures { (me : Identity V) (x : Progress) (changes : List ViewChangeValue) → CarriesOut me x (rules.Announce changes) result replica.old done.old replica.new done.new }
 {
     let view = replica.view();

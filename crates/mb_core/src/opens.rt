@@ -36,7 +36,7 @@ pub(crate) fn open<V: Service + Drop>(
     alloc: Global,
     done: &mut Done,
 ) -> Result<(), NoMemory>
-    requires { IsDue V.is_state V.after V.answer V.part_of V.restored replica.old done.old due.Open }
+    requires { IsDue V.machine replica.old done.old due.Open }
     ensures { (me : Identity V) (x : Progress) (e : EvidenceValue) (plan : PlanValue) → CarriesOut me x (rules.Open e plan) result replica.old done.old replica.new done.new }
 {
     let view = replica.view();

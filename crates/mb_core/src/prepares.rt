@@ -26,7 +26,7 @@ pub(crate) fn prepare<V: Service + Drop>(
     alloc: Global,
     done: &mut Done,
 ) -> Result<(), NoMemory>
-    requires { IsDue V.is_state V.after V.answer V.part_of V.restored replica.old done.old due.Prepare }
+    requires { IsDue V.machine replica.old done.old due.Prepare }
     ensures { (me : Identity V) (x : Progress) (pos : ℕ) (b : BatchValue) → CarriesOut me x (rules.Prepare pos b) result replica.old done.old replica.new done.new }
 {
     let pos = next_position(replica);

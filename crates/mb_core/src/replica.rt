@@ -48,9 +48,9 @@ impl<V: Service + Drop> Replica<V> {
         service: V,
     ) -> Result<Replica<V>, NoMemory>
         requires { host < host_count shape }
-        ensures stands { (me : Identity V) → Serves V.is_state V.after V.answer V.part_of V.restored me → me.initial ≡ service → IfOk result (λ r. IsHost me r → Represents me r []) }
+        ensures stands { (me : Identity V) → Serves V.machine me → me.initial ≡ service → IfOk result (λ r. IsHost me r → Represents me r []) }
         ensures host { IfOk result (λ r. (r.state.agreement.shape ≡ shape) × (r.state.agreement.host ≡ host) × (r.state.agreement.usig.secret ≡ secret.now)) }
-        ensures rests { IfOk result (λ r. IsAtRest V.is_state V.after V.answer V.part_of V.restored r) }
+        ensures rests { IfOk result (λ r. IsAtRest V.machine r) }
         ensures runs { IfOk result (λ r. r.halted ≡ false) }
     {
         Ok(Replica {
@@ -63,11 +63,11 @@ impl<V: Service + Drop> Replica<V> {
     ///
     /// After `NoMemory` every later call is `Halted`, and only then.
     pub fn step(&mut self, alloc: Global, event: &Event) -> Result<Step, Stop>
-        requires { self.old.halted ≡ false → IsAtRest V.is_state V.after V.answer V.part_of V.restored self.old }
-        ensures stands { (me : Identity V) (d : History) → Serves V.is_state V.after V.answer V.part_of V.restored me → Represents me self.old d → IsWhole d
+        requires { self.old.halted ≡ false → IsAtRest V.machine self.old }
+        ensures stands { (me : Identity V) (d : History) → Serves V.machine me → Represents me self.old d → IsWhole d
             → IfOk result (λ s. IsStep s (transition me d event.now) × StandsBehind me (transition me d event.now) self.new) }
         ensures lengths { IfOk result (λ s. AreMessageLong s.sent) }
-        ensures rests { self.new.halted ≡ false → IsAtRest V.is_state V.after V.answer V.part_of V.restored self.new }
+        ensures rests { self.new.halted ≡ false → IsAtRest V.machine self.new }
         ensures halts { Halts self.old result self.new }
     {
         let told = self.step_told(alloc, event, &None)?;
@@ -87,12 +87,12 @@ impl<V: Service + Drop> Replica<V> {
         event: &Event,
         known: &Option<Digest>,
     ) -> Result<Told, Stop>
-        requires rests { self.old.halted ≡ false → IsAtRest V.is_state V.after V.answer V.part_of V.restored self.old }
+        requires rests { self.old.halted ≡ false → IsAtRest V.machine self.old }
         requires known { KnowsEvent self.old.state.agreement.shape known.now event.now }
-        ensures stands { (me : Identity V) (d : History) → Serves V.is_state V.after V.answer V.part_of V.restored me → Represents me self.old d → IsWhole d
+        ensures stands { (me : Identity V) (d : History) → Serves V.machine me → Represents me self.old d → IsWhole d
             → IfOk result (λ t. IsTold t (transition me d event.now) × StandsBehind me (transition me d event.now) self.new) }
         ensures lengths { IfOk result (λ t. AreOutgoingLong t.sent) }
-        ensures rests { self.new.halted ≡ false → IsAtRest V.is_state V.after V.answer V.part_of V.restored self.new }
+        ensures rests { self.new.halted ≡ false → IsAtRest V.machine self.new }
         ensures halts { Halts self.old result self.new }
     {
         if self.halted {

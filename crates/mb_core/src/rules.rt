@@ -56,8 +56,8 @@ pub(crate) fn run_rules<V: Service + Drop>(
     alloc: Global,
     done: &mut Done,
 ) -> Result<(), NoMemory>
-    requires { IsInStep V.is_state V.after V.answer V.part_of V.restored replica.old done.old }
-    ensures { StepsTo (Serves V.is_state V.after V.answer V.part_of V.restored) (λ me x. run_rules me enough x) result replica.old done.old replica.new done.new }
+    requires { IsInStep V.machine replica.old done.old }
+    ensures { StepsTo (Serves V.machine) (λ me x. run_rules me enough x) result replica.old done.old replica.new done.new }
 {
     for _round in 0..ENOUGH {
         let Some(rule) = next_rule(replica) else {
@@ -74,8 +74,8 @@ fn carry_out<V: Service + Drop>(
     rule: Due,
     done: &mut Done,
 ) -> Result<(), NoMemory>
-    requires { IsDue V.is_state V.after V.answer V.part_of V.restored replica.old done.old rule }
-    ensures { (me : Identity V) (x : Progress) (r : Rule) → Serves V.is_state V.after V.answer V.part_of V.restored me → CarriesNamed me x rule r result replica.old done.old replica.new done.new }
+    requires { IsDue V.machine replica.old done.old rule }
+    ensures { (me : Identity V) (x : Progress) (r : Rule) → Serves V.machine me → CarriesNamed me x rule r result replica.old done.old replica.new done.new }
 {
     match rule {
         Due::ChangeView { view } => change_view(replica, alloc, view, done),

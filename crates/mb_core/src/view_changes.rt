@@ -39,7 +39,7 @@ pub(crate) fn change_view<V: Service + Drop>(
     view: View,
     done: &mut Done,
 ) -> Result<(), NoMemory>
-    requires { IsDue V.is_state V.after V.answer V.part_of V.restored replica.old done.old (due.ChangeView view) }
+    requires { IsDue V.machine replica.old done.old (due.ChangeView view) }
     ensures { (me : Identity V) (x : Progress) → CarriesOut me x (rules.ChangeView view) result replica.old done.old replica.new done.new }
 {
     let message = view_change(replica, alloc, view)?;

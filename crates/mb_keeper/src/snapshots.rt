@@ -61,7 +61,7 @@ pub(crate) fn present_parts<V: Service>(
     service: &V,
     table: &Table,
 ) -> Result<Vec<Items<u8>>, NoMemory>
-    ensures parts { IfOk result (λ v. v.items ≡ parts_of (snapshots_of V.part_of V.restored) (joined service.now table.now)) }
+    ensures parts { IfOk result (λ v. v.items ≡ parts_of (snapshots_of V.machine) (joined service.now table.now)) }
     ensures short { IfOk result (λ v. AreShort v.items) }
 {
     let mut parts = Vec::with_capacity(alloc, usize::from(PART_COUNT))?;

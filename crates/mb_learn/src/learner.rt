@@ -70,7 +70,7 @@ impl<V: Service + Drop> Learner<V> {
         secret: &Key,
         service: V,
     ) -> Result<Learner<V>, NoMemory>
-        ensures { IfOk result (Represents shape secret.now (machine_of V.after V.answer) (snapshots_of V.part_of V.restored) service [] []) }
+        ensures { IfOk result (Represents shape secret.now (machine_of V.machine) (snapshots_of V.machine) service [] []) }
     {
         Ok(Learner {
             heard: Heard::make(alloc, shape, secret)?,
@@ -84,8 +84,8 @@ impl<V: Service + Drop> Learner<V> {
     /// `Differs` comes exactly where f+1 hosts say another digest of the state at an executed multiple of the interval than the learner has there.
     pub fn learn(&mut self, alloc: Global, bytes: &[u8]) -> Result<u64, LearnStop>
         ensures answers { (s : TheShape) (secret : Bytes) (initial : V) (taken : List Bytes) (slots : List TheSlot)
-            → Represents s secret (machine_of V.after V.answer) (snapshots_of V.part_of V.restored) initial taken slots self.old
-            → Answers s secret (machine_of V.after V.answer) (snapshots_of V.part_of V.restored) initial (taken ++ bytes.now ∷ []) slots result self.new }
+            → Represents s secret (machine_of V.machine) (snapshots_of V.machine) initial taken slots self.old
+            → Answers s secret (machine_of V.machine) (snapshots_of V.machine) initial (taken ++ bytes.now ∷ []) slots result self.new }
         ensures halts { Halts self.old result self.new }
     {
         if self.halted {
@@ -103,7 +103,7 @@ impl<V: Service + Drop> Learner<V> {
     /// The executed positions, from 1 on.
     pub fn line(&self) -> &[Slot]
         ensures { (s : TheShape) (secret : Bytes) (initial : V) (taken : List Bytes) (slots : List TheSlot)
-            → Represents s secret (machine_of V.after V.answer) (snapshots_of V.part_of V.restored) initial taken slots self.now → result.now ≡ slots }
+            → Represents s secret (machine_of V.machine) (snapshots_of V.machine) initial taken slots self.now → result.now ≡ slots }
     {
         self.line.slots()
     }
@@ -111,8 +111,8 @@ impl<V: Service + Drop> Learner<V> {
     /// The state digest at the last executed position. The state stays as it is.
     pub fn state(&mut self, alloc: Global) -> Result<Digest, NoMemory>
         ensures digest { (s : TheShape) (secret : Bytes) (initial : V) (taken : List Bytes) (slots : List TheSlot)
-            → Represents s secret (machine_of V.after V.answer) (snapshots_of V.part_of V.restored) initial taken slots self.old
-            → IfOk result (λ d. d ≡ digest_behind s (machine_of V.after V.answer) initial (snapshots_of V.part_of V.restored) slots (length slots)) }
+            → Represents s secret (machine_of V.machine) (snapshots_of V.machine) initial taken slots self.old
+            → IfOk result (λ d. d ≡ digest_behind s (machine_of V.machine) initial (snapshots_of V.machine) slots (length slots)) }
         ensures kept { self.new ≡ self.old }
     {
         self.line.state(alloc)
@@ -126,8 +126,8 @@ impl<V: Service + Drop> Learner<V> {
         ensures halted { self.new.halted ≡ true }
         ensures longer { OnOk result (length self.old.line.slots.items ≤ length self.new.line.slots.items) }
         ensures executed { (s : TheShape) (secret : Bytes) (initial : V) (taken : List Bytes) (lists : ℕ → List Bare) (slots : List TheSlot)
-            → Executed s secret (machine_of V.after V.answer) (snapshots_of V.part_of V.restored) initial taken lists slots self.old.heard self.old.line
-            → OnOk result (ExecutedAll s secret (machine_of V.after V.answer) (snapshots_of V.part_of V.restored) initial taken lists slots self.new.heard self.new.line
+            → Executed s secret (machine_of V.machine) (snapshots_of V.machine) initial taken lists slots self.old.heard self.old.line
+            → OnOk result (ExecutedAll s secret (machine_of V.machine) (snapshots_of V.machine) initial taken lists slots self.new.heard self.new.line
             × ((b : TheBatch) → IsProved s secret taken (length self.new.line.slots.items + 1) b → ⊥)) }
         ensures news { OnOk result (AddsNews self.old.heard self.new.heard) }
     {

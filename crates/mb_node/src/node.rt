@@ -67,13 +67,13 @@ impl Node {
     ) -> Result<bool, ServeStop>
         requires few { self.old.quiets < 2 ^ 64 - 1 }
         requires runs { replica.old.halted ≡ false }
-        requires rests { IsAtRest V.is_state V.after V.answer V.part_of V.restored replica.old }
-        ensures rounds { Rounds V.is_state V.after V.answer V.part_of V.restored self.old self.new replica.old replica.new (L.seen link.old).received (L.seen link.new).received
+        requires rests { IsAtRest V.machine replica.old }
+        ensures rounds { Rounds V.machine self.old self.new replica.old replica.new (L.seen link.old).received (L.seen link.new).received
             (record { written = (K.seen out.old).bytes; sent = (L.seen link.old).sent }) (record { written = (K.seen out.new).bytes; sent = (L.seen link.new).sent }) result }
         ensures alone { IfErr result (λ s. ¬ IsOfDisk s) }
         ensures few { self.new.quiets ≤ self.old.quiets + 1 }
         ensures runs { OnOk result (replica.new.halted ≡ false) }
-        ensures rests { replica.new.halted ≡ false → IsAtRest V.is_state V.after V.answer V.part_of V.restored replica.new }
+        ensures rests { replica.new.halted ≡ false → IsAtRest V.machine replica.new }
         ensures opens { (L.seen link.new).opens ≡ (L.seen link.old).opens }
         ensures link { TellsFaults (L.never_fails link.old) (L.never_fails link.new) (L.seen link.old).faults (L.seen link.new).faults (IsErrOf result ServeStop.LinkFault) }
         ensures sink { TellsFaults (K.never_fails out.old) (K.never_fails out.new) (K.seen out.old).faults (K.seen out.new).faults (IsErrOf result ServeStop.SinkFault) }
@@ -101,13 +101,13 @@ impl Node {
     ) -> Result<bool, ServeStop>
         requires few { self.old.quiets < 2 ^ 64 - 1 }
         requires runs { replica.old.halted ≡ false }
-        requires rests { IsAtRest V.is_state V.after V.answer V.part_of V.restored replica.old }
+        requires rests { IsAtRest V.machine replica.old }
         requires keeps { journal.old.halted ≡ false }
-        ensures rounds { KeptRounds V.is_state V.after V.answer V.part_of V.restored self.old self.new replica.old replica.new journal.old journal.new (D.seen disk.old).moments (D.seen disk.new).moments
+        ensures rounds { KeptRounds V.machine self.old self.new replica.old replica.new journal.old journal.new (D.seen disk.old).moments (D.seen disk.new).moments
             (L.seen link.old).received (L.seen link.new).received (record { written = (K.seen out.old).bytes; sent = (L.seen link.old).sent }) (record { written = (K.seen out.new).bytes; sent = (L.seen link.new).sent }) result }
         ensures few { self.new.quiets ≤ self.old.quiets + 1 }
         ensures runs { OnOk result (replica.new.halted ≡ false) }
-        ensures rests { replica.new.halted ≡ false → IsAtRest V.is_state V.after V.answer V.part_of V.restored replica.new }
+        ensures rests { replica.new.halted ≡ false → IsAtRest V.machine replica.new }
         ensures keeps { OnOk result (journal.new.halted ≡ false) }
         ensures opens { (L.seen link.new).opens ≡ (L.seen link.old).opens }
         ensures link { TellsFaults (L.never_fails link.old) (L.never_fails link.new) (L.seen link.old).faults (L.seen link.new).faults (IsErrOf result ServeStop.LinkFault) }

@@ -30,11 +30,11 @@ pub fn serve<V: Service + Drop, K: Sink, L: Link>(
     events: u64,
 ) -> Result<(), ServeStop>
     requires runs { replica.old.halted ≡ false }
-    requires rests { IsAtRest V.is_state V.after V.answer V.part_of V.restored replica.old }
-    ensures serves { HasServed V.is_state V.after V.answer V.part_of V.restored replica.old replica.new events (L.seen link.old).received (L.seen link.new).received
+    requires rests { IsAtRest V.machine replica.old }
+    ensures serves { HasServed V.machine replica.old replica.new events (L.seen link.old).received (L.seen link.new).received
         (record { written = (K.seen out.old).bytes; sent = (L.seen link.old).sent }) (record { written = (K.seen out.new).bytes; sent = (L.seen link.new).sent }) result }
     ensures alone { IfErr result (λ s. ¬ IsOfDisk s) }
-    ensures rests { replica.new.halted ≡ false → IsAtRest V.is_state V.after V.answer V.part_of V.restored replica.new }
+    ensures rests { replica.new.halted ≡ false → IsAtRest V.machine replica.new }
     ensures opens { (L.seen link.new).opens ≡ (L.seen link.old).opens }
     ensures link { TellsFaults (L.never_fails link.old) (L.never_fails link.new) (L.seen link.old).faults (L.seen link.new).faults (IsErrOf result ServeStop.LinkFault) }
     ensures sink { TellsFaults (K.never_fails out.old) (K.never_fails out.new) (K.seen out.old).faults (K.seen out.new).faults (IsErrOf result ServeStop.SinkFault) }
@@ -63,11 +63,11 @@ pub fn serve_kept<V: Service + Drop, K: Sink, L: Link, D: Disk>(
     receives: u64,
 ) -> Result<(), ServeStop>
     requires runs { replica.old.halted ≡ false }
-    requires rests { IsAtRest V.is_state V.after V.answer V.part_of V.restored replica.old }
+    requires rests { IsAtRest V.machine replica.old }
     requires keeps { journal.old.halted ≡ false }
-    ensures serves { HasServedKept V.is_state V.after V.answer V.part_of V.restored replica.old replica.new journal.old journal.new (D.seen disk.old).moments (D.seen disk.new).moments receives
+    ensures serves { HasServedKept V.machine replica.old replica.new journal.old journal.new (D.seen disk.old).moments (D.seen disk.new).moments receives
         (L.seen link.old).received (L.seen link.new).received (record { written = (K.seen out.old).bytes; sent = (L.seen link.old).sent }) (record { written = (K.seen out.new).bytes; sent = (L.seen link.new).sent }) result }
-    ensures rests { replica.new.halted ≡ false → IsAtRest V.is_state V.after V.answer V.part_of V.restored replica.new }
+    ensures rests { replica.new.halted ≡ false → IsAtRest V.machine replica.new }
     ensures opens { (L.seen link.new).opens ≡ (L.seen link.old).opens }
     ensures link { TellsFaults (L.never_fails link.old) (L.never_fails link.new) (L.seen link.old).faults (L.seen link.new).faults (IsErrOf result ServeStop.LinkFault) }
     ensures sink { TellsFaults (K.never_fails out.old) (K.never_fails out.new) (K.seen out.old).faults (K.seen out.new).faults (IsErrOf result ServeStop.SinkFault) }

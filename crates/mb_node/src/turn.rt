@@ -38,11 +38,11 @@ pub(crate) fn step_of<V: Service + Drop>(
     event: &Event,
 ) -> Result<Step, NoMemory>
     requires runs { replica.old.halted ≡ false }
-    requires rests { IsAtRest V.is_state V.after V.answer V.part_of V.restored replica.old }
-    ensures stands { (me : Identity V) (d : History) → Serves V.is_state V.after V.answer V.part_of V.restored me → Represents me replica.old d → IsWhole d → IfOk result (λ s. Steps me d event.now s replica.new) }
+    requires rests { IsAtRest V.machine replica.old }
+    ensures stands { (me : Identity V) (d : History) → Serves V.machine me → Represents me replica.old d → IsWhole d → IfOk result (λ s. Steps me d event.now s replica.new) }
     ensures messages { IfOk result (λ s. AreMessages s.sent) }
     ensures few { IfOk result (λ s. length s.sent < 2 ^ 32) }
-    ensures rests { replica.new.halted ≡ false → IsAtRest V.is_state V.after V.answer V.part_of V.restored replica.new }
+    ensures rests { replica.new.halted ≡ false → IsAtRest V.machine replica.new }
     ensures runs { OnOk result (replica.new.halted ≡ false) }
 {
     match replica.step(alloc, event) {
@@ -81,14 +81,14 @@ pub(crate) fn take_turn<V: Service + Drop, K: Sink, L: Link>(
     event: Event,
 ) -> Result<Turn, ServeStop>
     requires runs { replica.old.halted ≡ false }
-    requires rests { IsAtRest V.is_state V.after V.answer V.part_of V.restored replica.old }
-    ensures stands { (me : Identity V) (d : History) (n : ℕ) → Serves V.is_state V.after V.answer V.part_of V.restored me → Represents me replica.old d → IsWhole d
+    requires rests { IsAtRest V.machine replica.old }
+    ensures stands { (me : Identity V) (d : History) (n : ℕ) → Serves V.machine me → Represents me replica.old d → IsWhole d
         → outbox.old.hosts ≡ host_count me.shape → outbox.old.host ≡ me.host → outbox.old.number ≡ n % 2 ^ 32
         → Turned me d n event (record { written = (K.seen out.old).bytes; sent = (L.seen link.old).sent }) (record { written = (K.seen out.new).bytes; sent = (L.seen link.new).sent }) replica.new outbox.new result }
     ensures unspent { (n : ℕ) → IsErrOf result (ServeStop.Budget n) → ⊥ }
     ensures alone { IfErr result (λ s. ¬ IsOfDisk s) }
     ensures who { (outbox.new.host ≡ outbox.old.host) × (outbox.new.hosts ≡ outbox.old.hosts) }
-    ensures rests { replica.new.halted ≡ false → IsAtRest V.is_state V.after V.answer V.part_of V.restored replica.new }
+    ensures rests { replica.new.halted ≡ false → IsAtRest V.machine replica.new }
     ensures runs { OnOk result (replica.new.halted ≡ false) }
     ensures received { (L.seen link.new).received ≡ (L.seen link.old).received }
     ensures opens { (L.seen link.new).opens ≡ (L.seen link.old).opens }

@@ -2,6 +2,7 @@
 use Rattle.std.specs.Prelude.{◌≡◌, ℕ, ◌≤◌, Bool, true, false, List, length, map, reverse, Option, Some, None, Result, slice_get}
 use Rattle.mb_base.specs.Shapes.{Bytes}
 use Rattle.mb_base.specs.declared.shape.Shape.{Shape}
+use Rattle.mb_service.specs.Machine.{ServiceMachine}
 use Rattle.mb_msg.specs.declared.event.Event.{Event}
 use Rattle.mb_model.specs.Histories.{History}
 use Rattle.mb_model.specs.Given.{Answer}
@@ -99,5 +100,5 @@ module _ {V : Type 0} (y : System V) where
   StepsAt h e d stamps (Some step) members = MadeStep h (answer_at h e d) d stamps step members
 
 -- Each correct host is between two events.
-abbrev pub AllRest : {V : Type 0} → (V → Type 0) → (V → Bytes → V) → (V → Bytes → Bytes) → (V → ℕ → Bytes) → (List Bytes → Result V (ℕ × ℕ)) → List (Member V) → Type 0
-AllRest is_state after result part restored members = (h : ℕ) (r : Replica _) → slice_get members h ≡ Some (member.Correct r) → IsAtRest is_state after result part restored r
+abbrev pub AllRest : {V : Type 0} → ServiceMachine V → List (Member V) → Type 0
+AllRest machine members = (h : ℕ) (r : Replica _) → slice_get members h ≡ Some (member.Correct r) → IsAtRest machine r

@@ -53,9 +53,9 @@ impl<V: Service + Drop> ReplicaState<V> {
         done: &mut Done,
     ) -> Result<Answer, NoMemory>
         requires fits { FitsFields self.old.agreement.shape message }
-        requires stepping { IsInStep V.is_state V.after V.answer V.part_of V.restored self.old done.old }
+        requires stepping { IsInStep V.machine self.old done.old }
         requires known { KnowsMessage known.now message }
-        ensures { (me : Identity V) (x : Progress) → Serves V.is_state V.after V.answer V.part_of V.restored me → StandsAt me self.old done.old x → Reacts me message (give me message x) result self.new done.new }
+        ensures { (me : Identity V) (x : Progress) → Serves V.machine me → StandsAt me self.old done.old x → Reacts me message (give me message x) result self.new done.new }
     {
         match message {
             Message::Request(m) => Ok(Answer::of(self.give_request(alloc, m, done)?)),
@@ -79,7 +79,7 @@ impl<V: Service + Drop> ReplicaState<V> {
         requires fits { FitsFields self.old.agreement.shape message }
         requires history { HasHistory self.old }
         requires known { KnowsMessage known.now message }
-        ensures { (me : Identity V) (x : Progress) → (done : Done) → Serves V.is_state V.after V.answer V.part_of V.restored me → IsOther message → StandsAt me self.old done x → Reacts me message (give me message x) result self.new done }
+        ensures { (me : Identity V) (x : Progress) → (done : Done) → Serves V.machine me → IsOther message → StandsAt me self.old done x → Reacts me message (give me message x) result self.new done }
     {
         match message.into_stamped() {
             Ok(stamped) => Ok(Answer::of(self.give_stamped(alloc, stamped, known)?)),

@@ -34,7 +34,7 @@ impl<V: Service + Drop> ReplicaState<V> {
     ) -> Result<Outcome, NoMemory>
         requires fits { FitsRequest self.old.agreement.shape request }
         requires history { HasHistory self.old }
-        ensures { AnswersAt (Serves V.is_state V.after V.answer V.part_of V.restored) (λ me x. give_request me request x) result self.old done.old self.new done.new }
+        ensures { AnswersAt (Serves V.machine) (λ me x. give_request me request x) result self.old done.old self.new done.new }
     {
         let number = self.keeper.accept(request.client, request.seq);
         let Some(refusal) = self.request_refusal(alloc, &request, number)? else {

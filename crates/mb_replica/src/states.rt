@@ -35,8 +35,8 @@ impl<V: Service + Drop> ReplicaState<V> {
         done: &mut Done,
     ) -> Result<Answer, NoMemory>
         requires fits { FitsState self.old.agreement.shape m.now }
-        requires standing { IsInStep V.is_state V.after V.answer V.part_of V.restored self.old done.old }
-        ensures { (me : Identity V) (x : Progress) → Serves V.is_state V.after V.answer V.part_of V.restored me → StandsAt me self.old done.old x → Reacts me (message.State m.now) (give_state me m.now x) result self.new done.new }
+        requires standing { IsInStep V.machine self.old done.old }
+        ensures { (me : Identity V) (x : Progress) → Serves V.machine me → StandsAt me self.old done.old x → Reacts me (message.State m.now) (give_state me m.now x) result self.new done.new }
     {
         if !self.is_wanted(m.pos) {
             return Ok(answered(Outcome::Idle));
@@ -53,8 +53,8 @@ impl<V: Service + Drop> ReplicaState<V> {
         requires fits { FitsState self.old.agreement.shape m.now }
         requires stable { m.now.pos ≡ self.old.agreement.stable.pos }
         requires behind { self.old.agreement.exec < self.old.agreement.stable.pos }
-        requires standing { IsInStep V.is_state V.after V.answer V.part_of V.restored self.old done.old }
-        ensures { AnswersAt (Serves V.is_state V.after V.answer V.part_of V.restored) (λ me x. give_state me m.now x) result self.old done.old self.new done.new }
+        requires standing { IsInStep V.machine self.old done.old }
+        ensures { AnswersAt (Serves V.machine) (λ me x. give_state me m.now x) result self.old done.old self.new done.new }
     {
         let certified = self.agreement.stable.state;
         match self.keeper.take_state(alloc, &certified, m)? {

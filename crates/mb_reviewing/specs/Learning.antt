@@ -5,8 +5,7 @@ use Rattle.std.specs.Fmt.{decimal}
 use Rattle.hex.specs.Hex.{encode_lower}
 use Rattle.mb_base.specs.Shapes.{Bytes}
 use Rattle.mb_kv.specs.Pairs.{Pairs}
-use Rattle.mb_kv.specs.Operations.{after, answer}
-use Rattle.mb_kv.specs.Snapshots.{part_of, restored}
+use Rattle.mb_kv.specs.Machine.{kv_machine}
 use Rattle.mb_cache.specs.Represents.{machine_of, snapshots_of}
 use Rattle.mb_model.specs.Service.{Machine}
 use Rattle.mb_model.specs.States.{Snapshots}
@@ -25,10 +24,10 @@ use Rattle.mb_reviewing.specs.Given.{given_in}
 
 -- the key-value service
 abbrev pub machine : Machine Pairs
-machine = machine_of after answer
+machine = machine_of kv_machine
 
 abbrev pub snapshots : Snapshots Pairs
-snapshots = snapshots_of part_of restored
+snapshots = snapshots_of kv_machine
 
 -- ---- what is written
 

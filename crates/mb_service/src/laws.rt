@@ -7,5 +7,5 @@ use crate::service::Service;
 /// Every service can be replicated from each of its states on: wherever operations lead from there, results fit into replies, and the
 /// parts of a state give that state back.
 pub fn services_are_replicable<V: Service>()
-    ensures { (s : V) → V.is_state s → IsReplicable V.after V.answer V.part_of V.restored s }
+    ensures { (s : V) → V.machine.is_state s → IsReplicable V.machine s }
 {}

@@ -21,10 +21,8 @@ use Rattle.mb_edge.specs.Pieces.{AppendsPart}
 use Rattle.mb_edge.proofs.ToldLemmas.{with_more-nil}
 use Rattle.mb_edge.proofs.PieceLemmas.{appended_both}
 use Rattle.mb_kv.specs.Laws.StateLaws.{no_keys_is_state}
-use Rattle.mb_kv.specs.Operations.{after, answer}
+use Rattle.mb_kv.specs.Machine.{kv_machine}
 use Rattle.mb_kv.specs.Pairs.{Pairs}
-use Rattle.mb_kv.specs.Snapshots.{part_of, restored}
-use Rattle.mb_kv.specs.States.{IsState}
 use Rattle.mb_msg.specs.declared.event.Event.{Event}
 use Rattle.mb_node.specs.declared.stops.ServeStop.{ServeStop}
 use Rattle.mb_node.specs.declared.stops.ServeStop.TheVariants as stop
@@ -101,7 +99,7 @@ part_of_head c host text old new same part = subst (λ (t : Bytes). AppendsPart 
 pub whole_head : (c : Config) (host : ℕ) (text : Bytes) (old new : Option Bytes) → text ≡ record_head c host → Appends old new text → Appends old new (record_head c host)
 whole_head c host text old new same all = subst (λ (t : Bytes). Appends old new t) same all
 
-pub kv_serves : (c : Config) (host : ℕ) → Represented.Serves IsState after answer part_of restored (host_of c host)
+pub kv_serves : (c : Config) (host : ℕ) → Represented.Serves kv_machine (host_of c host)
 kv_serves c host = record { machine = refl; snapshots = refl; first = no_keys_is_state }
 
 -- ---- serving behind that

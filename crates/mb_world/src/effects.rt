@@ -62,9 +62,9 @@ impl<V: Service + Drop> World<V> {
         requires few { self.old.events < 2 ^ 64 - 1 }
         requires known { KnowsEvent self.old.shape known.now event.now }
         requires runs { AllRun self.old.members.items }
-        requires has { HasWorld V.is_state V.after V.answer V.part_of V.restored self.old }
+        requires has { HasWorld V.machine self.old }
         requires halted { self.old.halted ≡ true }
-        ensures stands { (y : System V) (x : WorldState) → IsSystem V.is_state V.after V.answer V.part_of V.restored y → RepresentsWorld y self.old x → SendsClean y x host event.now
+        ensures stands { (y : System V) (x : WorldState) → IsSystem V.machine y → RepresentsWorld y self.old x → SendsClean y x host event.now
             → IfOk result (λ a. Leaves y self.new (as_answer a) x (lost_or (is_faulty y.schedule host) (steps y host event.now) x)) }
         ensures runs { OnOk result (AllRun self.new.members.items) }
         ensures halted { self.new.halted ≡ self.old.halted }
@@ -114,9 +114,9 @@ impl<V: Service + Drop> World<V> {
         requires host { host < host_count self.old.shape }
         requires few { self.old.events < 2 ^ 64 - 1 }
         requires runs { AllRun self.old.members.items }
-        requires has { HasWorld V.is_state V.after V.answer V.part_of V.restored self.old }
+        requires has { HasWorld V.machine self.old }
         requires halted { self.old.halted ≡ true }
-        ensures stands { (y : System V) (x : WorldState) → IsSystem V.is_state V.after V.answer V.part_of V.restored y → RepresentsWorld y self.old x → SendsClean y x host event.now
+        ensures stands { (y : System V) (x : WorldState) → IsSystem V.machine y → RepresentsWorld y self.old x → SendsClean y x host event.now
             → IfOk result (λ a. Leaves y self.new (as_answer a) x (signal y host event.now x)) }
         ensures runs { OnOk result (AllRun self.new.members.items) }
         ensures halted { self.new.halted ≡ self.old.halted }
@@ -138,9 +138,9 @@ impl<V: Service + Drop> World<V> {
         requires few { self.old.events < 2 ^ 64 - 1 }
         requires known { KnowsBytes self.old.shape known.now bytes }
         requires runs { AllRun self.old.members.items }
-        requires has { HasWorld V.is_state V.after V.answer V.part_of V.restored self.old }
+        requires has { HasWorld V.machine self.old }
         requires halted { self.old.halted ≡ true }
-        ensures stands { (y : System V) (x : WorldState) → IsSystem V.is_state V.after V.answer V.part_of V.restored y → RepresentsWorld y self.old x → SendsClean y (arrives y.schedule host bytes x) host (Given bytes)
+        ensures stands { (y : System V) (x : WorldState) → IsSystem V.machine y → RepresentsWorld y self.old x → SendsClean y (arrives y.schedule host bytes x) host (Given bytes)
             → IfOk result (λ a. Leaves y self.new (as_answer a) x (give_host y host bytes x)) }
         ensures runs { OnOk result (AllRun self.new.members.items) }
         ensures halted { self.new.halted ≡ self.old.halted }
@@ -155,10 +155,10 @@ impl<V: Service + Drop> World<V> {
         requires host { host < host_count self.old.shape }
         requires few { self.old.events < 2 ^ 64 - 1 }
         requires runs { AllRun self.old.members.items }
-        requires has { HasWorld V.is_state V.after V.answer V.part_of V.restored self.old }
+        requires has { HasWorld V.machine self.old }
         requires halted { self.old.halted ≡ true }
         requires allowed { (y : System V) (x : WorldState) → RepresentsWorld y self.old x → stop_of y.schedule x (Give number host) ≡ None }
-        ensures stands { (y : System V) (x : WorldState) → IsSystem V.is_state V.after V.answer V.part_of V.restored y → IsReached y x → RepresentsWorld y self.old x
+        ensures stands { (y : System V) (x : WorldState) → IsSystem V.machine y → IsReached y x → RepresentsWorld y self.old x
             → IfOk result (λ a. Leaves y self.new (as_answer a) x (with_message (give_host y host) (numbered x.pool number) x)) }
         ensures runs { OnOk result (AllRun self.new.members.items) }
         ensures halted { self.new.halted ≡ self.old.halted }
@@ -233,10 +233,10 @@ impl<V: Service + Drop> World<V> {
         requires name { NameFits self.old.shape name }
         requires few { self.old.events < 2 ^ 64 - 1 }
         requires runs { AllRun self.old.members.items }
-        requires has { HasWorld V.is_state V.after V.answer V.part_of V.restored self.old }
+        requires has { HasWorld V.machine self.old }
         requires halted { self.old.halted ≡ true }
         requires allowed { (y : System V) (x : WorldState) → RepresentsWorld y self.old x → stop_of y.schedule x (Raw name bytes.now) ≡ None }
-        ensures stands { (y : System V) (x : WorldState) → IsSystem V.is_state V.after V.answer V.part_of V.restored y → IsReached y x → RepresentsWorld y self.old x
+        ensures stands { (y : System V) (x : WorldState) → IsSystem V.machine y → IsReached y x → RepresentsWorld y self.old x
             → IfOk result (λ a. Leaves y self.new (as_answer a) x (happens y x (Raw name bytes.now))) }
         ensures runs { OnOk result (AllRun self.new.members.items) }
         ensures halted { self.new.halted ≡ self.old.halted }

@@ -11,11 +11,11 @@ invariant-loop g l =
     let sink = g.K.Sink in
     let disk = g.D.Disk in
     record {
-      so_far : KeptSoFar v.is_state v.after v.answer v.part_of v.restored l.fn.replica l.fn.journal (disk.seen l.fn.disk).moments (link.seen l.fn.link).received (record { written = (sink.seen l.fn.out).bytes; sent = (link.seen l.fn.link).sent })
+      so_far : KeptSoFar v.machine l.fn.replica l.fn.journal (disk.seen l.fn.disk).moments (link.seen l.fn.link).received (record { written = (sink.seen l.fn.out).bytes; sent = (link.seen l.fn.link).sent })
           l.replica l.journal (disk.seen l.disk).moments (link.seen l.link).received (record { written = (sink.seen l.out).bytes; sent = (link.seen l.link).sent }) l.node l.counter;
       few : l.node.quiets ≤ l.counter;
       runs : l.replica.halted ≡ false;
-      rests : IsAtRest v.is_state v.after v.answer v.part_of v.restored l.replica;
+      rests : IsAtRest v.machine l.replica;
       keeps : l.journal.halted ≡ false;
       opens : (link.seen l.link).opens ≡ (link.seen l.fn.link).opens;
       links : Calm (link.seen l.fn.link).faults (link.seen l.link).faults (link.never_fails l.fn.link) (link.never_fails l.link);

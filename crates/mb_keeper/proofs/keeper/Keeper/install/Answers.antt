@@ -15,7 +15,7 @@ use Rattle.mb_keeper.proofs.keeper.Keeper.install.Goals as goal
 pub returns-in_err-restore : goal.returns-in_err-restore
 returns-in_err-restore g c =
     let p = err_from_is_err_and c.from_residual-in_err-restore.result c.from_residual-in_err-restore.ensures.1 in
-    let snapshots = snapshots_of g.V.Service.part_of g.V.Service.restored in
+    let snapshots = snapshots_of g.V.Service.machine in
     let parts = c.args.parts.now in
     let old = c.args.self.now in
     let part = c.index-parts-count.result in
@@ -27,7 +27,7 @@ returns-in_err-restore g c =
 pub returns-in_err-restore-2 : goal.returns-in_err-restore-2
 returns-in_err-restore-2 g c =
     let p = err_from_is_err_and c.from_residual-in_err-restore-2.result c.from_residual-in_err-restore-2.ensures.1 in
-    let snapshots = snapshots_of g.V.Service.part_of g.V.Service.restored in
+    let snapshots = snapshots_of g.V.Service.machine in
     let parts = c.args.parts.now in
     let old = c.args.self.now in
     let part = c.index-parts-count.result in
@@ -41,7 +41,7 @@ returns-in_err-restore-2 g c =
 
 pub returns : goal.returns
 returns g c =
-    let snapshots = snapshots_of g.V.Service.part_of g.V.Service.restored in
+    let snapshots = snapshots_of g.V.Service.machine in
     let parts = c.args.parts.now in
     let old = c.args.self.now in
     let part = c.index-parts-count.result in
