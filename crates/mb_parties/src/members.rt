@@ -10,8 +10,8 @@ ghost use Rattle.mb_replica.specs.Told.{KnowsEvent};
 ghost use Rattle.mb_core.specs.declared.replica.Replica.{Replica};
 ghost use Rattle.mb_parties.specs.declared.members.Member.TheVariants as member;
 ghost use Rattle.mb_schedule.specs.Limits.{is_faulty};
-ghost use Rattle.mb_parties.specs.Hosts.{IsSystem, AreServices};
-ghost use Rattle.mb_parties.specs.Members.{AllRest, AllRun, AreOf, Goes, IsCorrectHost, IsMember, RepresentsMembers, StampedWithin, StepsAt, has_halted, shape_of, stamped_by};
+ghost use Rattle.mb_parties.specs.Hosts.{IsSystem, AreServices, ForSystem};
+ghost use Rattle.mb_parties.specs.Members.{AllRest, AllRun, AreOf, Goes, IsCorrectHost, IsMember, RepresentsMembers, StampedWithin, StepsAt, has_halted, shape_of, stamped_by, MakesStep};
 
 use mb_base::{Digest, Host, Items, Key, NoMemory, Shape};
 use mb_core::{Replica, Stop};
@@ -59,8 +59,7 @@ pub fn new_members<V: Service + Drop>(
 ) -> Result<Vec<Member<V>>, NoMemory>
     requires faulty { length faulty_hosts.now ≡ host_count shape }
     requires services { length services.items ≡ host_count shape }
-    ensures stands { (y : System V) → IsSystem V.machine y → y.schedule.shape ≡ shape → y.schedule.secret ≡ secret.now → y.schedule.faulty_hosts ≡ faulty_hosts.now → AreServices y.initial services.items
-        → IfOk result (λ v. RepresentsMembers y v.items (λ h. []) (λ h. [])) }
+    ensures stands { ForSystem V.machine shape secret.now (λ y. y.schedule.faulty_hosts ≡ faulty_hosts.now → AreServices y.initial services.items → IfOk result (λ v. RepresentsMembers y v.items (λ h. []) (λ h. []))) }
     ensures runs { IfOk result (λ v. AllRun v.items) }
     ensures within { IfOk result (λ v. StampedWithin 0 v.items) }
     ensures of { IfOk result (λ v. AreOf shape v.items) }
@@ -86,8 +85,7 @@ fn new_member<V: Service + Drop>(
     service: V,
 ) -> Result<Member<V>, NoMemory>
     requires { host < host_count shape }
-    ensures stands { (y : System V) → IsSystem V.machine y → y.schedule.shape ≡ shape → y.schedule.secret ≡ secret.now → is_faulty y.schedule host ≡ faulty → service ≡ y.initial
-        → IfOk result (λ m. IsMember y host m [] []) }
+    ensures stands { ForSystem V.machine shape secret.now (λ y. is_faulty y.schedule host ≡ faulty → service ≡ y.initial → IfOk result (λ m. IsMember y host m [] [])) }
     ensures runs { IfOk result (λ m. has_halted m ≡ false) }
     ensures within { IfOk result (λ m. stamped_by m ≤ 0) }
     ensures of { IfOk result (λ m. shape_of shape m ≡ shape) }
@@ -115,8 +113,7 @@ pub fn step_at<V: Service + Drop>(
     requires runs { AllRun members.old.items }
     requires rest { AllRest V.machine members.old.items }
     requires known { (r : Replica V) → slice_get members.old.items host ≡ Some (member.Correct r) → KnowsEvent r.state.agreement.shape known.now event.now }
-    ensures stands { (y : System V) (d : ℕ → History) (stamps : ℕ → List FaultyStamp) → IsSystem V.machine y → host < host_count y.schedule.shape → RepresentsMembers y members.old.items d stamps
-        → IfOk result (λ o. StepsAt y host event.now d stamps o members.new.items) }
+    ensures stands { MakesStep V.machine host event.now members.old.items result members.new.items }
     ensures runs { OnOk result (AllRun members.new.items) }
     ensures within { (n : ℕ) → StampedWithin n members.old.items → StampedWithin n members.new.items }
     ensures of { (n : ShapeRecord) → AreOf n members.old.items → AreOf n members.new.items }

@@ -68,6 +68,7 @@ impl<V: Service + Drop> World<V> {
     ghost use Rattle.mb_world.specs.Answers.{Tells, TellsStop};
     ghost use Rattle.mb_world.specs.Contents.{Gives, Stamps, IsAllowed, found_in, rest_stop};
     ghost use Rattle.mb_world.specs.Tables.{RepresentsWorld};
+    ghost use Rattle.mb_world.specs.Happening.{FromEach, FromEachWith};
 
     /// Whether an event can be, and the content that it has a faulty host stamp, if any. Of several stops the first comes in this order:
     /// `NotFaulty`, `NoSuchMessage`, `WrongKind`, `Forged`, `ForgedTag`.
@@ -294,7 +295,7 @@ impl<V: Service + Drop> World<V> {
     ) -> Result<Option<Stamped>, WorldStop>
         requires host { host < host_count self.now.shape }
         requires view { IsPosition view }
-        ensures stops { (y : System V) (x : WorldState) → RepresentsWorld y self.now x → is_faulty y.schedule host ≡ true → Tells (then_some (not (is_sendable_change y.schedule x host view counter)) (WrongKind counter)) result }
+        ensures stops { FromEach self.now (λ y x. is_faulty y.schedule host ≡ true → Tells (then_some (not (is_sendable_change y.schedule x host view counter)) (WrongKind counter)) result) }
         ensures content { (y : System V) (x : WorldState) → RepresentsWorld y self.now x → is_faulty y.schedule host ≡ true → IfOk result (Gives (Some (change_after y.schedule x host view counter))) }
         ensures fits { IfOk result (λ o. IfSome o (FitsStamped self.now.shape)) }
         ensures runs { (result ≡ Err stop.Halted) → ⊥ }
@@ -359,7 +360,7 @@ impl<V: Service + Drop> World<V> {
     ) -> Result<Option<Stamped>, WorldStop>
         requires name { NameFits self.now.shape name }
         requires few { self.now.events < 2 ^ 64 - 1 }
-        ensures stops { (y : System V) (x : WorldState) → RepresentsWorld y self.now x → Tells (found_in y.schedule x (option_and_then (read y.schedule) (to_correct y.schedule x (is_faulty_name y.schedule name) (numbered x.pool number)))) result }
+        ensures stops { FromEach self.now (λ y x. Tells (found_in y.schedule x (option_and_then (read y.schedule) (to_correct y.schedule x (is_faulty_name y.schedule name) (numbered x.pool number)))) result) }
         ensures none { IfOk result (λ o. o ≡ None) }
         ensures runs { (result ≡ Err stop.Halted) → ⊥ }
     {
@@ -382,7 +383,7 @@ impl<V: Service + Drop> World<V> {
     ) -> Result<Option<Stamped>, WorldStop>
         requires name { NameFits self.now.shape name }
         requires few { self.now.events < 2 ^ 64 - 1 }
-        ensures stops { (y : System V) (x : WorldState) → RepresentsWorld y self.now x → Tells (found_in y.schedule x (option_and_then (read y.schedule) (to_correct y.schedule x (is_faulty_name y.schedule name) (Some bytes.now)))) result }
+        ensures stops { FromEach self.now (λ y x. Tells (found_in y.schedule x (option_and_then (read y.schedule) (to_correct y.schedule x (is_faulty_name y.schedule name) (Some bytes.now)))) result) }
         ensures none { IfOk result (λ o. o ≡ None) }
         ensures runs { (result ≡ Err stop.Halted) → ⊥ }
     {
@@ -426,8 +427,7 @@ impl<V: Service + Drop> World<V> {
     /// The stop of what was found in a message: its first forged certificate, or else a forged tag.
     fn found(&self, claim: Option<ForgedClaim>, tag: bool) -> Result<Option<Stamped>, WorldStop>
         requires { self.now.events < 2 ^ 64 - 1 }
-        ensures stops { (y : System V) (x : WorldState) (m : MessageData) → RepresentsWorld y self.now x → claim ≡ option_map told (forged_claim y.schedule x m) → tag ≡ has_forged_tag y.schedule x m
-            → Tells (found_in y.schedule x (Some m)) result }
+        ensures stops { FromEachWith MessageData self.now (λ y x m. claim ≡ option_map told (forged_claim y.schedule x m) → tag ≡ has_forged_tag y.schedule x m → Tells (found_in y.schedule x (Some m)) result) }
         ensures none { IfOk result (λ o. o ≡ None) }
         ensures runs { (result ≡ Err stop.Halted) → ⊥ }
     {

@@ -30,6 +30,7 @@ impl<V: Service + Drop> World<V> {
     ghost use Rattle.mb_genuine.specs.Reached.{IsReached};
     ghost use Rattle.mb_world.specs.Sent.{SendsClean, SentIsClean};
     ghost use Rattle.mb_world.specs.Tables.{RepresentsRest, RepresentsWorld, HasWorld, Leaves};
+    ghost use Rattle.mb_world.specs.Happening.{FromServing, FromReached, Happens, Enters};
 
     // ---- answers
 
@@ -64,8 +65,7 @@ impl<V: Service + Drop> World<V> {
         requires runs { AllRun self.old.members.items }
         requires has { HasWorld V.machine self.old }
         requires halted { self.old.halted ≡ true }
-        ensures stands { (y : System V) (x : WorldState) → IsSystem V.machine y → RepresentsWorld y self.old x → SendsClean y x host event.now
-            → IfOk result (λ a. Leaves y self.new (as_answer a) x (lost_or (is_faulty y.schedule host) (steps y host event.now) x)) }
+        ensures stands { FromServing V.machine self.old (λ y x. SendsClean y x host event.now → Happens y x (lost_or (is_faulty y.schedule host) (steps y host event.now) x) result self.new) }
         ensures runs { OnOk result (AllRun self.new.members.items) }
         ensures halted { self.new.halted ≡ self.old.halted }
         ensures shape { self.new.shape ≡ self.old.shape }
@@ -82,9 +82,7 @@ impl<V: Service + Drop> World<V> {
         requires host { host < host_count self.old.shape }
         requires few { self.old.events < 2 ^ 64 - 1 }
         requires halted { self.old.halted ≡ true }
-        ensures stands { (y : System V) (x : WorldState) (a : Answer) → RepresentsMembers y self.old.members.items (update x.histories host a.left.history) x.faulty_stamps → RepresentsRest y.schedule self.old x
-            → IsTold told a → FitsWhereStamped y.schedule.shape a.left.sent → is_faulty y.schedule host ≡ false → bares_of a.left.history ≡ reverse (filter_map bare_in a.left.sent) ++ bares_of (x.histories host) → SentIsClean y x host a
-            → IfOk result (λ r. Leaves y self.new (as_answer r) x (stepped y.schedule host a x)) }
+        ensures stands { Enters self.old host told result self.new }
         ensures members { self.new.members ≡ self.old.members }
         ensures halted { self.new.halted ≡ self.old.halted }
         ensures shape { self.new.shape ≡ self.old.shape }
@@ -140,8 +138,7 @@ impl<V: Service + Drop> World<V> {
         requires runs { AllRun self.old.members.items }
         requires has { HasWorld V.machine self.old }
         requires halted { self.old.halted ≡ true }
-        ensures stands { (y : System V) (x : WorldState) → IsSystem V.machine y → RepresentsWorld y self.old x → SendsClean y (arrives y.schedule host bytes x) host (Given bytes)
-            → IfOk result (λ a. Leaves y self.new (as_answer a) x (give_host y host bytes x)) }
+        ensures stands { FromServing V.machine self.old (λ y x. SendsClean y (arrives y.schedule host bytes x) host (Given bytes) → Happens y x (give_host y host bytes x) result self.new) }
         ensures runs { OnOk result (AllRun self.new.members.items) }
         ensures halted { self.new.halted ≡ self.old.halted }
         ensures shape { self.new.shape ≡ self.old.shape }
@@ -158,8 +155,7 @@ impl<V: Service + Drop> World<V> {
         requires has { HasWorld V.machine self.old }
         requires halted { self.old.halted ≡ true }
         requires allowed { (y : System V) (x : WorldState) → RepresentsWorld y self.old x → stop_of y.schedule x (Give number host) ≡ None }
-        ensures stands { (y : System V) (x : WorldState) → IsSystem V.machine y → IsReached y x → RepresentsWorld y self.old x
-            → IfOk result (λ a. Leaves y self.new (as_answer a) x (with_message (give_host y host) (numbered x.pool number) x)) }
+        ensures stands { FromReached V.machine self.old (λ y x. Happens y x (with_message (give_host y host) (numbered x.pool number) x) result self.new) }
         ensures runs { OnOk result (AllRun self.new.members.items) }
         ensures halted { self.new.halted ≡ self.old.halted }
         ensures shape { self.new.shape ≡ self.old.shape }

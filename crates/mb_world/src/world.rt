@@ -72,6 +72,7 @@ impl<V: Service + Drop> World<V> {
     ghost use Rattle.mb_theory.specs.WorldEvents.{culprit};
     ghost use Rattle.mb_genuine.specs.Reached.{IsReached};
     ghost use Rattle.mb_world.specs.Tables.{RepresentsWorld, HasWorld, Leaves, WorldHalts};
+    ghost use Rattle.mb_world.specs.Happening.{MakesWorld};
 
     /// The world before the first event. The lists have a member for each host, each client and each host.
     pub fn make(
@@ -85,8 +86,7 @@ impl<V: Service + Drop> World<V> {
         requires hosts { length faulty_hosts.now ≡ host_count shape }
         requires clients { length faulty_clients.now ≡ client_count shape }
         requires services { length services.items ≡ host_count shape }
-        ensures stands { (y : System V) → IsSystem V.machine y → y.schedule.shape ≡ shape → y.schedule.secret ≡ secret.now → y.schedule.faulty_hosts ≡ faulty_hosts.now → y.schedule.faulty_clients ≡ faulty_clients.now
-            → AreServices y.initial services.items → IfOk result (λ w. RepresentsWorld y w nothing_happened) }
+        ensures stands { MakesWorld V.machine shape secret.now faulty_hosts.now faulty_clients.now services.items result }
         ensures runs { IfOk result (λ w. w.halted ≡ false) }
         ensures none { IfOk result (λ w. w.events ≡ 0) }
         ensures shape { IfOk result (λ w. w.shape ≡ shape) }
