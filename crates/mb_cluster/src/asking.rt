@@ -37,9 +37,10 @@ impl Program {
     ghost use Rattle.mb_parts.specs.Fits.{FitsText};
     ghost use Rattle.mb_edge.specs.Faults.{TellsFaults};
     ghost use Rattle.mb_cluster.specs.Hearing.{Hearing, no_hearing};
-    ghost use Rattle.mb_cluster.specs.Runs.{OpsFit, wire};
-    ghost use Rattle.mb_cluster.specs.Listens.{Listens};
-    ghost use Rattle.mb_cluster.specs.Steps.{ReceivesOne, Awaits, Exchanges, AsksOps};
+    ghost use Rattle.mb_cluster.specs.Runs.{OpsFit, wire_of};
+    ghost use Rattle.mb_cluster.specs.Listens.{Listens, WhereListens};
+    ghost use Rattle.mb_cluster.specs.Steps.{ReceivesOne, Awaits, Exchanges};
+    ghost use Rattle.mb_cluster.specs.Asking.{AsksAll};
 
     /// The program before it asks.
     pub(crate) fn make(
@@ -75,8 +76,7 @@ impl Program {
     ) -> Result<(), ClusterStop>
         requires ops { OpsFit ops.now }
         requires none { self.old.listener.asker.number ≡ 0 }
-        ensures asks { (s : ShapeRecord) (secret : Bytes) (c : Hearing) → Listens s secret self.old.listener c
-            → AsksOps s secret ops.now result c self.old self.new (wire (L.seen link.old).received (L.seen link.old).sent) (wire (L.seen link.new).received (L.seen link.new).sent) (K.seen sink.old).bytes (K.seen sink.new).bytes }
+        ensures asks { AsksAll ops.now result self.old self.new (L.seen link.old) (L.seen link.new) (K.seen sink.old) (K.seen sink.new) }
         ensures hosts { self.new.post.hosts ≡ self.old.post.hosts }
         ensures opens { (L.seen link.new).opens ≡ (L.seen link.old).opens }
         ensures link_faults { TellsFaults (L.never_fails link.old) (L.never_fails link.new) (L.seen link.old).faults (L.seen link.new).faults (IsErrOf result ClusterStop.LinkFault) }
@@ -97,8 +97,7 @@ impl Program {
     ) -> Result<(), ClusterStop>
         requires op { FitsText op.now }
         requires few { self.old.listener.asker.number < 2 ^ 64 - 1 }
-        ensures asks { (s : ShapeRecord) (secret : Bytes) (c : Hearing) → Listens s secret self.old.listener c
-            → AsksOps s secret (op.now ∷ []) result c self.old self.new (wire (L.seen link.old).received (L.seen link.old).sent) (wire (L.seen link.new).received (L.seen link.new).sent) (K.seen sink.old).bytes (K.seen sink.new).bytes }
+        ensures asks { AsksAll (op.now ∷ []) result self.old self.new (L.seen link.old) (L.seen link.new) (K.seen sink.old) (K.seen sink.new) }
         ensures number { OnOk result (self.new.listener.asker.number ≡ self.old.listener.asker.number + 1) }
         ensures turns { self.new.turns ≡ self.old.turns }
         ensures hosts { self.new.post.hosts ≡ self.old.post.hosts }
@@ -120,8 +119,7 @@ impl Program {
     fn exchange<L: Link>(&mut self, op: &[u8], link: &mut L) -> Result<Option<Reply>, Failed>
         requires op { FitsText op.now }
         requires few { self.old.listener.asker.number < 2 ^ 64 - 1 }
-        ensures exchanges { (s : ShapeRecord) (secret : Bytes) (c : Hearing) → Listens s secret self.old.listener c
-            → Exchanges s secret op.now result c self.old self.new (wire (L.seen link.old).received (L.seen link.old).sent) (wire (L.seen link.new).received (L.seen link.new).sent) }
+        ensures exchanges { WhereListens self.old.listener (λ s secret c. Exchanges s secret op.now result c self.old self.new (wire_of (L.seen link.old)) (wire_of (L.seen link.new))) }
         ensures number { OnOk result (self.new.listener.asker.number ≡ self.old.listener.asker.number + 1) }
         ensures turns { self.new.turns ≡ self.old.turns }
         ensures hosts { self.new.post.hosts ≡ self.old.post.hosts }
@@ -141,8 +139,7 @@ impl Program {
     ) -> Result<Option<Reply>, Failed>
         requires some { 1 ≤ length request.now }
         requires short { length request.now ≤ MESSAGE_LIMIT }
-        ensures awaits { (s : ShapeRecord) (secret : Bytes) (c : Hearing) → Listens s secret self.old.listener c → c.asker.waits ≡ true
-            → Awaits s secret request.now result c self.old self.new (wire (L.seen link.old).received (L.seen link.old).sent) (wire (L.seen link.new).received (L.seen link.new).sent) }
+        ensures awaits { WhereListens self.old.listener (λ s secret c. c.asker.waits ≡ true → Awaits s secret request.now result c self.old self.new (wire_of (L.seen link.old)) (wire_of (L.seen link.new))) }
         ensures number { self.new.listener.asker.number ≡ self.old.listener.asker.number }
         ensures turns { self.new.turns ≡ self.old.turns }
         ensures hosts { self.new.post.hosts ≡ self.old.post.hosts }
@@ -163,8 +160,7 @@ impl Program {
     fn receive<L: Link>(&mut self, request: &[u8], link: &mut L) -> Result<Option<Reply>, Failed>
         requires some { 1 ≤ length request.now }
         requires short { length request.now ≤ MESSAGE_LIMIT }
-        ensures receives { (s : ShapeRecord) (secret : Bytes) (c : Hearing) → Listens s secret self.old.listener c
-            → ReceivesOne s secret request.now result c self.old self.new (wire (L.seen link.old).received (L.seen link.old).sent) (wire (L.seen link.new).received (L.seen link.new).sent) }
+        ensures receives { WhereListens self.old.listener (λ s secret c. ReceivesOne s secret request.now result c self.old self.new (wire_of (L.seen link.old)) (wire_of (L.seen link.new))) }
         ensures number { self.new.listener.asker.number ≡ self.old.listener.asker.number }
         ensures turns { self.new.turns ≡ self.old.turns }
         ensures hosts { self.new.post.hosts ≡ self.old.post.hosts }

@@ -5,12 +5,12 @@ ghost use Rattle.mb_base.specs.Shapes.{host_count};
 ghost use Rattle.mb_edge.specs.Faults.{TellsFaults};
 ghost use Rattle.mb_cluster.specs.Hearing.{no_hearing};
 ghost use Rattle.mb_cluster.specs.Listens.{Listens};
-ghost use Rattle.mb_cluster.specs.Nodes.{AreStarted, StartsNodes, RunsNodes, EndsAs, spawned};
+ghost use Rattle.mb_cluster.specs.Nodes.{AreStarted, StartsNodes, RunsNodes, EndsAs, spawned_by};
 ghost use Rattle.mb_cluster.specs.Ends.{EndsWell};
-ghost use Rattle.mb_cluster.specs.Runs.{OpsFit, Asks, Opens, wire};
-ghost use Rattle.mb_cluster.specs.Missing.{EndsByStops, AwaitsEach};
+ghost use Rattle.mb_cluster.specs.Runs.{OpsFit, Asks, Opens, wire_of};
+ghost use Rattle.mb_cluster.specs.Missing.{StopsStarted, AwaitsEach};
 ghost use Rattle.mb_cluster.specs.Plays.{Plays};
-ghost use Rattle.mb_cluster.specs.Order.{GoesInOrder, PlaysInOrder};
+ghost use Rattle.mb_cluster.specs.Order.{RunsInOrder, StartsInOrder};
 
 use crate::asking::Program;
 use crate::nodes::{await_nodes, start_nodes};
@@ -39,20 +39,19 @@ pub fn run_cluster<K: Sink, L: Link, P: Spawner>(
 ) -> Result<(), ClusterStop>
     requires { OpsFit config.now.ops }
     // What is asked and heard, and the results that are written.
-    ensures asks { Asks config.now turns result (wire (L.seen link.old).received (L.seen link.old).sent) (wire (L.seen link.new).received (L.seen link.new).sent) (K.seen sink.old).bytes (K.seen sink.new).bytes }
+    ensures asks { Asks config.now turns result (wire_of (L.seen link.old)) (wire_of (L.seen link.new)) (K.seen sink.old).bytes (K.seen sink.new).bytes }
     ensures opens { Opens config.now result (L.seen link.old).opens (L.seen link.new).opens }
     // The nodes, and how they end.
-    ensures nodes { RunsNodes config.now result (spawned (P.seen spawner.old).starts (P.seen spawner.old).waits) (spawned (P.seen spawner.new).starts (P.seen spawner.new).waits) }
+    ensures nodes { RunsNodes config.now result (spawned_by (P.seen spawner.old)) (spawned_by (P.seen spawner.new)) }
     // No node is started before the link is open, and nothing asked before each node is started.
-    ensures order { GoesInOrder config.now turns (L.seen link.old).opens (L.seen link.new).opens (wire (L.seen link.old).received (L.seen link.old).sent) (wire (L.seen link.new).received (L.seen link.new).sent) (K.seen sink.old).bytes (K.seen sink.new).bytes
-        (spawned (P.seen spawner.old).starts (P.seen spawner.old).waits) (spawned (P.seen spawner.new).starts (P.seen spawner.new).waits) }
+    ensures order { RunsInOrder config.now turns (L.seen link.old) (L.seen link.new) (K.seen sink.old) (K.seen sink.new) (P.seen spawner.old) (P.seen spawner.new) }
     ensures bad_ends { EndsAs result (P.seen spawner.old).bad_ends (P.seen spawner.new).bad_ends }
     ensures well { P.all_end_well spawner.old → EndsWell result }
     // Whatever the answer is: where any node was started no more STOPs are missing than the link failed, and no more waits for the nodes that were started
     // than the spawner failed, unless a send or a wait may be refused memory.
-    ensures stops { L.sends_without_memory → ((P.seen spawner.new).starts ≡ (P.seen spawner.old).starts) ⊎ EndsByStops config.now (L.seen link.old).faults (L.seen link.new).faults (L.seen link.old).sent (L.seen link.new).sent }
+    ensures stops { L.sends_without_memory → StopsStarted config.now (P.seen spawner.old) (P.seen spawner.new) (L.seen link.old) (L.seen link.new) }
     ensures waits { P.waits_without_memory
-        → AwaitsEach config.now (P.seen spawner.old).faults (P.seen spawner.new).faults (spawned (P.seen spawner.old).starts (P.seen spawner.old).waits) (spawned (P.seen spawner.new).starts (P.seen spawner.new).waits) }
+        → AwaitsEach config.now (P.seen spawner.old).faults (P.seen spawner.new).faults (spawned_by (P.seen spawner.old)) (spawned_by (P.seen spawner.new)) }
     // Each device's faults.
     ensures link_faults { TellsFaults (L.never_fails link.old) (L.never_fails link.new) (L.seen link.old).faults (L.seen link.new).faults (IsErrOf result ClusterStop.LinkFault) }
     ensures spawner_faults { TellsFaults (P.never_fails spawner.old) (P.never_fails spawner.new) (P.seen spawner.old).faults (P.seen spawner.new).faults (IsErrOf result ClusterStop.SpawnFault) }
@@ -94,14 +93,13 @@ fn play<K: Sink, L: Link, P: Spawner>(
     requires none { program.old.listener.asker.number ≡ 0 }
     requires childless { children.old.items ≡ [] }
     requires room { host_count config.now.shape ≤ vec_capacity children.old }
-    ensures plays { Plays config.now result program.old program.new (wire (L.seen link.old).received (L.seen link.old).sent) (wire (L.seen link.new).received (L.seen link.new).sent) (K.seen sink.old).bytes (K.seen sink.new).bytes }
+    ensures plays { Plays config.now result program.old program.new (wire_of (L.seen link.old)) (wire_of (L.seen link.new)) (K.seen sink.old).bytes (K.seen sink.new).bytes }
     ensures hosts { program.new.post.hosts ≡ program.old.post.hosts }
     ensures opens { Opens config.now result (L.seen link.old).opens (L.seen link.new).opens }
     ensures starts { StartsNodes config.now result children.new.items (P.seen spawner.old).starts (P.seen spawner.new).starts }
     ensures few { length children.new.items ≤ host_count config.now.shape }
     ensures first { AreStarted config.now (length children.new.items) children.new.items (P.seen spawner.old).starts (P.seen spawner.new).starts }
-    ensures order { PlaysInOrder config.now program.old program.new (L.seen link.old).opens (L.seen link.new).opens (wire (L.seen link.old).received (L.seen link.old).sent) (wire (L.seen link.new).received (L.seen link.new).sent) (K.seen sink.old).bytes (K.seen sink.new).bytes
-        children.new.items (P.seen spawner.old).starts (P.seen spawner.new).starts }
+    ensures order { StartsInOrder config.now program.old program.new (L.seen link.old) (L.seen link.new) (K.seen sink.old) (K.seen sink.new) children.new.items (P.seen spawner.old) (P.seen spawner.new) }
     ensures waits { (P.seen spawner.new).waits ≡ (P.seen spawner.old).waits }
     ensures bad_ends { (P.seen spawner.new).bad_ends ≡ (P.seen spawner.old).bad_ends }
     ensures well { P.all_end_well spawner.old → P.all_end_well spawner.new }

@@ -6,6 +6,7 @@ use Rattle.mb_service.specs.Machine.{ServiceMachine}
 use Rattle.mb_msg.specs.declared.event.Event.{Event}
 use Rattle.mb_model.specs.Histories.{History, Identity}
 use Rattle.mb_steps.proofs.StepArises.{IsWhole}
+use Rattle.mb_edge.specs.Seen.{Device, LinkState, DiskState}
 use Rattle.mb_edge.specs.Told.{with_more}
 use Rattle.mb_edge.specs.Disks.{Moments, WhereTold, LeavesOnly}
 use Rattle.mb_journal.specs.Files.{record_size}
@@ -21,7 +22,7 @@ use Rattle.mb_node.specs.declared.stops.ServeStop.TheVariants as stop
 use Rattle.mb_node.specs.Stops.{IsOfDisk}
 use Rattle.mb_node.specs.Receives.{Receives, ReceiveFits}
 use Rattle.mb_node.specs.Events.{events}
-use Rattle.mb_node.specs.Outside.{Outside}
+use Rattle.mb_node.specs.Outside.{Outside, outside}
 use Rattle.mb_node.specs.Serving.{AreDone, StandsBehind, Ends}
 use Rattle.mb_node.specs.Rounds.{IsServing, GoesOn, IsStopped}
 
@@ -147,3 +148,14 @@ module _ {V : Type 0} (machine : ServiceMachine V) where
     pub of_bytes : AllByRecursion ReceiveFits receives
     pub ends : (me : Identity V) (d : History) → Serves machine me → Represents me old d → IsWhole d
         → Ends me d budget before now new receives ended × EndsKept me d before now new journal journal' told told' (events me d receives) ended
+
+-- ---- of devices
+
+module _ {V : Type 0} (machine : ServiceMachine V) where
+  abbrev pub RoundsKept : Node → Node → Replica V → Replica V → JournalState → JournalState → DiskState → DiskState → LinkState → LinkState → Device → Device → Result Bool ServeStop → Type 0
+  RoundsKept old now r_old r_now journal journal' disk disk' link link' sink sink' result =
+      KeptRounds machine old now r_old r_now journal journal' disk.moments disk'.moments link.received link'.received (outside sink link) (outside sink' link') result
+
+  abbrev pub ServesAndKeeps : Replica V → Replica V → JournalState → JournalState → ℕ → DiskState → DiskState → LinkState → LinkState → Device → Device → Result (Unit {0}) ServeStop → Type 0
+  ServesAndKeeps old new journal journal' budget disk disk' link link' sink sink' ended =
+      HasServedKept machine old new journal journal' disk.moments disk'.moments budget link.received link'.received (outside sink link) (outside sink' link') ended

@@ -6,6 +6,7 @@ use Rattle.mb_service.specs.Machine.{ServiceMachine}
 use Rattle.mb_msg.specs.declared.event.Event.{Event}
 use Rattle.mb_msg.specs.declared.event.Event.TheVariants as event
 use Rattle.mb_model.specs.Histories.{History, Identity}
+use Rattle.mb_edge.specs.Seen.{Device, LinkState}
 use Rattle.mb_edge.specs.Told.{with_more}
 use Rattle.mb_core.specs.declared.replica.Replica.{Replica}
 use Rattle.mb_replica.specs.Represents.{Serves}
@@ -18,7 +19,7 @@ use Rattle.mb_node.specs.Receives.{Receives, ReceiveFits}
 use Rattle.mb_node.specs.Inboxes.{HasReceived}
 use Rattle.mb_node.specs.Events.{patience_limit, quiets, has_stop, events}
 use Rattle.mb_node.specs.Recording.{sent_of}
-use Rattle.mb_node.specs.Outside.{Outside}
+use Rattle.mb_node.specs.Outside.{Outside, outside}
 use Rattle.mb_node.specs.Serving.{AreDone, AreCutOff, EndsByStop, StandsBehind}
 
 -- how many quiets an arrival is
@@ -69,3 +70,8 @@ module _ {V : Type 0} where
   Rounds machine old now r_old r_now told_before told_now here there (Ok stopped) = GoesOn machine old now r_old r_now told_before told_now here there stopped
   Rounds machine old now r_old r_now told_before told_now here there (Err (stop.Budget n)) = ⊥
   Rounds machine old now r_old r_now told_before told_now here there (Err e) = IsStopped machine old r_old r_now told_before told_now here there
+
+-- ---- of devices
+
+abbrev pub RoundsOver : {V : Type 0} → ServiceMachine V → Node → Node → Replica V → Replica V → LinkState → LinkState → Device → Device → Result Bool ServeStop → Type 0
+RoundsOver machine old now r_old r_now link link' sink sink' result = Rounds machine old now r_old r_now link.received link'.received (outside sink link) (outside sink' link') result

@@ -5,8 +5,8 @@ ghost use Rattle.mb_base.specs.Shapes.{host_count};
 ghost use Rattle.mb_core.specs.Represents.{IsAtRest};
 ghost use Rattle.mb_node.specs.Inboxes.{HasReceived};
 ghost use Rattle.mb_edge.specs.Faults.{TellsFaults};
-ghost use Rattle.mb_node.specs.Rounds.{Rounds, event_of, quiets_of};
-ghost use Rattle.mb_node.specs.Keeping.{KeptRounds};
+ghost use Rattle.mb_node.specs.Rounds.{RoundsOver, event_of, quiets_of};
+ghost use Rattle.mb_node.specs.Keeping.{RoundsKept};
 ghost use Rattle.mb_node.specs.Receiving.{ArrivalFits};
 ghost use Rattle.mb_journal.specs.Files.{EventFits};
 ghost use Rattle.mb_node.specs.Stops.{IsOfDisk};
@@ -68,8 +68,7 @@ impl Node {
         requires few { self.old.quiets < 2 ^ 64 - 1 }
         requires runs { replica.old.halted ≡ false }
         requires rests { IsAtRest V.machine replica.old }
-        ensures rounds { Rounds V.machine self.old self.new replica.old replica.new (L.seen link.old).received (L.seen link.new).received
-            (record { written = (K.seen out.old).bytes; sent = (L.seen link.old).sent }) (record { written = (K.seen out.new).bytes; sent = (L.seen link.new).sent }) result }
+        ensures rounds { RoundsOver V.machine self.old self.new replica.old replica.new (L.seen link.old) (L.seen link.new) (K.seen out.old) (K.seen out.new) result }
         ensures alone { IfErr result (λ s. ¬ IsOfDisk s) }
         ensures few { self.new.quiets ≤ self.old.quiets + 1 }
         ensures runs { OnOk result (replica.new.halted ≡ false) }
@@ -103,8 +102,7 @@ impl Node {
         requires runs { replica.old.halted ≡ false }
         requires rests { IsAtRest V.machine replica.old }
         requires keeps { journal.old.halted ≡ false }
-        ensures rounds { KeptRounds V.machine self.old self.new replica.old replica.new journal.old journal.new (D.seen disk.old).moments (D.seen disk.new).moments
-            (L.seen link.old).received (L.seen link.new).received (record { written = (K.seen out.old).bytes; sent = (L.seen link.old).sent }) (record { written = (K.seen out.new).bytes; sent = (L.seen link.new).sent }) result }
+        ensures rounds { RoundsKept V.machine self.old self.new replica.old replica.new journal.old journal.new (D.seen disk.old) (D.seen disk.new) (L.seen link.old) (L.seen link.new) (K.seen out.old) (K.seen out.new) result }
         ensures few { self.new.quiets ≤ self.old.quiets + 1 }
         ensures runs { OnOk result (replica.new.halted ≡ false) }
         ensures rests { replica.new.halted ≡ false → IsAtRest V.machine replica.new }

@@ -3,8 +3,8 @@
 ghost use Rattle.std.specs.Prelude.{◌≡◌, ◌≤◌, false, IfErr, IsErrOf, OnOk};
 ghost use Rattle.mb_core.specs.Represents.{IsAtRest};
 ghost use Rattle.mb_edge.specs.Faults.{TellsFaults};
-ghost use Rattle.mb_node.specs.Serving.{HasServed};
-ghost use Rattle.mb_node.specs.Keeping.{HasServedKept};
+ghost use Rattle.mb_node.specs.Serving.{ServesOver};
+ghost use Rattle.mb_node.specs.Keeping.{ServesAndKeeps};
 ghost use Rattle.mb_node.specs.Stops.{IsOfDisk};
 
 use crate::node::Node;
@@ -31,8 +31,7 @@ pub fn serve<V: Service + Drop, K: Sink, L: Link>(
 ) -> Result<(), ServeStop>
     requires runs { replica.old.halted ≡ false }
     requires rests { IsAtRest V.machine replica.old }
-    ensures serves { HasServed V.machine replica.old replica.new events (L.seen link.old).received (L.seen link.new).received
-        (record { written = (K.seen out.old).bytes; sent = (L.seen link.old).sent }) (record { written = (K.seen out.new).bytes; sent = (L.seen link.new).sent }) result }
+    ensures serves { ServesOver V.machine replica.old replica.new events (L.seen link.old) (L.seen link.new) (K.seen out.old) (K.seen out.new) result }
     ensures alone { IfErr result (λ s. ¬ IsOfDisk s) }
     ensures rests { replica.new.halted ≡ false → IsAtRest V.machine replica.new }
     ensures opens { (L.seen link.new).opens ≡ (L.seen link.old).opens }
@@ -65,8 +64,7 @@ pub fn serve_kept<V: Service + Drop, K: Sink, L: Link, D: Disk>(
     requires runs { replica.old.halted ≡ false }
     requires rests { IsAtRest V.machine replica.old }
     requires keeps { journal.old.halted ≡ false }
-    ensures serves { HasServedKept V.machine replica.old replica.new journal.old journal.new (D.seen disk.old).moments (D.seen disk.new).moments receives
-        (L.seen link.old).received (L.seen link.new).received (record { written = (K.seen out.old).bytes; sent = (L.seen link.old).sent }) (record { written = (K.seen out.new).bytes; sent = (L.seen link.new).sent }) result }
+    ensures serves { ServesAndKeeps V.machine replica.old replica.new journal.old journal.new receives (D.seen disk.old) (D.seen disk.new) (L.seen link.old) (L.seen link.new) (K.seen out.old) (K.seen out.new) result }
     ensures rests { replica.new.halted ≡ false → IsAtRest V.machine replica.new }
     ensures opens { (L.seen link.new).opens ≡ (L.seen link.old).opens }
     ensures link { TellsFaults (L.never_fails link.old) (L.never_fails link.new) (L.seen link.old).faults (L.seen link.new).faults (IsErrOf result ServeStop.LinkFault) }

@@ -10,7 +10,8 @@ ghost use Rattle.mb_node.specs.Events.{is_stopping, is_patience, executes_none};
 ghost use Rattle.mb_node.specs.Messages.{AreMessages};
 ghost use Rattle.mb_edge.specs.Faults.{TellsFaults};
 ghost use Rattle.mb_node.specs.Stops.{IsOfDisk};
-ghost use Rattle.mb_node.specs.Turns.{Steps, Turned};
+ghost use Rattle.mb_node.specs.Outside.{outside};
+ghost use Rattle.mb_node.specs.Turns.{Steps, TakesTurn};
 
 use crate::entries::lines;
 use crate::outbox::Outbox;
@@ -82,9 +83,7 @@ pub(crate) fn take_turn<V: Service + Drop, K: Sink, L: Link>(
 ) -> Result<Turn, ServeStop>
     requires runs { replica.old.halted ≡ false }
     requires rests { IsAtRest V.machine replica.old }
-    ensures stands { (me : Identity V) (d : History) (n : ℕ) → Serves V.machine me → Represents me replica.old d → IsWhole d
-        → outbox.old.hosts ≡ host_count me.shape → outbox.old.host ≡ me.host → outbox.old.number ≡ n % 2 ^ 32
-        → Turned me d n event (record { written = (K.seen out.old).bytes; sent = (L.seen link.old).sent }) (record { written = (K.seen out.new).bytes; sent = (L.seen link.new).sent }) replica.new outbox.new result }
+    ensures stands { TakesTurn V.machine event replica.old outbox.old (outside (K.seen out.old) (L.seen link.old)) (outside (K.seen out.new) (L.seen link.new)) replica.new outbox.new result }
     ensures unspent { (n : ℕ) → IsErrOf result (ServeStop.Budget n) → ⊥ }
     ensures alone { IfErr result (λ s. ¬ IsOfDisk s) }
     ensures who { (outbox.new.host ≡ outbox.old.host) × (outbox.new.hosts ≡ outbox.old.hosts) }

@@ -29,12 +29,12 @@ use Rattle.mb_node.specs.declared.stops.ServeStop.TheVariants as stop
 use Rattle.mb_node.specs.Stops.{link_stop, sink_stop, IsOfDisk}
 use Rattle.mb_node.specs.Receives.{Receives, ReceiveFits}
 use Rattle.mb_node.specs.Sends.{Sends}
-use Rattle.mb_node.specs.Outside.{Outside}
+use Rattle.mb_node.specs.Outside.{Outside, outside}
 use Rattle.mb_node.specs.Serving.{AreDone, AreCutOff, Ends}
 use Rattle.mb_node.specs.Recording.{lines_of}
 use Rattle.mb_sched.specs.declared.configs.Config.{Config}
 use Rattle.mb_sched.specs.Records.{record_head}
-use Rattle.mb_serving.specs.Nodes.{outside, served_status, Fails, Begins, HasListened, events_of, IsWhole, IsServed, IsCutShort, IsUnbegun, headless, unopened, Serves, stopped, exhausted, cut_short, unbegun, HostServes, serves, no_host, Nodes, IsNodeStatus, serving_statuses, node_statuses}
+use Rattle.mb_serving.specs.Nodes.{served_status, Fails, Begins, HasListened, events_of, IsWhole, IsServed, IsCutShort, IsUnbegun, headless, unopened, Serves, stopped, exhausted, cut_short, unbegun, HostServes, serves, no_host, Nodes, IsNodeStatus, serving_statuses, node_statuses}
 use Rattle.mb_serving.specs.Records.{host_of}
 
 module _ (c : Config) (host budget : ℕ) (sink sink' : Device) (link link' : LinkState) (begun : Option Bytes) (head : Appends sink.bytes begun (record_head c host)) (receives : Receives) (heard : HasListened c host link link' receives) where

@@ -10,7 +10,7 @@ ghost use Rattle.mb_sched.specs.Configs.{max_config};
 ghost use Rattle.mb_sched.specs.Records.{entry_text};
 ghost use Rattle.mb_edge.specs.Seen.{device, link_state, disk_state};
 ghost use Rattle.mb_serving.specs.Nodes.{served_status};
-ghost use Rattle.mb_serving.specs.Journals.{IsMade, SparesFile, IsOpened, Makes, MakesBy, ServesBehind, ServesKept, KeptNodes, IsOfWriting, IsServedKept, making_statuses, kept_node_statuses};
+ghost use Rattle.mb_serving.specs.Journals.{IsMade, SparesFile, IsOpened, Makes, MakesBy, ServesMore, ServesKept, KeepsWith, IsOfWriting, KeepsServing, making_statuses, kept_node_statuses};
 
 use crate::node::{begin, served_status};
 use mb_answer::{
@@ -141,7 +141,7 @@ fn run_kept<K: Sink, L: Link, D: Disk>(
 ) -> Result<(), ServeStop>
     requires host { host < host_count config.now.shape }
     requires runs { opened.journal.halted ≡ false }
-    ensures serves { ServesBehind config.now host opened.events.items opened.journal events (served_status result) (K.seen sink.old) (K.seen sink.new)
+    ensures serves { ServesMore config.now host opened.events.items opened.journal events (served_status result) (K.seen sink.old) (K.seen sink.new)
         (L.seen link.old) (L.seen link.new) (D.seen disk.old) (D.seen disk.new) }
     ensures sink { TellsFaults (K.never_fails sink.old) (K.never_fails sink.new) (K.seen sink.old).faults (K.seen sink.new).faults (IsErrOf result ServeStop.SinkFault) }
     ensures link { TellsFaults (L.never_fails link.old) (L.never_fails link.new) (L.seen link.old).faults (L.seen link.new).faults (IsErrOf result ServeStop.LinkFault) }
@@ -202,11 +202,8 @@ pub fn kept_node<S: Source, K: Sink, L: Link, D: Disk>(
     link: &mut L,
     disk: &mut D,
 ) -> u8
-    ensures told { IfSome (S.seen source.old).bytes (λ text. KeptNodes text host events result (S.seen source.old) (S.seen source.new)
-        (K.seen sink.old) (K.seen sink.new)
-        (L.seen link.old) (L.seen link.new) (D.seen disk.old) (D.seen disk.new)) }
-    ensures complete { IfSome (S.seen source.old).bytes (λ text. IsServedKept text host result (D.seen disk.old) (Rose (S.seen source.old).faults (S.seen source.new).faults
-        ⊎ (Rose (K.seen sink.old).faults (K.seen sink.new).faults ⊎ (Rose (L.seen link.old).faults (L.seen link.new).faults ⊎ Rose (D.seen disk.old).faults (D.seen disk.new).faults)))) }
+    ensures told { KeepsWith host events result (S.seen source.old) (S.seen source.new) (K.seen sink.old) (K.seen sink.new) (L.seen link.old) (L.seen link.new) (D.seen disk.old) (D.seen disk.new) }
+    ensures complete { KeepsServing host result (S.seen source.old) (S.seen source.new) (K.seen sink.old) (K.seen sink.new) (L.seen link.old) (L.seen link.new) (D.seen disk.old) (D.seen disk.new) }
     ensures ended { result ≡ 0 → IsAtEnd (S.seen source.new).bytes }
     ensures limit { ConsumesBetween 0 (max_config + 1) (S.seen source.old).bytes (S.seen source.new).bytes }
     ensures statuses { Contains kept_node_statuses result }
