@@ -1,6 +1,7 @@
 -- What the calls of rules and events do, in the words of the definitions: where a replica stands before a call and behind it.
 use Rattle.std.specs.Prelude.{◌≡◌, ℕ, ◌≤◌, ◌%◌, ◌==◌, true, Bool, List, [], ◌∷◌, ◌++◌, Some, Result, OnOk, IfOk}
 use Rattle.mb_base.specs.Shapes.{Bytes, interval}
+use Rattle.mb_service.specs.Machine.{ServiceMachine}
 use Rattle.mb_parts.specs.declared.request.Request.{Request}
 use Rattle.mb_msg.specs.declared.event.Outcome.{Outcome}
 use Rattle.mb_msg.specs.declared.event.Placed.{Placed}
@@ -19,7 +20,7 @@ use Rattle.mb_searches.specs.Sound.{IsSound}
 use Rattle.mb_standing.specs.Stands.{GatesStand}
 use Rattle.mb_replica.specs.declared.state.ReplicaState.{ReplicaState}
 use Rattle.mb_replica.specs.declared.sending.Done.{Done}
-use Rattle.mb_replica.specs.Represents.{IsHost, StandsServing, StandsAt}
+use Rattle.mb_replica.specs.Represents.{IsHost, Serves, StandsServing, StandsAt}
 use Rattle.mb_core.specs.declared.rules.Due.{Due}
 use Rattle.mb_core.specs.Due.{IsNamed}
 use Rattle.mb_core.specs.Serving.{ServesOn, KeepsWhere}
@@ -46,9 +47,9 @@ module _ {V : Type 0} where
   abbrev pub ServesAll : {E : Type 0} → Identity V → Progress → ℕ → List Request → Result (List Placed) E → ReplicaState V → Done → ReplicaState V → Done → Type 0
   ServesAll me x pos requests result old done new more = ServesOn me old done pos requests [] x → IfOk result (λ served. ServesOn me new more pos [] served (serve_all me pos requests x))
 
-  -- The next one is, and the call tells whether it is fresh.
-  abbrev pub ServesOne : {E : Type 0} → Identity V → Progress → ℕ → Request → List Request → List Placed → Result Bool E → ReplicaState V → Done → ReplicaState V → Done → Type 0
-  ServesOne me x pos r rest served result old done new more = ServesOn me old done pos (r ∷ rest) served x
+  -- The next one is, whichever are served and left, and the call tells whether it is fresh.
+  abbrev pub ServesOne : {E : Type 0} → ServiceMachine V → Identity V → Progress → ℕ → Request → Result Bool E → ReplicaState V → Done → ReplicaState V → Done → Type 0
+  ServesOne machine me x pos r result old done new more = (rest : List Request) (served : List Placed) → Serves machine me → ServesOn me old done pos (r ∷ rest) served x
       → IfOk result (λ fresh. ServesOn me new more pos rest (served ++ (record { request = r; fresh = fresh }) ∷ []) (serve me pos r x))
 
   -- A fresh request is answered to its client, whose table has a reply then.

@@ -79,7 +79,7 @@ fn serve<V: Service + Drop>(
     done: &mut Done,
 ) -> Result<bool, NoMemory>
     requires { (more : List RequestValue) × ((served : List PlacedValue) × IsInBatch V.machine replica.old done.old pos (request.now ∷ more) served) }
-    ensures { (me : Identity V) (x : Progress) (more : List RequestValue) (served : List PlacedValue) → Serves V.machine me → ServesOne me x pos request.now more served result replica.old done.old replica.new done.new }
+    ensures { (me : Identity V) (x : Progress) → ServesOne V.machine me x pos request.now result replica.old done.old replica.new done.new }
 {
     let fresh = replica.keeper.execute(alloc, pos, request)?;
     replica.agreement.normal.settle(request.client, request.seq);

@@ -11,7 +11,7 @@ ghost use Rattle.mb_steps.proofs.StepArises.{IsWhole};
 ghost use Rattle.mb_core.specs.Halting.{Halts};
 ghost use Rattle.mb_replica.specs.Lengths.{AreMessageLong, AreOutgoingLong};
 ghost use Rattle.mb_replica.specs.Represents.{Serves, IsStep, IsTold};
-ghost use Rattle.mb_core.specs.Represents.{Represents, IsHost, IsAtRest, StandsBehind};
+ghost use Rattle.mb_core.specs.Represents.{Represents, IsHost, IsAtRest, StepsAs};
 ghost use Rattle.mb_replica.specs.Told.{KnowsEvent};
 ghost use Rattle.mb_replica.specs.Waiting.{wants};
 
@@ -64,8 +64,7 @@ impl<V: Service + Drop> Replica<V> {
     /// After `NoMemory` every later call is `Halted`, and only then.
     pub fn step(&mut self, alloc: Global, event: &Event) -> Result<Step, Stop>
         requires { self.old.halted ≡ false → IsAtRest V.machine self.old }
-        ensures stands { (me : Identity V) (d : History) → Serves V.machine me → Represents me self.old d → IsWhole d
-            → IfOk result (λ s. IsStep s (transition me d event.now) × StandsBehind me (transition me d event.now) self.new) }
+        ensures stands { StepsAs V.machine event.now IsStep self.old result self.new }
         ensures lengths { IfOk result (λ s. AreMessageLong s.sent) }
         ensures rests { self.new.halted ≡ false → IsAtRest V.machine self.new }
         ensures halts { Halts self.old result self.new }
@@ -89,8 +88,7 @@ impl<V: Service + Drop> Replica<V> {
     ) -> Result<Told, Stop>
         requires rests { self.old.halted ≡ false → IsAtRest V.machine self.old }
         requires known { KnowsEvent self.old.state.agreement.shape known.now event.now }
-        ensures stands { (me : Identity V) (d : History) → Serves V.machine me → Represents me self.old d → IsWhole d
-            → IfOk result (λ t. IsTold t (transition me d event.now) × StandsBehind me (transition me d event.now) self.new) }
+        ensures stands { StepsAs V.machine event.now IsTold self.old result self.new }
         ensures lengths { IfOk result (λ t. AreOutgoingLong t.sent) }
         ensures rests { self.new.halted ≡ false → IsAtRest V.machine self.new }
         ensures halts { Halts self.old result self.new }

@@ -61,7 +61,7 @@ impl<V: Service + Drop> Learner<V> {
     ghost use Rattle.mb_learn.specs.Halting.{Halts};
     ghost use Rattle.mb_learn.specs.Hearing.{AddsNews};
     ghost use Rattle.mb_learn.specs.Proved.{digest_behind, IsProved};
-    ghost use Rattle.mb_learn.specs.Learners.{Represents, Answers, Executed, ExecutedAll, Compared};
+    ghost use Rattle.mb_learn.specs.Learners.{Represents, Answers, WhereLearnt, ExecutesProved, Compared};
 
     /// A learner that took nothing yet. The service is the one from which the hosts of the system start.
     pub fn make(
@@ -83,9 +83,7 @@ impl<V: Service + Drop> Learner<V> {
     ///
     /// `Differs` comes exactly where f+1 hosts say another digest of the state at an executed multiple of the interval than the learner has there.
     pub fn learn(&mut self, alloc: Global, bytes: &[u8]) -> Result<u64, LearnStop>
-        ensures answers { (s : TheShape) (secret : Bytes) (initial : V) (taken : List Bytes) (slots : List TheSlot)
-            → Represents s secret (machine_of V.machine) (snapshots_of V.machine) initial taken slots self.old
-            → Answers s secret (machine_of V.machine) (snapshots_of V.machine) initial (taken ++ bytes.now ∷ []) slots result self.new }
+        ensures answers { WhereLearnt V.machine self.old (λ s secret initial taken slots. Answers s secret (machine_of V.machine) (snapshots_of V.machine) initial (taken ++ bytes.now ∷ []) slots result self.new) }
         ensures halts { Halts self.old result self.new }
     {
         if self.halted {
@@ -102,17 +100,14 @@ impl<V: Service + Drop> Learner<V> {
 
     /// The executed positions, from 1 on.
     pub fn line(&self) -> &[Slot]
-        ensures { (s : TheShape) (secret : Bytes) (initial : V) (taken : List Bytes) (slots : List TheSlot)
-            → Represents s secret (machine_of V.machine) (snapshots_of V.machine) initial taken slots self.now → result.now ≡ slots }
+        ensures { WhereLearnt V.machine self.now (λ s secret initial taken slots. result.now ≡ slots) }
     {
         self.line.slots()
     }
 
     /// The state digest at the last executed position. The state stays as it is.
     pub fn state(&mut self, alloc: Global) -> Result<Digest, NoMemory>
-        ensures digest { (s : TheShape) (secret : Bytes) (initial : V) (taken : List Bytes) (slots : List TheSlot)
-            → Represents s secret (machine_of V.machine) (snapshots_of V.machine) initial taken slots self.old
-            → IfOk result (λ d. d ≡ digest_behind s (machine_of V.machine) initial (snapshots_of V.machine) slots (length slots)) }
+        ensures digest { WhereLearnt V.machine self.old (λ s secret initial taken slots. IfOk result (λ d. d ≡ digest_behind s (machine_of V.machine) initial (snapshots_of V.machine) slots (length slots))) }
         ensures kept { self.new ≡ self.old }
     {
         self.line.state(alloc)
@@ -125,10 +120,7 @@ impl<V: Service + Drop> Learner<V> {
         ensures running { OnOk result (IsRunning self.new.heard self.new.line) }
         ensures halted { self.new.halted ≡ true }
         ensures longer { OnOk result (length self.old.line.slots.items ≤ length self.new.line.slots.items) }
-        ensures executed { (s : TheShape) (secret : Bytes) (initial : V) (taken : List Bytes) (lists : ℕ → List Bare) (slots : List TheSlot)
-            → Executed s secret (machine_of V.machine) (snapshots_of V.machine) initial taken lists slots self.old.heard self.old.line
-            → OnOk result (ExecutedAll s secret (machine_of V.machine) (snapshots_of V.machine) initial taken lists slots self.new.heard self.new.line
-            × ((b : TheBatch) → IsProved s secret taken (length self.new.line.slots.items + 1) b → ⊥)) }
+        ensures executed { ExecutesProved V.machine self.old result self.new }
         ensures news { OnOk result (AddsNews self.old.heard self.new.heard) }
     {
         while let Some(batch) = self.heard.proved() {

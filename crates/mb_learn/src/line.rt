@@ -27,7 +27,7 @@ impl<V: Service + Drop> Line<V> {
     ghost use Rattle.mb_msg.specs.declared.event.Slot.{Slot as TheSlot};
     ghost use Rattle.mb_model.specs.Service.{served, served_each};
     ghost use Rattle.mb_cache.specs.Represents.{machine_of, snapshots_of, joined};
-    ghost use Rattle.mb_learn.specs.Executed.{Executes, ExecutesToo, KeepsSlots, NotesState, state_in, state_now, with_mark, placed_all};
+    ghost use Rattle.mb_learn.specs.Executed.{Executes, WhereExecutes, ExecutesToo, KeepsSlots, NotesState, state_in, state_now, with_mark, placed_all};
     ghost use Rattle.mb_learn.specs.Proved.{digest_behind};
 
     /// Nothing is executed.
@@ -72,8 +72,7 @@ impl<V: Service + Drop> Line<V> {
         requires fits { FitsBatch self.old.shape batch.now }
         requires clients { length self.old.table ≡ client_count self.old.shape }
         requires place { length self.old.slots.items + 1 < 2 ^ 63 }
-        ensures executes { (s : TheShape) (initial : V) (slots : List TheSlot) → Executes s (machine_of V.machine) initial (snapshots_of V.machine) slots self.old
-            → OnOk result (ExecutesToo s (machine_of V.machine) initial (snapshots_of V.machine) slots batch.now self.new) }
+        ensures executes { WhereExecutes V.machine self.old (λ s initial slots. OnOk result (ExecutesToo s (machine_of V.machine) initial (snapshots_of V.machine) slots batch.now self.new)) }
         ensures rest { OnOk result ((self.new.shape ≡ self.old.shape) × (length self.new.table ≡ length self.old.table) × (length self.new.slots.items ≡ length self.old.slots.items + 1)) }
     {
         let pos = self.executed() + 1;
