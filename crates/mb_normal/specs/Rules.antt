@@ -29,6 +29,12 @@ module _ (s : Shape) (x : Searches) where
   abbrev pub in_window : ℕ → Bool
   in_window p = nat_lt x.low p && (nat_le p (x.low + span s) && nat_le p position_limit)
 
+  -- There is a request to order at the position behind this one, which is in the window and not too far ahead of the executed ones; and there is
+  -- room for the vote.
+  abbrev pub may_prepare : ℕ → Floor → ℕ → Bool → Bool
+  may_prepare host at exec room =
+      (host == primary s at.view) && (in_window (at.last + 1) && (nat_lt at.last (exec + ahead_limit) && (room && is_some (first_batch (unordered s x)))))
+
   abbrev pub if_committed : ℕ → Option KnownSlot → Option Rule
   if_committed pos None = None
   if_committed pos (Some k) = rule_where (has_quorum pos k) (option_map (Execute pos) k.batch)

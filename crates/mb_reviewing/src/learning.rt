@@ -13,7 +13,7 @@ ghost use Rattle.mb_msg.specs.declared.event.Slot.{Slot as TheSlot};
 ghost use Rattle.mb_sched.specs.declared.records.Record.{Record as TheRecord};
 ghost use Rattle.mb_audit.specs.Stamps.{texts};
 ghost use Rattle.mb_learn.specs.Learners.{Represents};
-ghost use Rattle.mb_reviewing.specs.Learning.{machine, snapshots, state_behind, learnt_text, differs_text, LearnsAll, AnswersLearn, LearnsFrom, learn_statuses, learn_findings};
+ghost use Rattle.mb_reviewing.specs.Learning.{machine, snapshots, state_behind, learnt_text, differs_text, LearnsAll, AnswersLearn, LearnsFrom, learn_statuses, learn_findings, TellsLearnt};
 
 use crate::given::given_in;
 use mb_answer::{Answer, DIFFERS, DONE, refusal, respond, tell_unread};
@@ -27,8 +27,7 @@ use std::alloc::Global;
 
 /// The history that was learnt: a line for each request, and the state behind them.
 fn learnt(alloc: Global, learner: &mut Learner<Kv>) -> Result<Answer, NoMemory>
-    ensures { (r : TheRecord) (given : List Bytes) (slots : List TheSlot) → Represents r.config.shape r.config.secret machine snapshots [] given slots learner.old
-        → IfOk result (λ a. (a.status ≡ 0) × (a.text.items ≡ learnt_text slots (state_behind r slots (length slots)))) }
+    ensures { (r : TheRecord) → TellsLearnt r learner.old result }
 {
     let state = learner.state(alloc)?;
     let state = hex::encode(alloc, state.as_slice())?;
