@@ -106,4 +106,4 @@ module _ {S : Type 0} (self : Identity S) where
 
   -- Where none is missing, each part is held.
   pub each_held : (d : History) → missing self d ≡ None → (i : ℕ) → i < part_count → (b : Bytes) × (part_held self d i ≡ Some b)
-  each_held d none i lt = some_there (part_held self d i) (let s : 0 + i ≡ i = omega arith in subst (λ (k : ℕ). is_none (part_held self d k) ≡ false) s (none_in_range (λ j. is_none (part_held self d j)) 0 65 none i lt))
+  each_held d none i lt = some_there (part_held self d i) (let s : 0 + i ≡ i = omega arith in subst (λ (k : ℕ). is_none (part_held self d k) ≡ false) s (none_in_range (λ j. is_none (part_held self d j)) 0 part_count none i lt))

@@ -13,7 +13,7 @@ use Rattle.std.proofs.lemmas.List.Sums.{count_by-le-length}
 use Rattle.hex.specs.Hex.{decode_of, decode_sized, decode_pairs, pair_value, ◌>>=◌ as ◌>>>=◌}
 use Rattle.hex.specs.declared.error.FromHexError.{FromHexError}
 use Rattle.hex.specs.declared.error.FromHexError.TheVariants.{OddLength, InvalidStringLength}
-use Rattle.mb_base.specs.Limits.{batch_limit, text_limit}
+use Rattle.mb_base.specs.Limits.{batch_limit, text_limit, most_faults, least_interval, most_interval, most_clients}
 use Rattle.mb_base.specs.Shapes.{Bytes, is_within, max_faults, host_count, client_count, tally}
 use Rattle.mb_base.specs.declared.shape.Shape.{Shape}
 use Rattle.mb_parts.specs.Fits.{IsCounter, IsPlace, IsPosition, IsDigest}
@@ -437,9 +437,9 @@ header_fits : (title faults interval count key names : Option Bytes) (h : Header
 unfolding header_by
 header_fits title faults interval count key names h e =
     let t = bind_ok (read_line 1 (exact_line (codes "minbft schedule 2")) title) _ h e in
-    let f = bind_ok (read_line 2 (keyword_line (codes "f") (number_in 1 3)) faults) _ h t.2 in
-    let k = bind_ok (read_line 3 (keyword_line (codes "k") (number_in 4 32)) interval) _ h f.2 in
-    let clients = bind_ok (read_line 4 (keyword_line (codes "clients") (number_in 1 64)) count) _ h k.2 in
+    let f = bind_ok (read_line 2 (keyword_line (codes "f") (number_in 1 most_faults)) faults) _ h t.2 in
+    let k = bind_ok (read_line 3 (keyword_line (codes "k") (number_in least_interval most_interval)) interval) _ h f.2 in
+    let clients = bind_ok (read_line 4 (keyword_line (codes "clients") (number_in 1 most_clients)) count) _ h k.2 in
     let secret = bind_ok (read_line 5 (keyword_line (codes "secret") digest_of) key) _ h clients.2 in
     let faulty = bind_ok (read_line 6 (faulty_line f.0 clients.0) names) _ h secret.2 in
     let text = read_ok 6 (faulty_line f.0 clients.0) names faulty.0 faulty.1 in

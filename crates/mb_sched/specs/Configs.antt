@@ -10,7 +10,7 @@ use Rattle.mb_sched.specs.Lines.{lines, is_ended, ◌>>=◌}
 use Rattle.mb_sched.specs.Printing.{hex_word}
 use Rattle.mb_sched.specs.ScheduleText.{line_text}
 use Rattle.mb_sched.specs.TextLines.{keyword_line, all_lines}
-use Rattle.mb_sched.specs.Settings.{SettingsContents, settings_of, settings_text}
+use Rattle.mb_sched.specs.Settings.{SettingsContents, settings_of, settings_text, least_port, most_port}
 
 -- the most bytes that the text of a config may have
 abbrev pub max_config : ℕ
@@ -61,7 +61,7 @@ config_text c = codes "minbft config 2\n" ++ (settings_text c.shape c.secret c.p
 pub record SettingsFit (c : Config) : Type 0 where
   pub secret_length : length c.secret ≡ 32
   pub secret_bytes : IsBytes c.secret
-  pub port : (1024 ≤ c.port) × (c.port ≤ 60000)
+  pub port : (least_port ≤ c.port) × (c.port ≤ most_port)
 
 -- the config keeps the limits of the grammar: so do its settings, and each operation has at most 1,024 bytes
 pub record ConfigFits (c : Config) : Type 0 where

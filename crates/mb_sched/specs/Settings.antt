@@ -11,6 +11,13 @@ use Rattle.mb_sched.specs.Lines.{◌>>=◌, read_line}
 use Rattle.mb_sched.specs.ScheduleText.{line_text}
 use Rattle.mb_sched.specs.TextLines.{exact_line, keyword_line}
 
+-- the lowest and the highest port that a config may name
+abbrev pub least_port : ℕ
+least_port = 1024
+
+abbrev pub most_port : ℕ
+most_port = 60000
+
 -- what the lines behind the title say
 pub record SettingsContents : Type 0 where
   pub f : ℕ
@@ -27,7 +34,7 @@ settings_by title first faults interval count key socket = do
   k ← read_line 3 (keyword_line (codes "k") (number_in least_interval most_interval)) interval
   clients ← read_line 4 (keyword_line (codes "clients") (number_in 1 most_clients)) count
   secret ← read_line 5 (keyword_line (codes "secret") digest_of) key
-  port ← read_line 6 (keyword_line (codes "port") (number_in 1024 60000)) socket
+  port ← read_line 6 (keyword_line (codes "port") (number_in least_port most_port)) socket
   Ok (record { f = f; k = k; clients = clients; secret = secret; port = port })
 
 -- the settings of a text with this title, of which these are the lines

@@ -4,7 +4,7 @@ use Rattle.std.specs.Prelude.{◌==◌, nat_lt, nat_le, option_map, option_and_t
 use Rattle.std.specs.List.{list_any}
 use Rattle.std.proofs.lemmas.Bool.{and_parts, cases_Bool, eqb-true, eq-eqb, eqb-false, ltb-true, ltb-false, leb-true, leb-false, lt-ltb, le-leb}
 use Rattle.std.proofs.lemmas.List.Sums.{sum_by-cons}
-use Rattle.mb_base.specs.Limits.{other_limit}
+use Rattle.mb_base.specs.Limits.{other_limit, plan_limit}
 use Rattle.mb_base.specs.Shapes.{IsShape, tally, host_count, max_faults, quorum, primary}
 use Rattle.mb_base.specs.declared.names.Ui.{Ui}
 use Rattle.mb_parts.specs.declared.floor.Floor.{Floor}
@@ -204,9 +204,9 @@ module _ {S : Type 0} (self : Identity S) where
 
   -- ---- the potential is small
 
-  few_ahead : IsShape self.shape → (d : History) → ahead self d ≤ 64
+  few_ahead : IsShape self.shape → (d : History) → ahead self d ≤ plan_limit
   few_ahead k d = at_most (nat_lt (exec_of d) (low_of self d)) refl where
-    at_most : (t : Bool) → nat_lt (exec_of d) (low_of self d) ≡ t → (if t then 0 else reach self d - exec_of d) ≤ 64
+    at_most : (t : Bool) → nat_lt (exec_of d) (low_of self d) ≡ t → (if t then 0 else reach self d - exec_of d) ≤ plan_limit
     at_most true e = omega arith
     at_most false e = omega (arith, k.intervals.1, ltb-false (exec_of d) (low_of self d) e, reach_within self d)
 
