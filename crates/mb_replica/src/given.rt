@@ -20,7 +20,6 @@ pub struct Answer {
 impl Answer {
     ghost use Rattle.std.specs.Prelude.{◌≡◌, false};
     ghost use Rattle.mb_replica.specs.Answers.{is_taken};
-    ghost use Rattle.mb_replica.specs.Steps.{Reacts};
 
     /// That of a message other than LOG and STATE, or of lost patience.
     pub fn of(outcome: Outcome) -> Answer
@@ -43,6 +42,7 @@ impl<V: Service + Drop> ReplicaState<V> {
     ghost use Rattle.mb_model.specs.Histories.{Identity};
     ghost use Rattle.mb_model.specs.Sending.{Progress};
     ghost use Rattle.mb_model.specs.Given.{give};
+    ghost use Rattle.mb_replica.specs.Steps.{Reacts};
 
     /// Gives a message to this host, of which the digest of the body may be known. A REPLY is for clients.
     pub fn give(

@@ -26,7 +26,6 @@ impl<R: Read> StdSource<R> {
 
 impl<R: Read> Source for StdSource<R> {
     ghost use Rattle.mb_edge.specs.Seen.{device};
-    ghost use Rattle.mb_edge.specs.Seen.{device};
 
     ghost seen = { λ s. device (R.remaining s.reader) s.faults };
 
@@ -73,6 +72,8 @@ impl<W: Write> StdSink<W> {
 }
 
 impl<W: Write> Sink for StdSink<W> {
+    ghost use Rattle.mb_edge.specs.Seen.{device};
+
     ghost seen = { λ s. device (W.contents s.writer) s.faults };
 
     /// An interrupted write is made again, and one that takes nothing has failed.
