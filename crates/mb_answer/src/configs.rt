@@ -4,11 +4,10 @@ ghost use Rattle.std.specs.Prelude.{◌≡◌, ◌+◌, Contains, OnOk, IfOk, If
 ghost use Rattle.std.specs.Io.KnownBytes.{IsAtEnd};
 ghost use Rattle.mb_edge.specs.Faults.{TellsFaults};
 ghost use Rattle.mb_edge.specs.Pieces.{ConsumesBetween};
-ghost use Rattle.mb_cluster.specs.Nodes.{spawned};
 ghost use Rattle.mb_cluster.specs.Runs.{OpsFit};
 ghost use Rattle.mb_sched.specs.Configs.{max_config};
 ghost use Rattle.mb_answer.specs.Configs.{FindsConfig, IsLack, lack_statuses};
-ghost use Rattle.mb_edge.specs.Seen.{Device, device, link_state, spawner_state};
+ghost use Rattle.mb_edge.specs.Seen.{Device};
 ghost use Rattle.mb_answer.specs.Devices.{edge};
 ghost use Rattle.mb_answer.specs.Clusters.{RunsWith, TellsStops, AwaitsNodes, TellsBadEnds, cluster_statuses};
 

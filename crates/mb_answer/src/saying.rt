@@ -2,7 +2,6 @@
 
 ghost use Rattle.std.specs.Prelude.{◌≡◌, IfOk, IfErr};
 ghost use Rattle.mb_edge.specs.Faults.{TellsFaults};
-ghost use Rattle.mb_edge.specs.Seen.{device};
 ghost use Rattle.mb_answer.specs.Devices.{Says, SaysOrStarves, IsUnread, IsToldBy, IsLow};
 
 use crate::answer::{Answer, NO_MEMORY, SINK_FAULT, SOURCE_FAULT, too_long};

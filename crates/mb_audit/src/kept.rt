@@ -1,9 +1,8 @@
 //! A host's stamps in the order of their counters, and at one counter of their bytes.
 
-ghost use Rattle.std.specs.Prelude.{◌≡◌, ◌∷◌, ◌++◌, [], ℕ, List, map, OnOk, IfOk};
+ghost use Rattle.std.specs.Prelude.{◌≡◌, ◌∷◌, [], ℕ, map, IfOk};
 ghost use Rattle.std.specs.List.{AllByRecursion, flat_map};
 ghost use Rattle.mb_base.specs.declared.shape.Shape.{Shape as TheShape};
-ghost use Rattle.mb_parts.specs.Claims.{Claim};
 ghost use Rattle.mb_model.specs.GateChecks.{stamp_claim};
 ghost use Rattle.mb_audit.specs.Certified.{IsBareStamp};
 ghost use Rattle.mb_audit.specs.Stamps.{claims_of};

@@ -1,6 +1,5 @@
 -- A service and a client table represent what `state_of` finds in a host's history.
-use Rattle.std.specs.Prelude.{◌≡◌, ℕ, ◌∷◌, ◌⊎◌, List, Result}
-use Rattle.mb_base.specs.Shapes.{Bytes}
+use Rattle.std.specs.Prelude.{◌≡◌, ℕ, ◌∷◌, ◌⊎◌, List}
 use Rattle.mb_parts.specs.declared.request.Request.{Request}
 use Rattle.mb_service.specs.Machine.{ServiceMachine}
 use Rattle.mb_msg.specs.declared.event.Placed.{Placed}

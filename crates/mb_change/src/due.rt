@@ -21,15 +21,15 @@ pub enum ChangeDue {
 }
 
 impl Change {
-    ghost use Rattle.std.specs.Prelude.{◌≡◌, ◌<◌, ◌≤◌, ◌==◌, ◌&&◌, ◌||◌, not, nat_le, nat_lt, max, is_some, if◌then◌else◌};
+    ghost use Rattle.std.specs.Prelude.{◌≡◌, ◌<◌, ◌≤◌, ◌==◌, ◌&&◌, ◌||◌, nat_lt, max, is_some, if◌then◌else◌};
     ghost use Rattle.mb_base.specs.Shapes.{host_count, primary};
     ghost use Rattle.mb_parts.specs.Ordered.{end_of, phase_is_open, phase_is_entered};
-    ghost use Rattle.mb_model.specs.Held.{evidence_view, new_view_in_view};
+    ghost use Rattle.mb_model.specs.Held.{evidence_view};
     ghost use Rattle.mb_model.specs.EnabledRules.{new_view_number};
     ghost use Rattle.mb_change.specs.Tables.{wish_at};
     ghost use Rattle.mb_change.specs.Searches.{found_in};
-    ghost use Rattle.mb_change.specs.Rules.{is_wished, quorum_wish, leads, is_changing, target, may_open, has_evidence, lags_behind, is_past_plan, due_with, may_announce, may_enter, may_join};
-    ghost use Rattle.mb_change.specs.Evidences.{chosen, has_evidence_of_plan};
+    ghost use Rattle.mb_change.specs.Rules.{is_wished, quorum_wish, leads, target, may_open, lags_behind, is_past_plan, due_with, may_announce, may_enter, may_join};
+    ghost use Rattle.mb_change.specs.Evidences.{has_evidence_of_plan};
     ghost use Rattle.mb_change.specs.Represents.{Answers};
 
     /// The first rule of view changes that is due where this host stands `at`, has executed up to `exec`, and `low` is the stable position.

@@ -31,12 +31,11 @@ pub(crate) struct Program {
 
 impl Program {
     ghost use Rattle.std.specs.Prelude.{◌≡◌, ◌+◌, ◌-◌, ◌^◌, ◌≤◌, ◌<◌, ℕ, [], ◌∷◌, length, true, Option, IfOk, OnOk, IsErrOf};
-    ghost use Rattle.mb_base.specs.Shapes.{Bytes, host_count};
-    ghost use Rattle.mb_base.specs.declared.shape.Shape.{Shape as ShapeRecord};
+    ghost use Rattle.mb_base.specs.Shapes.{host_count};
     ghost use Rattle.mb_base.specs.declared.limits.TheConstants.{MESSAGE_LIMIT};
     ghost use Rattle.mb_parts.specs.Fits.{FitsText};
     ghost use Rattle.mb_edge.specs.Faults.{TellsFaults};
-    ghost use Rattle.mb_cluster.specs.Hearing.{Hearing, no_hearing};
+    ghost use Rattle.mb_cluster.specs.Hearing.{no_hearing};
     ghost use Rattle.mb_cluster.specs.Runs.{OpsFit, wire_of};
     ghost use Rattle.mb_cluster.specs.Listens.{Listens, WhereListens};
     ghost use Rattle.mb_cluster.specs.Steps.{ReceivesOne, Awaits, Exchanges};

@@ -1,7 +1,7 @@
 -- The own messages of view changes: what a host has for them when their rules are next, and that its tables stand behind them.
-use Rattle.std.proofs.Common.{◌≡◌, ◌∙◌, ℕ, ◌<◌, false, List, ◌∷◌, refl, sym, ap, subst, Option, Some, None, Result}
+use Rattle.std.proofs.Common.{◌≡◌, ◌∙◌, ℕ, ◌<◌, false, List, ◌∷◌, refl, sym, ap, subst, Option, Some, None}
 use Rattle.std.specs.Prelude.{◌==◌}
-use Rattle.mb_base.specs.Shapes.{Bytes, host_count}
+use Rattle.mb_base.specs.Shapes.{host_count}
 use Rattle.mb_base.specs.declared.shape.Shape.{Shape}
 use Rattle.mb_service.specs.Machine.{ServiceMachine}
 use Rattle.mb_parts.specs.declared.certificates.Evidence.{Evidence}

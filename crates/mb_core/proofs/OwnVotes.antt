@@ -1,5 +1,5 @@
 -- The own PREPARE and the own COMMIT: what a host has for them when their rules are next, and that its tables stand behind them.
-use Rattle.std.proofs.Common.{◌≡◌, ◌≢◌, ◌∙◌, ℕ, false, [], ◌∷◌, refl, sym, ap, subst, Option, Some, None, List, Result}
+use Rattle.std.proofs.Common.{◌≡◌, ◌≢◌, ◌∙◌, ℕ, false, [], ◌∷◌, refl, sym, ap, subst, Option, Some, None}
 use Rattle.std.specs.Prelude.{option_map}
 use Rattle.std.specs.Option.{option_or}
 use Rattle.mb_base.specs.Shapes.{Bytes}

@@ -1,7 +1,6 @@
 -- The rules one after the other, and that each is the one that the code names.
 use Rattle.std.proofs.Common.{◌≡◌, ℕ, zero, suc, List, Option, Some, None, Result, refl, sym, ap, subst, ◌∙◌}
 use Rattle.std.specs.Prelude.{OnOk}
-use Rattle.mb_base.specs.Shapes.{Bytes}
 use Rattle.mb_service.specs.Machine.{ServiceMachine}
 use Rattle.mb_msg.specs.declared.change.ViewChange.{ViewChange}
 use Rattle.mb_msg.specs.declared.change.NewView.{NewView}

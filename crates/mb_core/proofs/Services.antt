@@ -1,5 +1,5 @@
 -- A host's service keeps the property of its states, and gives short results, as the laws of every service say.
-use Rattle.std.proofs.Common.{◌≡◌, ◌∙◌, ℕ, List, ap, sym, subst, Result, Ok}
+use Rattle.std.proofs.Common.{◌≡◌, ◌∙◌, List, ap, sym, subst, Ok}
 use Rattle.mb_base.specs.Shapes.{Bytes}
 use Rattle.mb_service.specs.Machine.{ServiceMachine}
 use Rattle.mb_parts.specs.Fits.{FitsText}

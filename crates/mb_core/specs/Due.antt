@@ -1,7 +1,6 @@
 -- What a host has to do next: a rule of its history, of which the code names the kind and the position. What it is done with is lent again.
-use Rattle.std.specs.Prelude.{◌≡◌, ℕ, List, Result, Option, Some, None}
+use Rattle.std.specs.Prelude.{◌≡◌, Option, Some, None}
 use Rattle.std.specs.Option.{option_or}
-use Rattle.mb_base.specs.Shapes.{Bytes}
 use Rattle.mb_service.specs.Machine.{ServiceMachine}
 use Rattle.mb_model.specs.Histories.{History, Identity}
 use Rattle.mb_model.specs.Sending.{Progress}

@@ -1,5 +1,5 @@
 -- A batch in the middle of its execution: which requests of it are served, and which are left.
-use Rattle.std.specs.Prelude.{◌≡◌, ℕ, Bool, true, false, List, Result}
+use Rattle.std.specs.Prelude.{◌≡◌, ℕ, Bool, true, false, List}
 use Rattle.mb_base.specs.Shapes.{Bytes}
 use Rattle.mb_service.specs.Machine.{ServiceMachine}
 use Rattle.mb_parts.specs.declared.request.Request.{Request}

@@ -1,15 +1,12 @@
 //! CHECKPOINT: the digest of the state at a position, and the floors of all hosts under it.
 
 ghost use Rattle.mb_replica.specs.Between.{BringsCheckpoint};
-ghost use Rattle.std.specs.Prelude.{◌≡◌, IfOk, ◌<◌, None, true, OnOk, ◌%◌, ◌==◌};
-ghost use Rattle.mb_base.specs.Shapes.{host_count, interval};
+ghost use Rattle.std.specs.Prelude.{◌≡◌, IfOk, ◌<◌, None};
+ghost use Rattle.mb_base.specs.Shapes.{host_count};
 ghost use Rattle.mb_model.specs.Histories.{Identity, History, floor_below};
-ghost use Rattle.mb_model.specs.Making.{floors_under, if_covered, present_parts, checkpoint};
-ghost use Rattle.mb_model.specs.States.{state_digest};
-ghost use Rattle.mb_model.specs.OwnLog.{has_room};
-ghost use Rattle.mb_model.specs.Sending.{Progress, stamp};
-ghost use Rattle.mb_steps.proofs.StepArises.{JustExecuted};
-ghost use Rattle.mb_replica.specs.Represents.{Represents, StandsAt};
+ghost use Rattle.mb_model.specs.Making.{floors_under, if_covered, checkpoint};
+ghost use Rattle.mb_model.specs.Sending.{Progress};
+ghost use Rattle.mb_replica.specs.Represents.{Represents};
 ghost use Rattle.mb_core.specs.Steps.{Certifies};
 
 use crate::stamping::{NO_UI, publish, sign};

@@ -1,16 +1,13 @@
 //! COMMIT: the vote of a backup for a batch that the primary ordered.
 
-ghost use Rattle.std.specs.Prelude.{◌≡◌, Some, OnOk};
+ghost use Rattle.std.specs.Prelude.{Some};
 ghost use Rattle.mb_parts.specs.declared.batch.Batch.{Batch as BatchValue};
 ghost use Rattle.mb_model.specs.declared.known.KnownSlot.{KnownSlot};
 ghost use Rattle.mb_model.specs.Histories.{Identity};
 ghost use Rattle.mb_model.specs.Sending.{Progress};
-ghost use Rattle.mb_model.specs.EnabledRules.{next_rule};
 ghost use Rattle.mb_model.specs.EnabledRules as rules;
-ghost use Rattle.mb_model.specs.CarriedOut.{carry_out};
 ghost use Rattle.mb_core.specs.declared.rules.Due.TheVariants as due;
 ghost use Rattle.mb_core.specs.Due.{IsDue};
-ghost use Rattle.mb_replica.specs.Represents.{StandsAt};
 ghost use Rattle.mb_core.specs.Steps.{CarriesOut};
 
 use crate::stamping::{NO_UI, publish, sign};

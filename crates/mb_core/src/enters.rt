@@ -1,18 +1,15 @@
 //! ENTER: a backup answers the NEW_VIEW of its view.
 
-ghost use Rattle.std.specs.Prelude.{◌≡◌, ◌<◌, Some, OnOk};
+ghost use Rattle.std.specs.Prelude.{◌<◌, Some};
 ghost use Rattle.mb_base.specs.Shapes.{host_count};
 ghost use Rattle.mb_change.specs.Searches.{with_enter};
 ghost use Rattle.mb_change.specs.Represents.{StandsWith};
 ghost use Rattle.mb_model.specs.Histories.{Identity};
-ghost use Rattle.mb_replica.specs.Represents.{StandsAt};
 ghost use Rattle.mb_replica.specs.Between.{WritesChange};
 ghost use Rattle.mb_core.specs.Steps.{CarriesOut};
 ghost use Rattle.mb_msg.specs.declared.change.NewView.{NewView as NewViewValue};
 ghost use Rattle.mb_model.specs.Sending.{Progress};
-ghost use Rattle.mb_model.specs.EnabledRules.{next_rule};
 ghost use Rattle.mb_model.specs.EnabledRules as rules;
-ghost use Rattle.mb_model.specs.CarriedOut.{carry_out};
 ghost use Rattle.mb_core.specs.declared.rules.Due.TheVariants as due;
 ghost use Rattle.mb_core.specs.Due.{IsDue};
 

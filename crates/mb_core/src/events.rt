@@ -1,15 +1,13 @@
 //! One event: what it does, the rules that follow, and a FETCH at its end.
 
-ghost use Rattle.std.specs.Prelude.{◌≡◌, ◌&&◌, ◌||◌, true, IfOk, OnOk};
+ghost use Rattle.std.specs.Prelude.{◌≡◌, ◌&&◌, ◌||◌, true, OnOk};
 ghost use Rattle.mb_msg.specs.Fits.{Fits};
 ghost use Rattle.mb_msg.specs.Reading.{message_of};
 ghost use Rattle.mb_model.specs.Histories.{Identity, History};
 ghost use Rattle.mb_model.specs.Stable.{low_of};
 ghost use Rattle.mb_model.specs.Positions.{is_behind};
 ghost use Rattle.mb_model.specs.Sending.{Progress, begin};
-ghost use Rattle.mb_model.specs.Given.{answer as answered};
 ghost use Rattle.mb_model.specs.HostStep.{transition, on_bytes, on_message, on_patience, after_patience, on_nudge, finished, finished_where, with_fetch, low_rose};
-ghost use Rattle.mb_msg.specs.declared.event.Outcome.{Outcome as OutcomeValue};
 ghost use Rattle.mb_replica.specs.Represents.{Represents, Serves, StandsAt, IsInStep};
 ghost use Rattle.mb_replica.specs.Told.{KnowsBytes, KnowsEvent, KnowsMessage};
 ghost use Rattle.mb_replica.specs.Steps.{AnswersEvent};

@@ -1,25 +1,23 @@
 //! Executing the batch of a position, and the CHECKPOINT behind a multiple of the interval.
 
-ghost use Rattle.std.specs.Prelude.{ℕ, true, List, [], ◌∷◌, ◌++◌, Some, None, OnOk, ◌≡◌, IfOk, ◌<◌, ◌≤◌, ◌%◌, ◌==◌, length};
+ghost use Rattle.std.specs.Prelude.{ℕ, true, List, [], ◌∷◌, Some, None, OnOk, ◌≡◌, IfOk, ◌<◌, ◌≤◌, ◌%◌, ◌==◌, length};
 ghost use Rattle.mb_base.specs.Shapes.{client_count, interval};
 ghost use Rattle.mb_parts.specs.declared.request.Request.{Request as RequestValue};
 ghost use Rattle.mb_parts.specs.declared.batch.Batch.{Batch as BatchValue};
 ghost use Rattle.mb_msg.specs.declared.event.Placed.{Placed as PlacedValue};
 ghost use Rattle.mb_model.specs.Histories.{Identity, History};
 ghost use Rattle.mb_model.specs.Positions.{slot_at};
-ghost use Rattle.mb_model.specs.EnabledRules.{next_rule, Execute};
+ghost use Rattle.mb_model.specs.EnabledRules.{Execute};
 ghost use Rattle.mb_model.specs.Sending.{Progress};
-ghost use Rattle.mb_model.specs.PlainChecks.{last_seq};
-ghost use Rattle.mb_model.specs.CarriedOut.{serve_all, serve, with_reply, close_slot, at_interval, with_checkpoint, carry_out};
+ghost use Rattle.mb_model.specs.CarriedOut.{serve_all, serve, with_reply, close_slot, at_interval, with_checkpoint};
 ghost use Rattle.mb_steps.proofs.StepArises.{JustExecuted};
 ghost use Rattle.mb_normal.specs.Tables.{batch_of};
 ghost use Rattle.mb_core.specs.declared.rules.Due.TheVariants as due;
 ghost use Rattle.mb_core.specs.Due.{IsDue};
-ghost use Rattle.mb_replica.specs.Represents.{Serves, StandsServing, StandsAt, Represents};
+ghost use Rattle.mb_replica.specs.Represents.{Serves, StandsAt, Represents};
 ghost use Rattle.mb_replica.specs.Steps.{StepsWhere};
 ghost use Rattle.mb_core.specs.Steps.{CarriesOut, ServesAll, ServesOne, RepliesTo, KeepsSnapshot};
-ghost use Rattle.mb_core.specs.Serving.{ServesOn, IsInBatch, IsBehindBatch, WritesShelf, KeepsWhere};
-ghost use Rattle.mb_model.specs.States.{parts_of};
+ghost use Rattle.mb_core.specs.Serving.{ServesOn, IsInBatch, IsBehindBatch, WritesShelf};
 ghost use Rattle.mb_fetch.specs.Snapshots.{parts_at};
 ghost use Rattle.mb_cache.specs.Represents.{snapshots_of};
 

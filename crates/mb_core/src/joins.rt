@@ -1,12 +1,10 @@
 //! JOIN: a host goes on in its view at the stable position.
 
-ghost use Rattle.std.specs.Prelude.{None, ◌≡◌, Some, OnOk, IfOk};
-ghost use Rattle.mb_replica.specs.Represents.{Represents, StandsAt};
+ghost use Rattle.std.specs.Prelude.{None, ◌≡◌, IfOk};
+ghost use Rattle.mb_replica.specs.Represents.{Represents};
 ghost use Rattle.mb_core.specs.Steps.{CarriesOut};
 ghost use Rattle.mb_model.specs.Sending.{Progress};
-ghost use Rattle.mb_model.specs.EnabledRules.{next_rule};
 ghost use Rattle.mb_model.specs.EnabledRules as rules;
-ghost use Rattle.mb_model.specs.CarriedOut.{carry_out};
 ghost use Rattle.mb_core.specs.declared.rules.Due.TheVariants as due;
 ghost use Rattle.mb_core.specs.Due.{IsDue};
 ghost use Rattle.mb_model.specs.Histories.{Identity, History};

@@ -1,15 +1,13 @@
 //! OPEN: a host opens its view with evidence of the plan, and the plan.
 
 ghost use Rattle.std.specs.Prelude.{None, ◌≡◌, ◌^◌, ◌<◌, Some, OnOk, IfOk, option_map, map, slice_get};
-ghost use Rattle.mb_replica.specs.Represents.{Represents, StandsAt};
+ghost use Rattle.mb_replica.specs.Represents.{Represents};
 ghost use Rattle.mb_msg.specs.declared.stamped.Stamped.TheVariants as stamped;
 ghost use Rattle.mb_msg.specs.Stamps.{with_ui};
 ghost use Rattle.mb_parts.specs.declared.certificates.Evidence.{Evidence as EvidenceValue};
 ghost use Rattle.mb_msg.specs.declared.change.Plan.{Plan as PlanValue};
 ghost use Rattle.mb_model.specs.Sending.{Progress};
-ghost use Rattle.mb_model.specs.EnabledRules.{next_rule};
 ghost use Rattle.mb_model.specs.EnabledRules as rules;
-ghost use Rattle.mb_model.specs.CarriedOut.{carry_out};
 ghost use Rattle.mb_core.specs.declared.rules.Due.TheVariants as due;
 ghost use Rattle.mb_core.specs.Due.{IsDue};
 ghost use Rattle.mb_model.specs.Histories.{Identity, History};

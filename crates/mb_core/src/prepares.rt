@@ -1,14 +1,11 @@
 //! PREPARE: a batch that the primary orders at a position.
 
-ghost use Rattle.std.specs.Prelude.{ℕ, ◌≡◌, Some, OnOk};
-ghost use Rattle.mb_replica.specs.Represents.{StandsAt};
+ghost use Rattle.std.specs.Prelude.{ℕ, Some};
 ghost use Rattle.mb_core.specs.Steps.{CarriesOut};
 ghost use Rattle.mb_parts.specs.declared.batch.Batch.{Batch as BatchValue};
 ghost use Rattle.mb_model.specs.Histories.{Identity};
 ghost use Rattle.mb_model.specs.Sending.{Progress};
-ghost use Rattle.mb_model.specs.EnabledRules.{next_rule};
 ghost use Rattle.mb_model.specs.EnabledRules as rules;
-ghost use Rattle.mb_model.specs.CarriedOut.{carry_out};
 ghost use Rattle.mb_core.specs.declared.rules.Due.TheVariants as due;
 ghost use Rattle.mb_core.specs.Due.{IsDue};
 

@@ -6,8 +6,6 @@ ghost use Rattle.mb_model.specs.Histories.{Identity, History, here};
 ghost use Rattle.mb_model.specs.Stable.{low_of};
 ghost use Rattle.mb_model.specs.OwnLog.{own_log, log_longest};
 ghost use Rattle.mb_model.specs.Positions.{exec_of};
-ghost use Rattle.mb_model.specs.HostStep.{transition};
-ghost use Rattle.mb_steps.proofs.StepArises.{IsWhole};
 ghost use Rattle.mb_core.specs.Halting.{Halts};
 ghost use Rattle.mb_replica.specs.Lengths.{AreMessageLong, AreOutgoingLong};
 ghost use Rattle.mb_replica.specs.Represents.{Serves, IsStep, IsTold};

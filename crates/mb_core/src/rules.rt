@@ -1,11 +1,11 @@
 //! What follows in the same step: eight rules, of which the first that is enabled is next, again and again.
 
-ghost use Rattle.std.specs.Prelude.{Some, OnOk, ◌≡◌};
+ghost use Rattle.std.specs.Prelude.{Some, ◌≡◌};
 ghost use Rattle.mb_model.specs.Sending.{Progress};
 ghost use Rattle.mb_model.specs.EnabledRules.{Rule, next_rule, next_position};
 ghost use Rattle.mb_model.specs.CarriedOut.{run_rules, carry_out, enough};
-ghost use Rattle.mb_core.specs.Due.{IsNamed, IsDue, Names, change_rule, normal_rule};
-ghost use Rattle.mb_replica.specs.Represents.{Serves, StandsAt, Represents, HasHistory, IsInStep};
+ghost use Rattle.mb_core.specs.Due.{IsDue, Names, change_rule, normal_rule};
+ghost use Rattle.mb_replica.specs.Represents.{Serves, Represents, HasHistory, IsInStep};
 ghost use Rattle.mb_replica.specs.Steps.{StepsTo};
 ghost use Rattle.mb_core.specs.Steps.{CarriesNamed};
 ghost use Rattle.mb_model.specs.Histories.{Identity, History};

@@ -1,8 +1,8 @@
 //! VIEW_CHANGE: a host leaves for another view, and shows all of its own log.
 
-ghost use Rattle.std.specs.Prelude.{◌≡◌, true, Some, is_none, OnOk, IfOk};
+ghost use Rattle.std.specs.Prelude.{◌≡◌, true, is_none, OnOk, IfOk};
 ghost use Rattle.mb_model.specs.UsableLogs.{is_whole};
-ghost use Rattle.mb_replica.specs.Represents.{IsHost, Represents, StandsAt};
+ghost use Rattle.mb_replica.specs.Represents.{IsHost, Represents};
 ghost use Rattle.mb_core.specs.Carrying.{StoresOwn};
 ghost use Rattle.mb_change.specs.Searches.{with_wish};
 ghost use Rattle.mb_change.specs.Represents.{StandsWith};
@@ -15,9 +15,7 @@ ghost use Rattle.mb_msg.specs.Stamps.{with_ui};
 ghost use Rattle.mb_replica.specs.Between.{WritesChange, WritesNormal};
 ghost use Rattle.mb_core.specs.Steps.{CarriesOut};
 ghost use Rattle.mb_model.specs.Sending.{Progress};
-ghost use Rattle.mb_model.specs.EnabledRules.{next_rule};
 ghost use Rattle.mb_model.specs.EnabledRules as rules;
-ghost use Rattle.mb_model.specs.CarriedOut.{carry_out};
 ghost use Rattle.mb_core.specs.declared.rules.Due.TheVariants as due;
 ghost use Rattle.mb_core.specs.Due.{IsDue};
 ghost use Rattle.mb_model.specs.Histories.{Identity, History};

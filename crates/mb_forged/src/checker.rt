@@ -32,13 +32,9 @@ pub struct Checker<'a> {
 }
 
 impl<'a> Checker<'a> {
-    ghost use Rattle.std.specs.Prelude.{◌≡◌, ◌<◌, ◌∷◌, []};
+    ghost use Rattle.std.specs.Prelude.{◌<◌};
     ghost use Rattle.mb_base.specs.Shapes.{Bytes, host_count};
-    ghost use Rattle.mb_parts.specs.Bares.{Bare, bare_bytes};
-    ghost use Rattle.mb_parts.specs.Fits.{FitsBare};
-    ghost use Rattle.mb_schedule.specs.declared.schedule.Schedule.{Schedule};
-    ghost use Rattle.mb_theory.specs.World.{World};
-    ghost use Rattle.mb_forged.specs.Checks.{AsksIn, TellsForged};
+    ghost use Rattle.mb_forged.specs.Checks.{TellsForged};
 
     /// A claim that verifies and is not issued. What is issued needs no verifying.
     pub(crate) fn forged(&self, ui: &Ui, bare: &[u8]) -> Option<ForgedClaim>

@@ -34,16 +34,13 @@ pub struct Ledger {
 }
 
 impl Ledger {
-    ghost use Rattle.std.specs.Prelude.{◌≡◌, ◌<◌, ◌∷◌, [], ℕ, List, nat_eq, IfOk, OnOk};
+    ghost use Rattle.std.specs.Prelude.{◌≡◌, ◌<◌, ◌∷◌, [], nat_eq, IfOk, OnOk};
     ghost use Rattle.std.specs.List.{list_any};
     ghost use Rattle.std.specs.Cmp.Lexicographic.{pointwise};
-    ghost use Rattle.mb_base.specs.Shapes.{Bytes, host_count};
-    ghost use Rattle.mb_base.specs.declared.shape.Shape.{Shape as ShapeRecord};
+    ghost use Rattle.mb_base.specs.Shapes.{host_count};
     ghost use Rattle.mb_usig.specs.Tags.{same_bytes};
-    ghost use Rattle.mb_parts.specs.declared.request.Request.{Request as RequestRecord};
-    ghost use Rattle.mb_parts.specs.Fits.{FitsRequest, FitsBare};
+    ghost use Rattle.mb_parts.specs.Fits.{FitsRequest};
     ghost use Rattle.mb_parts.specs.Spelling.{request_bytes};
-    ghost use Rattle.mb_parts.specs.Bares.{Bare, bare_bytes};
     ghost use Rattle.mb_parts.specs.Issued.{is_issued};
     ghost use Rattle.mb_msg.specs.declared.message.Message.{Message as MessageData};
     ghost use Rattle.mb_msg.specs.Fits.{Fits};

@@ -27,7 +27,7 @@ pub struct Gate {
 }
 
 impl Gate {
-    ghost use Rattle.std.specs.Prelude.{◌≡◌, ◌+◌, ◌-◌, ◌^◌, ◌<◌, Bool, ◌∷◌, min, Some, IsTrue};
+    ghost use Rattle.std.specs.Prelude.{◌≡◌, ◌+◌, ◌-◌, ◌^◌, ◌<◌, min, Some, IsTrue};
     ghost use Rattle.mb_base.specs.Shapes.{host_count};
     ghost use Rattle.mb_parts.specs.Bares.{Bare};
     ghost use Rattle.mb_parts.specs.Ordered.{initial_floor};

@@ -1,9 +1,8 @@
 //! The rules of a gate, by kinds: what each needs to let a message stand where its sender stands, and where the sender stands then.
 
-ghost use Rattle.std.specs.Prelude.{◌≡◌, ◌+◌, true, [], ◌∷◌, ℕ, max, IsTrue};
-ghost use Rattle.mb_base.specs.declared.shape.Shape.{Shape as TheShape};
+ghost use Rattle.std.specs.Prelude.{◌≡◌, [], max, IsTrue};
 ghost use Rattle.mb_parts.specs.declared.floor.Phase.TheVariants as phase;
-ghost use Rattle.mb_parts.specs.Ordered.{permits, floor_after, phase_is_open, phase_is_entered};
+ghost use Rattle.mb_parts.specs.Ordered.{permits, phase_is_open, phase_is_entered};
 ghost use Rattle.mb_gate.specs.Kinds.{message_with, StandsBehind};
 
 use crate::kind::Kind;

@@ -26,18 +26,14 @@ pub(crate) struct Follower {
 }
 
 impl Follower {
-    ghost use Rattle.std.specs.Prelude.{◌≡◌, ◌+◌, ◌<◌, ◌∷◌, [], ℕ, List, Option, None, length, true, false, IfOk, IfSome, OnOk, IsTrue};
+    ghost use Rattle.std.specs.Prelude.{◌≡◌, ◌+◌, ◌<◌, [], ℕ, List, Option, None, true, false, IfOk, IfSome, OnOk, IsTrue};
     ghost use Rattle.std.specs.BTreeMap.{btree_map_len};
     ghost use Rattle.mb_base.specs.Shapes.{Bytes, host_count};
     ghost use Rattle.mb_base.specs.declared.shape.Shape.{Shape as TheShape};
     ghost use Rattle.mb_parts.specs.Bares.{Bare};
     ghost use Rattle.mb_parts.specs.Counters.{at_counter};
     ghost use Rattle.mb_model.specs.Committed.{leads};
-    ghost use Rattle.mb_msg.specs.Stamps.{bare_of, ui_of};
-    ghost use Rattle.mb_gate.specs.Represents.{Represents};
-    ghost use Rattle.mb_audit.specs.Walks.{log_of};
-    ghost use Rattle.mb_learn.specs.Lists.{may_follow, IsList};
-    ghost use Rattle.mb_learn.specs.Followers.{Follows, IsAwaited, Advances, IsFollowing, shown_too, StaysShown, KeepsShown, OffersNext};
+    ghost use Rattle.mb_learn.specs.Followers.{Follows, IsAwaited, Advances, IsFollowing, StaysShown, KeepsShown, OffersNext};
     ghost use Rattle.mb_audit.specs.Certified.{IsBareStamp};
 
     /// Nothing was shown yet.

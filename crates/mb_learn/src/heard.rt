@@ -46,20 +46,16 @@ pub(crate) struct Heard {
 impl Heard {
     ghost use Rattle.std.specs.Prelude.{◌≡◌, ◌<◌, ◌∷◌, ◌++◌, [], ℕ, List, Option, map, length, true, false, OnOk, IfOk};
     ghost use Rattle.std.specs.List.{AllByRecursion};
-    ghost use Rattle.mb_base.specs.Shapes.{Bytes, host_count};
-    ghost use Rattle.mb_base.specs.declared.shape.Shape.{Shape as TheShape};
+    ghost use Rattle.mb_base.specs.Shapes.{host_count};
     ghost use Rattle.mb_parts.specs.Bares.{Bare};
-    ghost use Rattle.mb_parts.specs.Claims.{Claim};
-    ghost use Rattle.mb_msg.specs.declared.stamped.Shown.{Shown};
     ghost use Rattle.mb_msg.specs.Fits.{FitsFields};
     ghost use Rattle.mb_model.specs.Verified.{verifies};
     ghost use Rattle.mb_model.specs.GateChecks.{stamp_claim};
     ghost use Rattle.mb_theory.specs.Inside.{claims_in};
     ghost use Rattle.mb_audit.specs.Certified.{IsBareStamp};
     ghost use Rattle.mb_learn.specs.Shown.{shown_in};
-    ghost use Rattle.mb_learn.specs.Lists.{first_of, IsList};
     ghost use Rattle.mb_learn.specs.Tables.{AddsSaid};
-    ghost use Rattle.mb_learn.specs.Hearing.{IsReady, FollowsWhole, Hears, AreWhole, HearsAll, HearsOf, KeepsPlace, Takes, SaysToo, SaysOnly, newly_said, with_list, WhereHearsAll, WhereHearsOf, KeepsWhole, FollowsHost, StaysWhole};
+    ghost use Rattle.mb_learn.specs.Hearing.{IsReady, HearsAll, HearsOf, KeepsPlace, Takes, SaysToo, SaysOnly, newly_said, WhereHearsAll, WhereHearsOf, KeepsWhole, FollowsHost, StaysWhole};
 
     /// Nothing was taken yet.
     pub(crate) fn make(alloc: Global, shape: Shape, secret: &Key) -> Result<Heard, NoMemory>

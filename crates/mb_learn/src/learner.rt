@@ -49,18 +49,13 @@ pub struct Learner<V> {
 }
 
 impl<V: Service + Drop> Learner<V> {
-    ghost use Rattle.std.specs.Prelude.{◌≡◌, ◌+◌, ◌≤◌, ◌++◌, ◌∷◌, [], ℕ, List, true, OnOk, IfOk, IfSome, IfNone, length};
-    ghost use Rattle.mb_base.specs.Shapes.{Bytes};
-    ghost use Rattle.mb_base.specs.declared.shape.Shape.{Shape as TheShape};
-    ghost use Rattle.mb_parts.specs.Bares.{Bare};
-    ghost use Rattle.mb_msg.specs.declared.event.Slot.{Slot as TheSlot};
+    ghost use Rattle.std.specs.Prelude.{◌≡◌, ◌+◌, ◌≤◌, ◌++◌, ◌∷◌, [], true, OnOk, IfOk, IfSome, IfNone, length};
     ghost use Rattle.mb_cache.specs.Represents.{machine_of, snapshots_of};
-    ghost use Rattle.mb_parts.specs.declared.batch.Batch.{Batch as TheBatch};
     ghost use Rattle.mb_learn.specs.declared.difference.Difference.{Difference as TheDifference};
     ghost use Rattle.mb_learn.specs.Differences.{IsDifference, IsLowest, IsNowhere};
     ghost use Rattle.mb_learn.specs.Halting.{Halts};
     ghost use Rattle.mb_learn.specs.Hearing.{AddsNews};
-    ghost use Rattle.mb_learn.specs.Proved.{digest_behind, IsProved};
+    ghost use Rattle.mb_learn.specs.Proved.{digest_behind};
     ghost use Rattle.mb_learn.specs.Learners.{Represents, Answers, WhereLearnt, ExecutesProved, Compared};
 
     /// A learner that took nothing yet. The service is the one from which the hosts of the system start.

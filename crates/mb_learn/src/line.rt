@@ -18,13 +18,11 @@ pub(crate) struct Line<V> {
 }
 
 impl<V: Service + Drop> Line<V> {
-    ghost use Rattle.std.specs.Prelude.{◌≡◌, ◌+◌, ◌<◌, ◌^◌, ◌∷◌, ◌++◌, [], ℕ, List, length, IfOk, OnOk};
+    ghost use Rattle.std.specs.Prelude.{◌≡◌, ◌+◌, ◌<◌, ◌^◌, ◌∷◌, ◌++◌, [], ℕ, length, IfOk, OnOk};
     ghost use Rattle.std.specs.List.{AllByRecursion};
     ghost use Rattle.std.specs.Option.{option_copied};
-    ghost use Rattle.mb_base.specs.declared.shape.Shape.{Shape as TheShape};
     ghost use Rattle.mb_base.specs.Shapes.{client_count};
     ghost use Rattle.mb_parts.specs.Fits.{IsPosition, FitsBatch, FitsRequest};
-    ghost use Rattle.mb_msg.specs.declared.event.Slot.{Slot as TheSlot};
     ghost use Rattle.mb_model.specs.Service.{served, served_each};
     ghost use Rattle.mb_cache.specs.Represents.{machine_of, snapshots_of, joined};
     ghost use Rattle.mb_learn.specs.Executed.{Executes, WhereExecutes, ExecutesToo, KeepsSlots, NotesState, state_in, state_now, with_mark, placed_all};

@@ -5,14 +5,9 @@ use crate::votes::Cast;
 use mb_msg::Batch;
 
 impl Heard {
-    ghost use Rattle.std.specs.Prelude.{◌≡◌, ◌+◌, ℕ, List, false, IfSome, IfNone, IsTrue};
-    ghost use Rattle.mb_base.specs.Shapes.{Bytes};
-    ghost use Rattle.mb_base.specs.declared.shape.Shape.{Shape as TheShape};
+    ghost use Rattle.std.specs.Prelude.{◌≡◌, ◌+◌, false, IfSome, IfNone, IsTrue};
     ghost use Rattle.mb_parts.specs.declared.batch.Batch.{Batch as TheBatch};
-    ghost use Rattle.mb_parts.specs.Bares.{Bare};
-    ghost use Rattle.mb_parts.specs.Claims.{Claim};
     ghost use Rattle.mb_parts.specs.Fits.{FitsBatch};
-    ghost use Rattle.mb_msg.specs.declared.stamped.Shown.{Shown};
     ghost use Rattle.mb_learn.specs.Held.{known_plans};
     ghost use Rattle.mb_learn.specs.Hearing.{IsReady, WhereHears};
     ghost use Rattle.mb_learn.specs.Next.{IsAgreed, IsNext, IsNextBy, HasNext};

@@ -1,7 +1,7 @@
 -- One receive of a node with a journal, and all receives.
 use Rattle.std.proofs.Common.{◌≡◌, ◌⊎◌, inl, inr, ℕ, ◌+◌, ◌≤◌, Bool, true, false, List, [], ◌∷◌, ◌++◌, length, refl, sym, ap, ◌∙◌, subst, Option, Some, None, Ok, Err, arith}
 use Rattle.std.specs.Prelude.{◌%◌, ◌^◌, if◌then◌else◌, Result}
-use Rattle.mb_base.specs.Shapes.{Bytes, host_count}
+use Rattle.mb_base.specs.Shapes.{host_count}
 use Rattle.mb_service.specs.Machine.{ServiceMachine}
 use Rattle.mb_edge.specs.Disks.{Moments}
 use Rattle.mb_msg.specs.declared.event.Event.{Event}

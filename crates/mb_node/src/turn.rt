@@ -1,7 +1,6 @@
 //! One event of a node: the host's step, its lines in the record, and what it sends.
 
-ghost use Rattle.std.specs.Prelude.{◌≡◌, ◌<◌, ◌%◌, ◌^◌, ◌||◌, not, ℕ, false, length, IfOk, IfErr, OnOk, IsErrOf};
-ghost use Rattle.mb_base.specs.Shapes.{host_count};
+ghost use Rattle.std.specs.Prelude.{◌≡◌, ◌<◌, ◌^◌, ◌||◌, not, ℕ, false, length, IfOk, IfErr, OnOk, IsErrOf};
 ghost use Rattle.mb_model.specs.Histories.{Identity, History};
 ghost use Rattle.mb_steps.proofs.StepArises.{IsWhole};
 ghost use Rattle.mb_core.specs.Represents.{Represents, IsAtRest};

@@ -24,7 +24,6 @@ pub enum Due {
 
 impl Normal {
     ghost use Rattle.std.specs.Prelude.{◌≡◌, ◌+◌, ◌<◌, ◌^◌, ◌&&◌, ◌==◌, ℕ, nat_lt, nat_le, not, is_some, option_copied, IfSome};
-    ghost use Rattle.mb_base.specs.Limits.{ahead_limit};
     ghost use Rattle.mb_base.specs.Shapes.{client_count, span, quorum, primary};
     ghost use Rattle.mb_base.specs.declared.shape.Shape.{Shape as ShapeValue};
     ghost use Rattle.mb_parts.specs.Fits.{FitsText};
@@ -32,7 +31,7 @@ impl Normal {
     ghost use Rattle.mb_model.specs.Positions.{slot_vote, position_limit};
     ghost use Rattle.mb_normal.specs.Searches.{Searches, matching, unordered, unordered_of};
     ghost use Rattle.mb_normal.specs.Tables.{Represents, batch_of};
-    ghost use Rattle.mb_normal.specs.Rules.{first_rule, in_window, is_committed, Names, may_prepare};
+    ghost use Rattle.mb_normal.specs.Rules.{first_rule, is_committed, Names, may_prepare};
 
     /// The first rule of the normal case that is enabled, where this host stands `at`, has executed up to `exec`, and `low` is the stable
     /// position: of another `low` nothing is said. Positions are below 2^63. `room` says whether its log has room for a vote. Every pending request

@@ -1,7 +1,7 @@
 -- One host of a list steps, or stamps.
-use Rattle.std.proofs.Common.{◌≡◌, ℕ, ◌+◌, ◌<◌, ◌≤◌, true, false, List, [], ◌∷◌, ◌++◌, length, set, Some, Result, sym, arith}
+use Rattle.std.proofs.Common.{◌≡◌, ℕ, ◌+◌, ◌<◌, ◌≤◌, true, false, List, [], ◌∷◌, ◌++◌, length, set, Some, sym, arith}
 use Rattle.std.specs.List.{slice_get}
-use Rattle.mb_base.specs.Shapes.{Bytes, IsShape, host_count}
+use Rattle.mb_base.specs.Shapes.{IsShape, host_count}
 use Rattle.mb_base.specs.declared.shape.Shape.{Shape}
 use Rattle.mb_service.specs.Machine.{ServiceMachine}
 use Rattle.mb_msg.specs.declared.event.Event.{Event}

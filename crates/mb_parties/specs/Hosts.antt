@@ -1,5 +1,5 @@
 -- What hosts are: they keep one service.
-use Rattle.std.specs.Prelude.{◌≡◌, ℕ, List, Some, Result, slice_get}
+use Rattle.std.specs.Prelude.{◌≡◌, ℕ, List, Some, slice_get}
 use Rattle.mb_base.specs.Shapes.{Bytes}
 use Rattle.mb_base.specs.declared.shape.Shape.{Shape}
 use Rattle.mb_service.specs.Machine.{ServiceMachine}

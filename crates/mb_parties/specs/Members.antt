@@ -1,6 +1,6 @@
 -- What the code's list of hosts is: a correct one represents a history of its own, a faulty one has what it stamped.
 use Rattle.std.specs.Prelude.{◌≡◌, ℕ, ◌<◌, ◌≤◌, Bool, true, false, List, length, map, reverse, Option, Some, None, Result, IfOk, slice_get}
-use Rattle.mb_base.specs.Shapes.{Bytes, host_count}
+use Rattle.mb_base.specs.Shapes.{host_count}
 use Rattle.mb_base.specs.declared.shape.Shape.{Shape}
 use Rattle.mb_service.specs.Machine.{ServiceMachine}
 use Rattle.mb_msg.specs.declared.event.Event.{Event}

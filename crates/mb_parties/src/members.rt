@@ -1,17 +1,17 @@
 //! The hosts of a world: correct ones, and faulty ones that stamp what events say.
 
-ghost use Rattle.std.specs.Prelude.{◌≡◌, ◌<◌, ◌≤◌, false, length, List, [], ℕ, Some, slice_get, IfOk, OnOk};
+ghost use Rattle.std.specs.Prelude.{◌≡◌, ◌<◌, ◌≤◌, false, length, [], ℕ, Some, slice_get, IfOk, OnOk};
 ghost use Rattle.mb_base.specs.Shapes.{host_count};
 ghost use Rattle.mb_base.specs.declared.shape.Shape.{Shape as ShapeRecord};
 ghost use Rattle.mb_model.specs.Histories.{History};
-ghost use Rattle.mb_theory.specs.World.{System, FaultyStamp};
+ghost use Rattle.mb_theory.specs.World.{System};
 ghost use Rattle.mb_core.specs.Represents.{IsAtRest};
 ghost use Rattle.mb_replica.specs.Told.{KnowsEvent};
 ghost use Rattle.mb_core.specs.declared.replica.Replica.{Replica};
 ghost use Rattle.mb_parties.specs.declared.members.Member.TheVariants as member;
 ghost use Rattle.mb_schedule.specs.Limits.{is_faulty};
 ghost use Rattle.mb_parties.specs.Hosts.{IsSystem, AreServices, ForSystem};
-ghost use Rattle.mb_parties.specs.Members.{AllRest, AllRun, AreOf, Goes, IsCorrectHost, IsMember, RepresentsMembers, StampedWithin, StepsAt, has_halted, shape_of, stamped_by, MakesStep};
+ghost use Rattle.mb_parties.specs.Members.{AllRest, AllRun, AreOf, Goes, IsCorrectHost, IsMember, RepresentsMembers, StampedWithin, has_halted, shape_of, stamped_by, MakesStep};
 
 use mb_base::{Digest, Host, Items, Key, NoMemory, Shape};
 use mb_core::{Replica, Stop};

@@ -1,5 +1,5 @@
 -- A replica that was just made represents the empty history.
-use Rattle.std.proofs.Common.{◌≡◌, ℕ, [], refl, sym, ap, subst, ◌∙◌, None, List, Result}
+use Rattle.std.proofs.Common.{◌≡◌, ℕ, [], refl, sym, ap, subst, ◌∙◌, None, List}
 use Rattle.std.specs.Prelude.{◌+◌, ◌%◌}
 use Rattle.mb_base.specs.declared.shape.Shape.{Shape}
 use Rattle.mb_base.specs.Shapes.{Bytes, host_count, client_count}

@@ -1,6 +1,5 @@
 -- What a replica is: each of its tables stands for its searches in the host's history.
-use Rattle.std.specs.Prelude.{◌≡◌, ℕ, List, [], map, Result}
-use Rattle.mb_base.specs.Shapes.{Bytes}
+use Rattle.std.specs.Prelude.{◌≡◌, List, [], map}
 use Rattle.mb_service.specs.Machine.{ServiceMachine}
 use Rattle.mb_msg.specs.declared.event.Placed.{Placed}
 use Rattle.mb_msg.specs.declared.event.Sent.{Sent}

@@ -8,7 +8,7 @@ use mb_service::Service;
 use std::alloc::Global;
 
 impl<V: Service + Drop> ReplicaState<V> {
-    ghost use Rattle.std.specs.Prelude.{OnOk, ◌≡◌, ◌<◌, IfOk, is_some};
+    ghost use Rattle.std.specs.Prelude.{◌≡◌, ◌<◌, IfOk, is_some};
     ghost use Rattle.mb_fetch.specs.Parts.{first_missing};
     ghost use Rattle.mb_keeper.specs.Keeping.{found};
     ghost use Rattle.mb_msg.specs.Fits.{FitsFetch};

@@ -36,8 +36,7 @@ impl Answer {
 impl<V: Service + Drop> ReplicaState<V> {
     ghost use Rattle.mb_replica.specs.declared.sending.Done.{Done};
     ghost use Rattle.mb_replica.specs.Told.{KnowsMessage};
-    ghost use Rattle.mb_replica.specs.Represents.{IsOther, Serves, StandsAt, Answers, HasHistory, IsInStep};
-    ghost use Rattle.std.specs.Prelude.{IfOk};
+    ghost use Rattle.mb_replica.specs.Represents.{IsOther, Serves, StandsAt, HasHistory, IsInStep};
     ghost use Rattle.mb_msg.specs.Fits.{FitsFields};
     ghost use Rattle.mb_model.specs.Histories.{Identity};
     ghost use Rattle.mb_model.specs.Sending.{Progress};

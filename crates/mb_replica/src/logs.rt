@@ -19,7 +19,6 @@ impl<V: Service + Drop> ReplicaState<V> {
     ghost use Rattle.std.specs.List.{AllByRecursion};
     ghost use Rattle.mb_msg.specs.declared.message.Message.TheVariants as message;
     ghost use Rattle.mb_msg.specs.Fits.{FitsStamped, FitsLog};
-    ghost use Rattle.mb_msg.specs.declared.transfer.Log.{Log as LogValue};
     ghost use Rattle.mb_model.specs.Sending.{Progress, write};
     ghost use Rattle.mb_model.specs.Histories.{Accepted, Identity, History};
     ghost use Rattle.mb_model.specs.Given.{give_log, give_entries, jump, floor_shown};

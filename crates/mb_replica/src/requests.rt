@@ -12,9 +12,8 @@ use std::alloc::Global;
 impl<V: Service + Drop> ReplicaState<V> {
     ghost use Rattle.mb_model.specs.Sending.{Progress, write};
     ghost use Rattle.mb_model.specs.Given.{give_request};
-    ghost use Rattle.mb_replica.specs.Represents.{Serves, StandsAt, HasHistory, Represents};
+    ghost use Rattle.mb_replica.specs.Represents.{Serves, HasHistory, Represents};
     ghost use Rattle.mb_replica.specs.Steps.{Moves, AnswersAt};
-    ghost use Rattle.mb_replica.specs.declared.sending.Done.{Done as DoneValue};
     ghost use Rattle.std.specs.Prelude.{◌≡◌, None, IfOk};
     ghost use Rattle.mb_msg.specs.declared.message.Message.TheVariants as message;
     ghost use Rattle.mb_parts.specs.Fits.{FitsRequest};

@@ -70,12 +70,9 @@ impl Done {
 
 impl<V: Service + Drop> ReplicaState<V> {
     ghost use Rattle.std.specs.Prelude.{[], ◌∷◌, ◌++◌, ◌≡◌, OnOk, None};
-    ghost use Rattle.mb_replica.specs.Represents.{StandsServing};
     ghost use Rattle.mb_replica.specs.Steps.{Sends};
     ghost use Rattle.mb_replica.specs.Told.{as_outgoing};
     ghost use Rattle.mb_msg.specs.AsStamped.{stamped_digest};
-    ghost use Rattle.std.specs.Prelude.{List};
-    ghost use Rattle.mb_msg.specs.declared.event.Placed.{Placed};
     ghost use Rattle.mb_msg.specs.Fits.{Fits};
     ghost use Rattle.mb_msg.specs.Stamps.{as_message, as_stamped};
     ghost use Rattle.mb_model.specs.Histories.{Identity};

@@ -12,12 +12,10 @@ impl<V: Service + Drop> ReplicaState<V> {
     ghost use Rattle.mb_base.specs.Shapes.{host_count};
     ghost use Rattle.mb_model.specs.Sending.{Progress};
     ghost use Rattle.mb_model.specs.Given.{give_stamped, closing, accept};
-    ghost use Rattle.mb_replica.specs.Represents.{StandsAt, Represents, HasHistory};
+    ghost use Rattle.mb_replica.specs.Represents.{Represents, HasHistory};
     ghost use Rattle.mb_replica.specs.Steps.{AnswersQuietly, Goes, Closes};
     ghost use Rattle.mb_replica.specs.declared.sending.Done.{Done};
-    ghost use Rattle.mb_msg.specs.declared.stamped.Stamped.{Stamped as StampedMessage};
     ghost use Rattle.mb_msg.specs.declared.stamped.Stamped.TheVariants as stamped;
-    ghost use Rattle.mb_msg.specs.Stamps.{ui_of};
     ghost use Rattle.mb_msg.specs.Fits.{FitsStamped};
     ghost use Rattle.mb_model.specs.Histories.{Identity, History};
     ghost use Rattle.mb_model.specs.KindChecks.{kind_refusal, stamped_refusal};

@@ -18,10 +18,10 @@ impl<V: Service + Drop> ReplicaState<V> {
     ghost use Rattle.mb_model.specs.PlainChecks.{is_wanted};
     ghost use Rattle.mb_model.specs.Sending.{Progress};
     ghost use Rattle.mb_model.specs.Given.{give_state};
-    ghost use Rattle.std.specs.Prelude.{length, ◌≡◌, ◌<◌, IfOk};
+    ghost use Rattle.std.specs.Prelude.{length, ◌≡◌, ◌<◌};
     ghost use Rattle.mb_base.specs.Shapes.{client_count};
     ghost use Rattle.mb_cache.specs.Tables.{last_of};
-    ghost use Rattle.mb_replica.specs.Represents.{Serves, StandsAt, IsInStep, Answers, Represents};
+    ghost use Rattle.mb_replica.specs.Represents.{Serves, StandsAt, IsInStep, Represents};
     ghost use Rattle.mb_replica.specs.Steps.{AnswersAt, Reacts};
     ghost use Rattle.mb_replica.specs.Between.{WritesNormal};
     ghost use Rattle.mb_replica.specs.Installing.{Settles, WritesInstalled, DoesInstall};

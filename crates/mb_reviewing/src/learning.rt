@@ -1,19 +1,16 @@
 //! The word `learn`: the history that a record proves.
 
-ghost use Rattle.std.specs.Prelude.{◌≡◌, ◌+◌, Contains, List, [], length, IfOk, IfSome, OnOk};
+ghost use Rattle.std.specs.Prelude.{◌≡◌, ◌+◌, Contains, [], IfOk, IfSome, OnOk};
 ghost use Rattle.std.specs.Io.KnownBytes.{IsAtEnd};
 ghost use Rattle.mb_edge.specs.Faults.{TellsFaults};
 ghost use Rattle.mb_edge.specs.Pieces.{ConsumesBetween};
 ghost use Rattle.mb_sched.specs.Records.{max_record};
-ghost use Rattle.mb_edge.specs.Seen.{device};
 ghost use Rattle.mb_answer.specs.Devices.{IsLow};
 ghost use Rattle.mb_answer.specs.Records.{AnswersText};
-ghost use Rattle.mb_base.specs.Shapes.{Bytes};
-ghost use Rattle.mb_msg.specs.declared.event.Slot.{Slot as TheSlot};
 ghost use Rattle.mb_sched.specs.declared.records.Record.{Record as TheRecord};
 ghost use Rattle.mb_audit.specs.Stamps.{texts};
 ghost use Rattle.mb_learn.specs.Learners.{Represents};
-ghost use Rattle.mb_reviewing.specs.Learning.{machine, snapshots, state_behind, learnt_text, differs_text, LearnsAll, AnswersLearn, LearnsFrom, learn_statuses, learn_findings, TellsLearnt};
+ghost use Rattle.mb_reviewing.specs.Learning.{machine, snapshots, differs_text, LearnsAll, AnswersLearn, LearnsFrom, learn_statuses, learn_findings, TellsLearnt};
 
 use crate::given::given_in;
 use mb_answer::{Answer, DIFFERS, DONE, refusal, respond, tell_unread};

@@ -12,7 +12,7 @@ use Rattle.mb_node.specs.declared.stops.ServeStop.TheVariants as stop
 use Rattle.mb_node.specs.Receives.{Receives, ReceiveFits}
 use Rattle.mb_node.specs.Events.{has_stop, events}
 use Rattle.mb_node.specs.Recording.{lines_of}
-use Rattle.mb_node.specs.Outside.{Outside, outside, Adds}
+use Rattle.mb_node.specs.Outside.{outside, Adds}
 use Rattle.mb_node.specs.Serving.{datagrams_of, AreCutOff, EndsByStop}
 use Rattle.mb_sched.specs.declared.configs.Config.{Config}
 use Rattle.mb_sched.specs.Records.{record_head}

@@ -1,14 +1,13 @@
 //! The word `journal`, and the word `node` with the path of a journal: a host that keeps each event on a disk before it acts on it.
 
-ghost use Rattle.std.specs.Prelude.{◌≡◌, ◌+◌, ◌<◌, ◌⊎◌, Contains, OnOk, IfOk, IfErr, IfSome, IsErrOf, false};
+ghost use Rattle.std.specs.Prelude.{◌≡◌, ◌+◌, ◌<◌, Contains, OnOk, IfOk, IfErr, IfSome, IsErrOf, false};
 ghost use Rattle.std.specs.List.{flat_map};
 ghost use Rattle.std.specs.Io.KnownBytes.{IsAtEnd, Appends};
 ghost use Rattle.mb_base.specs.Shapes.{host_count};
-ghost use Rattle.mb_edge.specs.Faults.{TellsFaults, Rose};
+ghost use Rattle.mb_edge.specs.Faults.{TellsFaults};
 ghost use Rattle.mb_edge.specs.Pieces.{ConsumesBetween, AppendsPart};
 ghost use Rattle.mb_sched.specs.Configs.{max_config};
 ghost use Rattle.mb_sched.specs.Records.{entry_text};
-ghost use Rattle.mb_edge.specs.Seen.{device, link_state, disk_state};
 ghost use Rattle.mb_serving.specs.Nodes.{served_status};
 ghost use Rattle.mb_serving.specs.Journals.{IsMade, SparesFile, IsOpened, Makes, MakesBy, ServesMore, ServesKept, KeepsWith, IsOfWriting, KeepsServing, making_statuses, kept_node_statuses};
 

@@ -7,7 +7,6 @@ ghost use Rattle.mb_edge.specs.Faults.{TellsFaults};
 ghost use Rattle.mb_edge.specs.Pieces.{ConsumesBetween};
 ghost use Rattle.mb_sched.specs.Configs.{max_config};
 ghost use Rattle.mb_node.specs.Stops.{IsOfDisk};
-ghost use Rattle.mb_edge.specs.Seen.{device, link_state};
 ghost use Rattle.mb_serving.specs.Nodes.{served_status, Begins, Serves, HostServes, Nodes, IsNodeStatus, serving_statuses, node_statuses};
 
 use mb_answer::{

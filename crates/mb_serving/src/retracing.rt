@@ -6,7 +6,6 @@ ghost use Rattle.mb_base.specs.Shapes.{host_count};
 ghost use Rattle.mb_edge.specs.Faults.{TellsFaults};
 ghost use Rattle.mb_edge.specs.Pieces.{ConsumesBetween};
 ghost use Rattle.mb_sched.specs.Records.{max_record};
-ghost use Rattle.mb_edge.specs.Seen.{device};
 ghost use Rattle.mb_answer.specs.Devices.{IsLow};
 ghost use Rattle.mb_serving.specs.Records.{AnswersRecord, AnswersRecordText, Retraces, same_text, differs_text, retrace_statuses};
 

@@ -1,6 +1,5 @@
 -- The story of a schedule: what is told of each event, up to the first that something stands in the way of.
-use Rattle.std.specs.Prelude.{◌≡◌, ℕ, ◌+◌, true, List, length, is_some, Some, Result, slice_get}
-use Rattle.mb_base.specs.Shapes.{Bytes}
+use Rattle.std.specs.Prelude.{◌≡◌, ℕ, ◌+◌, true, List, length, is_some, Some, slice_get}
 use Rattle.mb_service.specs.Machine.{ServiceMachine}
 use Rattle.mb_schedule.specs.declared.schedule.Schedule.{Schedule}
 use Rattle.mb_schedule.specs.declared.schedule.WorldEvent.{WorldEvent}

@@ -1,10 +1,10 @@
 -- What a command does, by its words.
-use Rattle.std.proofs.Common.{◌≡◌, ℕ, ◌≤◌, true, List, Option, Some, None, IfSome, refl, sym, subst, arith}
+use Rattle.std.proofs.Common.{◌≡◌, ℕ, ◌≤◌, List, Option, Some, None, IfSome, refl, sym, subst, arith}
 use Rattle.std.specs.Prelude.{Contains}
 use Rattle.std.specs.Io.KnownBytes.{IsAtEnd}
 use Rattle.mb_base.specs.Shapes.{Bytes}
 use Rattle.mb_top.specs.declared.command.Command.{Command}
-use Rattle.mb_top.specs.declared.command.Command.TheVariants.{Replay, Soak, Node, KeptNode, Journal, Retrace, Cluster, Audit, Learn}
+use Rattle.mb_top.specs.declared.command.Command.TheVariants.{Replay, Soak, Node, Retrace, Cluster, Audit, Learn}
 use Rattle.mb_answer.specs.Clusters.{StayIdle, Clusters}
 use Rattle.mb_edge.specs.Seen.{Device, LinkState, DiskState}
 use Rattle.mb_answer.specs.Devices.{Devices, Says}

@@ -1,5 +1,5 @@
 -- What the words of a command ask for.
-use Rattle.std.specs.Prelude.{◌≡◌, ◌-◌, ◌^◌, ◌≤◌, Bool, true, false, List, [], ◌∷◌, map, Option, Some, None, if◌then◌else◌, String, string_bytes}
+use Rattle.std.specs.Prelude.{◌≡◌, ◌-◌, ◌^◌, ◌≤◌, List, [], ◌∷◌, map, Option, Some, None, if◌then◌else◌, String, string_bytes}
 use Rattle.mb_base.specs.Shapes.{Bytes}
 use Rattle.mb_sched.specs.Words.{◌>>=◌, is, number_in}
 use Rattle.mb_top.specs.declared.command.Command.{Command}

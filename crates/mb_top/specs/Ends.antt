@@ -1,6 +1,5 @@
 -- Which statuses come where no device fails that a command uses: one that is given what it asks for comes to one of its ends, unless memory runs out.
-use Rattle.std.specs.Prelude.{◌≡◌, ℕ, ◌⊎◌, ◌≤◌, length, Option, Some, None, IfSome}
-use Rattle.mb_base.specs.Shapes.{Bytes}
+use Rattle.std.specs.Prelude.{◌≡◌, ℕ, ◌⊎◌, ◌≤◌, Option, Some, IfSome}
 use Rattle.mb_edge.specs.Faults.{Rose}
 use Rattle.mb_answer.specs.Devices.{Devices}
 use Rattle.mb_answer.specs.Clusters.{IsRun}

@@ -8,7 +8,6 @@ ghost use Rattle.mb_theory.specs.World.{World as WorldState, System, nothing_hap
 ghost use Rattle.mb_world.specs.Tables.{RepresentsWorld};
 ghost use Rattle.mb_world.specs.declared.seen.WorldStop.TheVariants as stop;
 ghost use Rattle.mb_edge.specs.Faults.{TellsFaults};
-ghost use Rattle.mb_edge.specs.Seen.{device};
 ghost use Rattle.mb_answer.specs.Devices.{IsLow};
 ghost use Rattle.mb_top.specs.Responses.{Soaks};
 ghost use Rattle.mb_top.specs.Systems.{system_of, world};

@@ -1,6 +1,5 @@
 -- A world before an event, while it runs, and behind it: the tables are the same, or those of the next world.
-use Rattle.std.proofs.Common.{◌≡◌, ℕ, List, Result}
-use Rattle.mb_base.specs.Shapes.{Bytes}
+use Rattle.std.proofs.Common.{◌≡◌}
 use Rattle.mb_service.specs.declared.service.Service.{Ghosts}
 use Rattle.mb_service.specs.Machine.{ServiceMachine}
 use Rattle.mb_theory.specs.World.{World as WorldState, System}

@@ -1,6 +1,5 @@
 -- What the code's world is: a world of the definitions, table by table.
-use Rattle.std.specs.Prelude.{◌≡◌, ℕ, true, false, List, ◌∷◌, length, Result, Ok, Err}
-use Rattle.mb_base.specs.Shapes.{Bytes}
+use Rattle.std.specs.Prelude.{◌≡◌, true, false, ◌∷◌, length, Result, Ok, Err}
 use Rattle.mb_service.specs.Machine.{ServiceMachine}
 use Rattle.mb_schedule.specs.declared.schedule.Schedule.{Schedule}
 use Rattle.mb_theory.specs.Refusals.{refusals}

@@ -12,24 +12,21 @@ use mb_service::Service;
 use std::alloc::Global;
 
 impl<V: Service + Drop> World<V> {
-    ghost use Rattle.std.specs.Prelude.{◌≡◌, ◌<◌, ◌+◌, ◌-◌, ◌^◌, ◌++◌, true, false, None, reverse, filter_map, IfOk, OnOk};
+    ghost use Rattle.std.specs.Prelude.{◌≡◌, ◌<◌, ◌+◌, ◌-◌, ◌^◌, true, None, IfOk, OnOk};
     ghost use Rattle.mb_base.specs.Shapes.{client_count, host_count};
     ghost use Rattle.mb_schedule.specs.declared.schedule.WorldEvent.TheVariants.{Give, Take, Raw};
-    ghost use Rattle.mb_model.specs.Given.{Answer};
-    ghost use Rattle.mb_replica.specs.Represents.{IsTold};
     ghost use Rattle.mb_replica.specs.Told.{KnowsBytes, KnowsEvent};
     ghost use Rattle.mb_schedule.specs.Limits.{is_faulty, NameFits};
     ghost use Rattle.mb_msg.specs.declared.event.Event.TheVariants.{Given};
-    ghost use Rattle.mb_theory.specs.World.{World as WorldState, System, arrives, lost_or, steps, stepped, numbered, answered, update, give_host, give_client, signal};
+    ghost use Rattle.mb_theory.specs.World.{World as WorldState, System, arrives, lost_or, steps, stepped, numbered, answered, give_host, give_client, signal};
     ghost use Rattle.mb_theory.specs.WorldSteps.{with_message, happens};
     ghost use Rattle.mb_theory.specs.Stops.{stop_of};
     ghost use Rattle.mb_parties.specs.Hosts.{IsSystem};
-    ghost use Rattle.mb_parties.specs.Members.{AllRun, RepresentsMembers};
-    ghost use Rattle.mb_parties.specs.Stamps.{FitsWhereStamped, bare_in, bares_of};
+    ghost use Rattle.mb_parties.specs.Members.{AllRun};
     ghost use Rattle.mb_world.specs.Answers.{as_answer};
     ghost use Rattle.mb_genuine.specs.Reached.{IsReached};
-    ghost use Rattle.mb_world.specs.Sent.{SendsClean, SentIsClean};
-    ghost use Rattle.mb_world.specs.Tables.{RepresentsRest, RepresentsWorld, HasWorld, Leaves};
+    ghost use Rattle.mb_world.specs.Sent.{SendsClean};
+    ghost use Rattle.mb_world.specs.Tables.{RepresentsWorld, HasWorld, Leaves};
     ghost use Rattle.mb_world.specs.Happening.{FromServing, FromReached, Happens, Enters};
 
     // ---- answers

@@ -61,11 +61,11 @@ impl<V: Service + Drop> World<V> {
     ghost use Rattle.mb_base.specs.Shapes.{client_count, host_count};
     ghost use Rattle.mb_msg.specs.Fits.{FitsStamped};
     ghost use Rattle.mb_schedule.specs.Limits.{EventFits};
-    ghost use Rattle.mb_theory.specs.World.{World as WorldState, System, nothing_happened, numbered};
+    ghost use Rattle.mb_theory.specs.World.{World as WorldState, System, numbered};
     ghost use Rattle.mb_theory.specs.WorldSteps.{happens};
     ghost use Rattle.mb_theory.specs.Stops.{stop_of};
     ghost use Rattle.mb_client.specs.Represents.{Represents};
-    ghost use Rattle.mb_parties.specs.Hosts.{IsSystem, AreServices};
+    ghost use Rattle.mb_parties.specs.Hosts.{IsSystem};
     ghost use Rattle.mb_parties.specs.Members.{AllRun, IsHost};
     ghost use Rattle.mb_world.specs.Answers.{as_answer, Tells};
     ghost use Rattle.mb_world.specs.Contents.{IsAllowed, stamping_host};

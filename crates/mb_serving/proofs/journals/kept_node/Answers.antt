@@ -2,7 +2,6 @@ use Rattle.std.proofs.Common.{refl, sym, inr}
 use Rattle.std.proofs.lemmas.Option.{IfSome_then}
 use Rattle.mb_edge.proofs.FaultLemmas.{tells_both, tells_none, tells_as}
 use Rattle.mb_answer.specs.Configs.{used, unused}
-use Rattle.mb_edge.specs.Seen.{device, link_state, disk_state}
 use Rattle.mb_answer.proofs.Statuses.{low_no_disk, low_no_link}
 use Rattle.mb_serving.proofs.JournalLaws.{kept_from, kept_node_completes, lack_kept}
 use Rattle.mb_serving.proofs.journals.kept_node.Goals as goal

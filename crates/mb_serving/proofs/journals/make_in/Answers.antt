@@ -5,7 +5,6 @@ use Rattle.mb_journal.specs.Headers.{header_text}
 use Rattle.mb_journal.specs.Making.{SaysNothing}
 use Rattle.mb_journal.proofs.Crashes.{leaves_same}
 use Rattle.mb_node.proofs.Faults.{call_calm, counts_after}
-use Rattle.mb_edge.specs.Seen.{disk_state}
 use Rattle.mb_serving.proofs.JournalLaws.{not_made, made_of, making_fault}
 use Rattle.mb_serving.proofs.journals.make_in.Goals as goal
 

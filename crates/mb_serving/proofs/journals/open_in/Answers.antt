@@ -7,7 +7,6 @@ use Rattle.mb_journal.specs.Keeping.{JournalState}
 use Rattle.mb_journal.specs.Opening.{StaysWhole}
 use Rattle.mb_journal.proofs.Crashes.{leaves_same}
 use Rattle.mb_node.proofs.Faults.{call_calm, counts_after}
-use Rattle.mb_edge.specs.Seen.{disk_state}
 use Rattle.mb_serving.proofs.JournalLaws.{not_opened, opened_of, opening_fault}
 use Rattle.mb_serving.proofs.journals.open_in.Goals as goal
 

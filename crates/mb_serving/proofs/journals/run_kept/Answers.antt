@@ -9,7 +9,6 @@ use Rattle.mb_sched.specs.declared.records.Entry.{Entry}
 use Rattle.mb_sched.specs.Records.{entry_text, record_head}
 use Rattle.mb_node.specs.Recording.{entries_of}
 use Rattle.mb_node.proofs.Faults.{calm_of, counts_none}
-use Rattle.mb_edge.specs.Seen.{device, link_state, disk_state}
 use Rattle.mb_serving.specs.Nodes.{headless}
 use Rattle.mb_serving.specs.Records.{host_of}
 use Rattle.mb_serving.specs.Journals.{start_of}

@@ -1,5 +1,4 @@
 use Rattle.std.proofs.Common.{Err, sym, ap, ◌∙◌}
-use Rattle.mb_edge.specs.Seen.{device}
 use Rattle.mb_answer.proofs.Statuses.{tells_read}
 use Rattle.std.proofs.lemmas.Result.{err_from_is_err_and}
 use Rattle.mb_edge.proofs.FaultLemmas.{tells_none, tells_as, tells_call}
