@@ -7,6 +7,7 @@ use Rattle.std.proofs.lemmas.Bool.{leb-true, and_parts}
 use Rattle.hex.specs.Hex.{decode_of}
 use Rattle.hex.specs.declared.error.FromHexError.{FromHexError}
 use Rattle.hex.proofs.HexLemmas.{decode_of-ok}
+use Rattle.mb_base.specs.Limits.{text_limit}
 use Rattle.mb_base.specs.Shapes.{Bytes}
 use Rattle.mb_base.specs.declared.shape.Shape.{Shape}
 use Rattle.mb_parts.specs.Fits.{FitsText}
@@ -31,7 +32,8 @@ use Rattle.mb_answer.specs.Clusters.{run_status, cluster_statuses, HasRisen, Run
 use Rattle.mb_answer.proofs.Statuses.{low_no_end}
 use Rattle.mb_answer.proofs.Contained.{any_of}
 use Rattle.mb_answer.specs.Configs.{IsConfigText, too_long, bad_line, LacksConfig, lack_statuses, FindsConfig, used, unused}
-use Rattle.mb_answer.specs.Devices.{Device, Devices, IsLow, answered, unread, starved}
+use Rattle.mb_edge.specs.Seen.{Device}
+use Rattle.mb_answer.specs.Devices.{Devices, IsLow, answered, unread, starved}
 use Rattle.mb_answer.proofs.SameShapes.{same_shape}
 
 -- ---- one config
@@ -62,7 +64,7 @@ decoded_is (Err d) bytes e = absurd cc
 operation_short : (word op : Bytes) → operation_of word ≡ Some op → FitsText op
 operation_short word op e =
     let a = allowed (is_operation word) (bytes_of word) op e in
-    let within : length word ≤ 2 * 1024 = leb-true _ _ (and_parts (is_hex word) (leb (length word) (2 * 1024)) a.0).1 in
+    let within : length word ≤ 2 * text_limit = leb-true _ _ (and_parts (is_hex word) (leb (length word) (2 * text_limit)) a.0).1 in
     let b = allowed (is_hex word) (cond (is "-" word) (Some []) (result_ok (decode_of word))) op a.1 in
     elim (true_or_false (is "-" word)) [
       | inl dash ↦ let none : Some [] ≡ Some op = rw dash at b.1 in rw (← some_is [] op none) (omega arith)

@@ -16,7 +16,8 @@ use Rattle.mb_answer.specs.Refusals.{IsRefusal}
 use Rattle.mb_answer.specs.Configs as config
 use Rattle.mb_answer.specs.Configs.{RefusesConfig, lack_statuses}
 use Rattle.mb_answer.specs.Texts.{too_long_text}
-use Rattle.mb_answer.specs.Devices.{Device, Says, said, failed, cut_short, SaysOrStarves, says, lacks, IsUnread, IsFinding, IsToldBy, IsLow, Responds, answered, unread, starved}
+use Rattle.mb_edge.specs.Seen.{Device}
+use Rattle.mb_answer.specs.Devices.{Says, said, failed, cut_short, SaysOrStarves, says, lacks, IsUnread, IsFinding, IsToldBy, IsLow, Responds, answered, unread, starved}
 
 -- ---- numbers
 

@@ -8,6 +8,7 @@ use Rattle.mb_cluster.specs.Runs.{Asks, Opens, wire}
 use Rattle.mb_cluster.specs.Missing.{EndsByStops, AwaitsEach}
 use Rattle.mb_cluster.specs.Order.{GoesInOrder}
 use Rattle.mb_edge.specs.Faults.{Rose}
+use Rattle.mb_edge.specs.Seen.{Device, LinkState, SpawnerState}
 use Rattle.mb_sched.specs.declared.configs.Config.{Config}
 use Rattle.mb_answer.specs.Configs.{IsConfigText, Uses}
 use Rattle.mb_answer.specs.Devices.{Devices}
@@ -57,6 +58,10 @@ pub record StayIdle (old new : Devices) : Type 0 where
 abbrev pub Clusters : Bytes → ℕ → ℕ → Devices → Devices → Type 0
 Clusters text turns status old new = Uses text (λ c. RunsCluster c turns status old new) (StayIdle old new) status old.source new.source old.sink new.sink
 
+-- with the text that the source tells
+abbrev pub RunsWith : ℕ → ℕ → Devices → Devices → Type 0
+RunsWith turns status old new = IfSome old.source.bytes (λ text. Clusters text turns status old new)
+
 -- No node was started, or by the config of the text STOP was sent to every host three times, behind all else, but for as many as the link failed.
 abbrev pub TellsToStop : Option Bytes → Spawned → Spawned → ℕ → ℕ → Option (List (ℕ × Bytes)) → Option (List (ℕ × Bytes)) → Type 0
 TellsToStop text old new faults faults' sent sent' = (new.starts ≡ old.starts) ⊎ IfSome text (λ t. (c : Config) → IsConfigText t c → EndsByStops c faults faults' sent sent')
@@ -64,6 +69,14 @@ TellsToStop text old new faults faults' sent sent' = (new.starts ≡ old.starts)
 -- By the config of the text each node that was started was waited for, but for as many as the spawner failed.
 abbrev pub AwaitsStarted : Option Bytes → ℕ → ℕ → Spawned → Spawned → Type 0
 AwaitsStarted text faults faults' old new = IfSome text (λ t. (c : Config) → IsConfigText t c → AwaitsEach c faults faults' old new)
+
+-- So it is of a link and a spawner before and after.
+abbrev pub TellsStops : Device → SpawnerState → SpawnerState → LinkState → LinkState → Type 0
+TellsStops source old new link link' =
+    TellsToStop source.bytes (spawned old.starts old.waits) (spawned new.starts new.waits) link.faults link'.faults link.sent link'.sent
+
+abbrev pub AwaitsNodes : Device → SpawnerState → SpawnerState → Type 0
+AwaitsNodes source old new = AwaitsStarted source.bytes old.faults new.faults (spawned old.starts old.waits) (spawned new.starts new.waits)
 
 -- A count of bad ends never falls, and rose where a bad end is told. None is told where all are known to end well.
 pub record TellsBadEnds (well : Type 0) (before now : ℕ) (told : Type 0) : Type 0 where

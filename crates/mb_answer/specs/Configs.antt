@@ -3,7 +3,8 @@ use Rattle.std.specs.Prelude.{◌≡◌, ℕ, ◌≤◌, ◌<◌, List, [], ◌�
 use Rattle.mb_base.specs.Shapes.{Bytes}
 use Rattle.mb_sched.specs.declared.configs.Config.{Config}
 use Rattle.mb_sched.specs.Configs.{max_config, config_of, config_contents}
-use Rattle.mb_answer.specs.Devices.{Device, IsLow, Responds}
+use Rattle.mb_edge.specs.Seen.{Device}
+use Rattle.mb_answer.specs.Devices.{IsLow, Responds}
 use Rattle.mb_answer.specs.Texts.{too_long_text, bad_line_text}
 
 abbrev pub IsConfigText : Bytes → Config → Type 0

@@ -1,41 +1,13 @@
 -- What a call leaves at the devices, and its status.
-use Rattle.std.specs.Prelude.{◌≡◌, ℕ, ◌<◌, ◌⊎◌, List, Option}
+use Rattle.std.specs.Prelude.{◌≡◌, ℕ, ◌<◌, ◌⊎◌}
 use Rattle.std.specs.Io.KnownBytes.{Appends}
 use Rattle.mb_base.specs.Shapes.{Bytes}
 use Rattle.mb_edge.specs.declared.reading.ReadStop.{ReadStop}
 use Rattle.mb_edge.specs.declared.reading.ReadStop.TheVariants as stop
-use Rattle.mb_edge.specs.declared.spawner.Start.{Start}
 use Rattle.mb_edge.specs.Faults.{Rose}
+use Rattle.mb_edge.specs.Seen.{Device, LinkState, SpawnerState}
 use Rattle.mb_edge.specs.Pieces.{AppendsPart}
 use Rattle.mb_answer.specs.Texts.{too_long_text}
-
--- a source or a sink at a moment: its bytes, where it tells them, and its count of faults
-pub record Device : Type 0 where
-  pub bytes : Option Bytes
-  pub faults : ℕ
-
-abbrev pub device : Option Bytes → ℕ → Device
-device bytes faults = record { bytes = bytes; faults = faults }
-
--- a link at a moment: what it tells of its receives, sends and opens, and its count of faults
-pub record LinkState : Type 0 where
-  pub received : Option (List (Option Bytes))
-  pub sent : Option (List (ℕ × Bytes))
-  pub opens : Option (List (ℕ × ℕ))
-  pub faults : ℕ
-
-abbrev pub link_state : Option (List (Option Bytes)) → Option (List (ℕ × Bytes)) → Option (List (ℕ × ℕ)) → ℕ → LinkState
-link_state received sent opens faults = record { received = received; sent = sent; opens = opens; faults = faults }
-
--- a spawner at a moment: what it tells of its starts and waits, and its counts of faults and of bad ends
-pub record SpawnerState : Type 0 where
-  pub starts : Option (List (ℕ × Start))
-  pub waits : Option (List (ℕ × ℕ))
-  pub faults : ℕ
-  pub bad_ends : ℕ
-
-abbrev pub spawner_state : Option (List (ℕ × Start)) → Option (List (ℕ × ℕ)) → ℕ → ℕ → SpawnerState
-spawner_state starts waits faults bad_ends = record { starts = starts; waits = waits; faults = faults; bad_ends = bad_ends }
 
 -- all four at a moment
 pub record Devices : Type 0 where
@@ -44,8 +16,8 @@ pub record Devices : Type 0 where
   pub link : LinkState
   pub spawner : SpawnerState
 
-abbrev pub devices : Device → Device → LinkState → SpawnerState → Devices
-devices source sink link spawner = record { source = source; sink = sink; link = link; spawner = spawner }
+abbrev pub edge : Device → Device → LinkState → SpawnerState → Devices
+edge source sink link spawner = record { source = source; sink = sink; link = link; spawner = spawner }
 
 -- ---- texts
 

@@ -1,13 +1,12 @@
 //! A host's stamps in the order of their counters, and at one counter of their bytes.
 
-ghost use Rattle.std.specs.Prelude.{◌≡◌, ◌∷◌, ◌++◌, [], ℕ, List, map, OnOk, IfOk};
+ghost use Rattle.std.specs.Prelude.{◌≡◌, ◌∷◌, [], ℕ, map, IfOk};
 ghost use Rattle.std.specs.List.{AllByRecursion, flat_map};
 ghost use Rattle.mb_base.specs.declared.shape.Shape.{Shape as TheShape};
-ghost use Rattle.mb_parts.specs.Claims.{Claim};
 ghost use Rattle.mb_model.specs.GateChecks.{stamp_claim};
 ghost use Rattle.mb_audit.specs.Certified.{IsBareStamp};
 ghost use Rattle.mb_audit.specs.Stamps.{claims_of};
-ghost use Rattle.mb_audit.specs.Kept.{KeepsStamps};
+ghost use Rattle.mb_audit.specs.Kept.{KeepsStamps, KeepsMore};
 
 use crate::certified::certified_in;
 use mb_base::{Counter, Duplicate, Host, NoMemory, Shape};
@@ -31,8 +30,7 @@ fn keep(
     kept: &mut Kept,
 ) -> Result<(), NoMemory>
     requires { IsBareStamp shape.now stamp.now }
-    ensures { (claims : List Claim) → KeepsStamps shape.now usig.now.secret host claims kept.old.entries
-        → OnOk result (KeepsStamps shape.now usig.now.secret host (claims ++ stamp_claim stamp.now ∷ []) kept.new.entries) }
+    ensures { KeepsMore shape.now usig.now.secret host (stamp_claim stamp.now ∷ []) kept.old.entries result kept.new.entries }
 {
     let ui = stamp.ui();
     if ui.host != host {
@@ -55,8 +53,7 @@ fn keep_all(
     kept: &mut Kept,
 ) -> Result<(), NoMemory>
     requires { AllByRecursion (IsBareStamp shape.now) stamps.now }
-    ensures { (claims : List Claim) → KeepsStamps shape.now usig.now.secret host claims kept.old.entries
-        → OnOk result (KeepsStamps shape.now usig.now.secret host (claims ++ map stamp_claim stamps.now) kept.new.entries) }
+    ensures { KeepsMore shape.now usig.now.secret host (map stamp_claim stamps.now) kept.old.entries result kept.new.entries }
 {
     for stamp in stamps {
         keep(alloc, shape, usig, host, stamp, kept)?;
@@ -73,8 +70,7 @@ fn keep_shown(
     bytes: &[u8],
     kept: &mut Kept,
 ) -> Result<(), NoMemory>
-    ensures { (claims : List Claim) → KeepsStamps shape.now usig.now.secret host claims kept.old.entries
-        → OnOk result (KeepsStamps shape.now usig.now.secret host (claims ++ claims_of shape.now bytes.now) kept.new.entries) }
+    ensures { KeepsMore shape.now usig.now.secret host (claims_of shape.now bytes.now) kept.old.entries result kept.new.entries }
 {
     match decode(alloc, shape, bytes) {
         Ok(message) => {

@@ -1,6 +1,7 @@
 //! How many hosts and clients a system has, and how often it takes a checkpoint.
 
 ghost use Rattle.std.specs.Prelude.{◌≡◌, ◌≤◌};
+ghost use Rattle.mb_base.specs.Limits.{most_faults, least_interval, most_interval, most_clients};
 
 use crate::names::{Host, View};
 
@@ -12,9 +13,9 @@ pub struct Shape {
     f: u8,
     k: u8,
     clients: u8,
-    ghost faults_in: { (1 ≤ f) × (f ≤ 3) },
-    ghost interval_in: { (4 ≤ k) × (k ≤ 32) },
-    ghost clients_in: { (1 ≤ clients) × (clients ≤ 64) },
+    ghost faults_in: { (1 ≤ f) × (f ≤ most_faults) },
+    ghost interval_in: { (least_interval ≤ k) × (k ≤ most_interval) },
+    ghost clients_in: { (1 ≤ clients) × (clients ≤ most_clients) },
 }
 
 /// The first of the three numbers of a shape that is outside its limits.

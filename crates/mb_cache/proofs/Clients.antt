@@ -6,6 +6,7 @@ use Rattle.std.proofs.lemmas.Bool.{lt-ltb, le-ltb, ltb-true, leb-true, le-leb, e
 use Rattle.std.proofs.lemmas.List.{get_or-set_same, length-append}
 use Rattle.std.proofs.lemmas.List.Concat.{flat_map-cons}
 use Rattle.std.proofs.lemmas.Option.{slice_get-get_or, unwrap_or-slice_get}
+use Rattle.mb_base.specs.Limits.{text_limit}
 use Rattle.mb_base.specs.Shapes.{Bytes}
 use Rattle.mb_base.proofs.Laws.{number_length, wide16, wide64}
 use Rattle.mb_parts.specs.declared.limits.TheConstants.{MAX_PLACE}
@@ -57,11 +58,11 @@ place_cases false pos e = omega (arith, leb-true _ _ (and_parts (ltb 0 pos) (leb
 pub place_small : (seq pos : ℕ) → is_place_of seq pos ≡ true → pos < 2 ^ 63
 place_small seq pos e = place_cases (eqb seq 0) pos e
 
-size_cases : (zero_seq : Bool) (size : ℕ) → cond zero_seq (eqb size 0) (leb size 1024) ≡ true → size ≤ 1024
+size_cases : (zero_seq : Bool) (size : ℕ) → cond zero_seq (eqb size 0) (leb size text_limit) ≡ true → size ≤ text_limit
 size_cases true size e = omega (arith, eqb-true _ _ e)
 size_cases false size e = omega (arith, leb-true _ _ e)
 
-pub size_small : (seq size : ℕ) → is_size_of seq size ≡ true → size ≤ 1024
+pub size_small : (seq size : ℕ) → is_size_of seq size ≡ true → size ≤ text_limit
 size_small seq size e = size_cases (eqb seq 0) size e
 
 pub some_place : (seq pos : ℕ) → 0 < seq → is_place_of seq pos ≡ true → IsPosition pos
@@ -72,12 +73,12 @@ some_place seq pos some e =
     (omega (arith, ltb-true _ _ both.0), place_small seq pos e)
 
 -- what an execution stores
-pub stored_fits : (seq pos : ℕ) (result : Bytes) → 0 < seq → seq < 2 ^ 64 → IsPosition pos → length result ≤ 1024 → IsLast (record { seq = seq; pos = pos; result = result })
+pub stored_fits : (seq pos : ℕ) (result : Bytes) → 0 < seq → seq < 2 ^ 64 → IsPosition pos → length result ≤ text_limit → IsLast (record { seq = seq; pos = pos; result = result })
 stored_fits seq pos result some small position short =
     let not_zero : eqb seq 0 ≡ false = ne_eqb seq 0 (λ is. omega (arith, some, is)) in
     let above : ltb 0 pos ≡ true = lt-ltb _ _ (omega (arith, position.0)) in
     let below : leb pos MAX_PLACE ≡ true = le-leb _ _ (omega (arith, position.1)) in
-    let size : leb (length result) 1024 ≡ true = le-leb _ _ (omega (arith, short)) in
+    let size : leb (length result) text_limit ≡ true = le-leb _ _ (omega (arith, short)) in
     record {
       seq = small;
       place = rw (not_zero, above, below) refl;

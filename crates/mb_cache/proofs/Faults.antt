@@ -1,6 +1,7 @@
 -- How far reading a table moves, and where it fails: all offsets are small.
 use Rattle.std.proofs.Common.{◌≡◌, ℕ, zero, suc, ◌+◌, ◌*◌, ◌<◌, ◌≤◌, ◌^◌, Bool, true, false, cond, ltb, eqb, List, [], ◌∷◌, length, take, inl, inr, Ok, Err, refl, sym, ap, subst, ◌∙◌, arith}
 use Rattle.std.specs.Int.{Width, w16, w64, byte_len, from_be_bytes}
+use Rattle.mb_base.specs.Limits.{most_clients}
 use Rattle.mb_base.specs.Shapes.{Bytes}
 use Rattle.mb_base.specs.Reading.{◌>>=◌, Cursor, cursor, Reads, onward, number_at, bytes_at, checked_at, repeat_at}
 use Rattle.mb_base.proofs.Laws.{bind_ok, bind_err, guard_ok, guard_err, allow_ok, allow_err, ok_is}
@@ -111,7 +112,7 @@ each_fails (suc n) s at e =
       ]
     ]
 
-module _ (clients : ℕ) (part : Bytes) (few : clients ≤ 64) (start : Cursor) (begins : start ≡ cursor 0 part) where
+module _ (clients : ℕ) (part : Bytes) (few : clients ≤ most_clients) (start : Cursor) (begins : start ≡ cursor 0 part) where
   -- a fault of a client is one of the table
   pub table_fails : (e : Undecoded) (new : Fields) → Fails e new (repeat_at last_reply_at clients start) → FailsTable e (table_of clients part)
   unfolding table_of

@@ -5,6 +5,7 @@ use Rattle.std.specs.Int.{w64}
 use Rattle.std.proofs.lemmas.List.{append-nil}
 use Rattle.std.proofs.lemmas.List.Concat.{flat_map-cons}
 use Rattle.sha2.specs.Sha256.{sha256}
+use Rattle.mb_base.specs.Limits.{service_parts}
 use Rattle.mb_base.specs.Shapes.{Bytes}
 use Rattle.mb_base.specs.Spelling.{number}
 use Rattle.mb_model.specs.Service.{Served}
@@ -44,7 +45,7 @@ one_more f m digest part next is up =
 
 -- what is hashed is the string of the state digest
 pub state_string : {S : Type 0} (snapshots : Snapshots S) (x : Served S) (pos : ℕ) (replies place : Bytes) → replies ≡ sha256 (table_bytes x.table) → place ≡ number w64 pos
-    → (flat_map (part_digest snapshots.part x.state) (range_with_len 0 64) ++ replies) ++ place ≡ digest_string (part_digests (parts_of snapshots x)) pos
+    → (flat_map (part_digest snapshots.part x.state) (range_with_len 0 service_parts) ++ replies) ++ place ≡ digest_string (part_digests (parts_of snapshots x)) pos
 unfolding digest_string parts_of
 state_string snapshots x pos replies place table is =
-    rw (table, is) (ap (λ (l : Bytes). l ++ number w64 pos) (sym (parts_and_table (snapshots.part x.state) (range_with_len 0 64) (table_bytes x.table))))
+    rw (table, is) (ap (λ (l : Bytes). l ++ number w64 pos) (sym (parts_and_table (snapshots.part x.state) (range_with_len 0 service_parts) (table_bytes x.table))))

@@ -1,12 +1,13 @@
 -- What the calls of a table answer.
 use Rattle.std.specs.Prelude.{◌≡◌, ℕ, ◌<◌, List, length, ◌==◌, Option, Some, None, Result, Ok, Err, if◌then◌else◌}
+use Rattle.mb_base.specs.Limits.{table_part}
 use Rattle.mb_base.specs.Shapes.{Bytes}
 use Rattle.mb_parts.specs.declared.request.Request.{Request}
 use Rattle.mb_service.specs.declared.restore.Restore.{Restore}
 use Rattle.mb_service.specs.declared.restore.Restore.TheVariants.{BadSnapshot, NoMemory}
 use Rattle.mb_model.specs.declared.known.LastReply.{LastReply}
 use Rattle.mb_model.specs.Service.{Served, is_fresh}
-use Rattle.mb_model.specs.States.{table_of, table_part}
+use Rattle.mb_model.specs.States.{table_of}
 use Rattle.mb_cache.specs.declared.accept.Accept.{Accept}
 use Rattle.mb_cache.specs.declared.accept.Accept.TheVariants.{Fresh, Old, Again}
 

@@ -1,7 +1,7 @@
 -- A service and a client table represent what `state_of` finds in a host's history.
-use Rattle.std.specs.Prelude.{◌≡◌, ℕ, ◌∷◌, ◌⊎◌, List, Result}
-use Rattle.mb_base.specs.Shapes.{Bytes}
+use Rattle.std.specs.Prelude.{◌≡◌, ℕ, ◌∷◌, ◌⊎◌, List}
 use Rattle.mb_parts.specs.declared.request.Request.{Request}
+use Rattle.mb_service.specs.Machine.{ServiceMachine}
 use Rattle.mb_msg.specs.declared.event.Placed.{Placed}
 use Rattle.mb_model.specs.declared.known.LastReply.{LastReply}
 use Rattle.mb_model.specs.Service.{Machine, Served, served}
@@ -12,11 +12,11 @@ use Rattle.mb_model.specs.Execution.{state_of}
 
 module _ {S : Type 0} where
   -- what a service does, as the model has it
-  abbrev pub machine_of : (S → Bytes → S) → (S → Bytes → Bytes) → Machine S
-  machine_of after answer = record { after = after; result = answer }
+  abbrev pub machine_of : ServiceMachine S → Machine S
+  machine_of m = record { after = m.after; result = m.answer }
 
-  abbrev pub snapshots_of : (S → ℕ → Bytes) → (List Bytes → Result S (ℕ × ℕ)) → Snapshots S
-  snapshots_of part restored = record { part = part; restored = restored }
+  abbrev pub snapshots_of : ServiceMachine S → Snapshots S
+  snapshots_of m = record { part = m.part_of; restored = m.restored }
 
   -- a service with its client table
   abbrev pub joined : S → List LastReply → Served S

@@ -2,6 +2,7 @@
 use Rattle.std.specs.Prelude.{◌≡◌, true, ℕ, ◌<◌, ◌≤◌, ◌^◌, ◌++◌, List, length, slice_get, unwrap_or}
 use Rattle.std.specs.List.{AllByRecursion}
 use Rattle.std.specs.Int.{w64}
+use Rattle.mb_base.specs.Limits.{most_clients}
 use Rattle.mb_base.specs.Shapes.{Bytes}
 use Rattle.mb_base.specs.Spelling.{number, text16}
 use Rattle.mb_model.specs.declared.known.LastReply.{LastReply}
@@ -21,7 +22,7 @@ pub record IsLast (a : LastReply) : Type 0 where
 -- a table of as many clients as a system may have
 pub record IsTable (table : List LastReply) : Type 0 where
   pub each : AllByRecursion IsLast table
-  pub few : length table ≤ 64
+  pub few : length table ≤ most_clients
 
 -- the bytes of one client
 abbrev pub last_text : LastReply → Bytes

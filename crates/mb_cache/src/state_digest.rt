@@ -23,7 +23,7 @@ pub fn digest<V: Service>(
     table: &Table,
     pos: Pos,
 ) -> Result<Digest, NoMemory>
-    ensures digest { IfOk result (λ d. d ≡ state_digest (parts_of (snapshots_of V.part_of V.restored) (joined service.old table.now)) pos) }
+    ensures digest { IfOk result (λ d. d ≡ state_digest (parts_of (snapshots_of V.machine) (joined service.old table.now)) pos) }
     ensures kept { service.new ≡ service.old }
 {
     let mut hasher = Sha256::new();
@@ -40,7 +40,7 @@ fn hash_parts<V: Service, H: Hasher>(
     service: &mut V,
     hasher: &mut H,
 ) -> Result<(), NoMemory>
-    ensures hashed { OnOk result ((m : List ℕ) → H.holds hasher.old m → H.holds hasher.new (m ++ flat_map (part_digest V.part_of service.old) (range_with_len 0 PARTS))) }
+    ensures hashed { OnOk result ((m : List ℕ) → H.holds hasher.old m → H.holds hasher.new (m ++ flat_map (part_digest V.machine.part_of service.old) (range_with_len 0 PARTS))) }
     ensures kept { service.new ≡ service.old }
 {
     for part in 0..PARTS {

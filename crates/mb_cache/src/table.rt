@@ -91,11 +91,11 @@ impl Table {
     ) -> Result<Option<Items<u8>>, NoMemory>
         requires client { request.now.client < length self.old }
         requires position { IsPosition pos }
-        ensures served { OnOk result (joined service.new self.new ≡ served (machine_of V.after V.answer) (joined service.old self.old) pos request.now) }
-        ensures answer { IfOk result (λ r. r ≡ result_of V.answer (joined service.old self.old) request.now) }
-        ensures stops { OnErr result (ServedOrNot (machine_of V.after V.answer) (joined service.old self.old) pos request.now (joined service.new self.new)) }
+        ensures served { OnOk result (joined service.new self.new ≡ served (machine_of V.machine) (joined service.old self.old) pos request.now) }
+        ensures answer { IfOk result (λ r. r ≡ result_of V.machine.answer (joined service.old self.old) request.now) }
+        ensures stops { OnErr result (ServedOrNot (machine_of V.machine) (joined service.old self.old) pos request.now (joined service.new self.new)) }
         ensures len { length self.new ≡ length self.old }
-        ensures stands { OnOk result (StandsServed (machine_of V.after V.answer) (joined service.old self.old) pos request.now (joined service.new self.new)) }
+        ensures stands { OnOk result (StandsServed (machine_of V.machine) (joined service.old self.old) pos request.now (joined service.new self.new)) }
     {
         if request.seq <= self.last_seq(request.client) {
             return Ok(None);
@@ -115,8 +115,8 @@ impl Table {
         requires client { request.now.client < length self.old }
         requires position { IsPosition pos }
         requires fresh { (last_of self.old request.now.client).seq < request.now.seq }
-        ensures served { OnOk result (joined service.new self.new ≡ served (machine_of V.after V.answer) (joined service.old self.old) pos request.now) }
-        ensures answer { OnOk result ((last_of self.new request.now.client).result ≡ V.answer service.old request.now.op) }
+        ensures served { OnOk result (joined service.new self.new ≡ served (machine_of V.machine) (joined service.old self.old) pos request.now) }
+        ensures answer { OnOk result ((last_of self.new request.now.client).result ≡ V.machine.answer service.old request.now.op) }
         ensures len { length self.new ≡ length self.old }
         ensures unserved { OnErr result (joined service.new self.new ≡ joined service.old self.old) }
     {

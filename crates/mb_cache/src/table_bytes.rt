@@ -3,6 +3,7 @@
 ghost use Rattle.std.specs.Prelude.{◌≡◌, ◌≤◌, ◌<◌, ◌^◌, ◌++◌, true, length, IfOk, OnOk};
 ghost use Rattle.std.specs.Int.{w16, w64};
 ghost use Rattle.std.specs.List.{AllByRecursion};
+ghost use Rattle.mb_base.specs.Limits.{most_clients};
 ghost use Rattle.mb_base.specs.Fields.{GivesIn, place_of};
 ghost use Rattle.mb_base.specs.Reading.{checked_at, number_at, repeat_at};
 ghost use Rattle.mb_parts.specs.Decoded.{Decodes, DecodesWhole};
@@ -130,7 +131,7 @@ pub(crate) fn read_table(
     clients: u64,
     part: &[u8],
 ) -> Result<Vec<LastReply>, Undecoded>
-    requires { clients ≤ 64 }
+    requires { clients ≤ most_clients }
     ensures read { DecodesTable result (table_of clients part.now) }
     ensures fits { IfOk result (λ v. IsTable v.items) }
     ensures len { IfOk result (λ v. length v.items ≡ clients) }

@@ -42,12 +42,18 @@ module _ (shape : Shape) (host : ℕ) (at : Floor) (s : Searches) where
   change_due = then_some (nat_lt at.view target) (due.ViewChange target)
 
   -- the primary that left the view before has f+1 VIEW_CHANGEs
+  abbrev pub may_announce : Bool
+  may_announce = leads && (is_changing && is_some (chosen shape at.view s.changes))
+
   abbrev pub announce_due : Option ChangeDue
-  announce_due = then_some (leads && (is_changing && is_some (chosen shape at.view s.changes))) due.NewView
+  announce_due = then_some may_announce due.NewView
 
   -- a backup that left the view before has the NEW_VIEW
+  abbrev pub may_enter : Bool
+  may_enter = not leads && (is_changing && is_some (new_view_in_view at.view s.new_view))
+
   abbrev pub enter_due : Option ChangeDue
-  enter_due = then_some (not leads && (is_changing && is_some (new_view_in_view at.view s.new_view))) due.Enter
+  enter_due = then_some may_enter due.Enter
 
   -- a host whose view is not open has its plan, and evidence of this plan; the primary only behind its NEW_VIEW
   abbrev pub may_open : Bool
@@ -70,8 +76,12 @@ module _ (shape : Shape) (host : ℕ) (at : Floor) (s : Searches) where
     abbrev pub is_past_plan : Bool
     is_past_plan = nat_lt 0 at.view && (not (phase_is_open at.phase) && (not (leads && is_changing) && (nat_lt 0 low && nat_le (end_of s.evidence) low)))
 
+    -- It has evidence of the view, and executed up to the stable position.
+    abbrev pub may_join : Bool
+    may_join = (lags_behind || is_past_plan) && (has_evidence && nat_le low exec)
+
     abbrev pub join_due : Option ChangeDue
-    join_due = then_some ((lags_behind || is_past_plan) && (has_evidence && nat_le low exec)) (due.Join low)
+    join_due = then_some may_join (due.Join low)
 
     -- the first that is due
     abbrev pub first_due : Option ChangeDue

@@ -21,15 +21,15 @@ pub enum ChangeDue {
 }
 
 impl Change {
-    ghost use Rattle.std.specs.Prelude.{◌≡◌, ◌<◌, ◌≤◌, ◌==◌, ◌&&◌, ◌||◌, not, nat_le, nat_lt, max, is_some, if◌then◌else◌};
+    ghost use Rattle.std.specs.Prelude.{◌≡◌, ◌<◌, ◌≤◌, ◌==◌, ◌&&◌, ◌||◌, nat_lt, max, is_some, if◌then◌else◌};
     ghost use Rattle.mb_base.specs.Shapes.{host_count, primary};
     ghost use Rattle.mb_parts.specs.Ordered.{end_of, phase_is_open, phase_is_entered};
-    ghost use Rattle.mb_model.specs.Held.{evidence_view, new_view_in_view};
+    ghost use Rattle.mb_model.specs.Held.{evidence_view};
     ghost use Rattle.mb_model.specs.EnabledRules.{new_view_number};
     ghost use Rattle.mb_change.specs.Tables.{wish_at};
     ghost use Rattle.mb_change.specs.Searches.{found_in};
-    ghost use Rattle.mb_change.specs.Rules.{is_wished, quorum_wish, leads, is_changing, target, may_open, has_evidence, lags_behind, is_past_plan, due_with};
-    ghost use Rattle.mb_change.specs.Evidences.{chosen, has_evidence_of_plan};
+    ghost use Rattle.mb_change.specs.Rules.{is_wished, quorum_wish, leads, target, may_open, lags_behind, is_past_plan, due_with, may_announce, may_enter, may_join};
+    ghost use Rattle.mb_change.specs.Evidences.{has_evidence_of_plan};
     ghost use Rattle.mb_change.specs.Represents.{Answers};
 
     /// The first rule of view changes that is due where this host stands `at`, has executed up to `exec`, and `low` is the stable position.
@@ -138,13 +138,13 @@ impl Change {
     // ---- the change to this host's view
 
     fn may_announce(&self, at: &Floor) -> bool
-        ensures { result ≡ (leads self.now.shape self.now.host at.now (found_in self.now) && (is_changing self.now.shape self.now.host at.now (found_in self.now) && is_some (chosen self.now.shape at.now.view self.now.changes))) }
+        ensures { result ≡ may_announce self.now.shape self.now.host at.now (found_in self.now) }
     {
         self.leads(at) && at.phase == Phase::Changing && self.has_quorum(at.view)
     }
 
     fn may_enter(&self, at: &Floor) -> bool
-        ensures { result ≡ (not (leads self.now.shape self.now.host at.now (found_in self.now)) && (is_changing self.now.shape self.now.host at.now (found_in self.now) && is_some (new_view_in_view at.now.view self.now.new_view))) }
+        ensures { result ≡ may_enter self.now.shape self.now.host at.now (found_in self.now) }
     {
         !self.leads(at) && at.phase == Phase::Changing && self.new_view_in(at.view).is_some()
     }
@@ -161,7 +161,7 @@ impl Change {
     // ---- what is stable and executed reaches beyond what was ordered in the view
 
     fn may_join(&self, at: &Floor, exec: Pos, low: Pos) -> bool
-        ensures { result ≡ ((lags_behind self.now.shape self.now.host at.now (found_in self.now) exec low || is_past_plan self.now.shape self.now.host at.now (found_in self.now) exec low) && (has_evidence self.now.shape self.now.host at.now (found_in self.now) exec low && nat_le low exec)) }
+        ensures { result ≡ may_join self.now.shape self.now.host at.now (found_in self.now) exec low }
     {
         (self.lags_behind(at, low) || self.is_past_plan(at, low))
             && (at.view == 0 || self.evidence_view() == at.view)

@@ -1,12 +1,12 @@
 //! A plan with what was hashed of it.
 
-use mb_base::{Digest, Pos, View};
+use mb_base::{Digest, Pos, Shape, View};
 use mb_msg::{Batch, Plan};
 use sha2::{Digest as Hasher, Sha256};
 use std::marker::Model;
 
 /// The most batches of a plan: two of the longest intervals.
-const MAX_BATCHES: usize = 64;
+const MAX_BATCHES: usize = 2 * Shape::MAX_K as usize;
 
 /// A plan that is held, with its view. Its digest and those of its batches are hashed once, as it comes.
 #[derive(Drop)]
@@ -89,13 +89,14 @@ impl HeldPlan {
 
 ghost use Rattle.std.specs.Prelude.{◌≡◌, ◌≤◌, ◌++◌, ℕ, List, length, map, take};
 ghost use Rattle.std.specs.List.{AllByRecursion, flat_map};
+ghost use Rattle.mb_base.specs.Limits.{plan_limit};
 ghost use Rattle.mb_base.specs.Shapes.{Bytes};
 ghost use Rattle.mb_parts.specs.Bares.{batch_digest};
 ghost use Rattle.mb_parts.specs.Fits.{CanDigest};
 ghost use Rattle.mb_msg.specs.Plans.{CanHash, plan_digest};
 
 fn digests_of(batches: &[Batch]) -> [Digest; MAX_BATCHES]
-    requires few { length batches.now ≤ 64 }
+    requires few { length batches.now ≤ plan_limit }
     requires hashed { AllByRecursion CanDigest batches.now }
     ensures { take (length batches.now) result ≡ map batch_digest batches.now }
 {

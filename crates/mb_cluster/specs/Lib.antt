@@ -11,6 +11,7 @@ pub mod Missing
 pub mod Joins
 pub mod Listens
 pub mod Steps
+pub mod Asking
 pub mod Writes
 pub mod Plays
 pub mod Order

@@ -18,3 +18,7 @@ pub record Listens (s : Shape) (secret : Bytes) (l : Listener) (c : Hearing) : T
 abbrev pub HeardAs : Option Reply → Asker → Asker → Type 0
 HeardAs None old new = (new.waits ≡ old.waits) × (new.accepted ≡ old.accepted)
 HeardAs (Some r) old new = (new.accepted ≡ r ∷ old.accepted) × (r.seq ≡ old.number)
+
+-- So it is whatever the client's side stands for.
+abbrev pub WhereListens : Listener → (Shape → Bytes → Hearing → Type 0) → Type 0
+WhereListens l P = (s : Shape) (secret : Bytes) (c : Hearing) → Listens s secret l c → P s secret c

@@ -1,6 +1,7 @@
 -- What is missing at the end of a run, where a device failed.
 use Rattle.std.specs.Prelude.{◌≡◌, ℕ, ◌+◌, ◌-◌, ◌^◌, ◌≤◌, ◌⊎◌, List, ◌++◌, length, map, Option}
 use Rattle.mb_base.specs.Shapes.{Bytes, host_count}
+use Rattle.mb_edge.specs.Seen.{LinkState, SpawnerState}
 use Rattle.mb_edge.specs.Told.{with_more}
 use Rattle.mb_sched.specs.declared.configs.Config.{Config}
 use Rattle.mb_cluster.specs.Posts.{posts, stops, AreSome}
@@ -36,3 +37,13 @@ pub record AwaitsEach (c : Config) (before now : ℕ) (old new : Spawned) : Type
   pub children : List ℕ
   pub started : AreStarted c (length children) children old.starts new.starts
   pub awaited : AwaitsBut children before now old.waits new.waits
+
+-- ---- of devices
+
+-- No node was started, or STOP was sent to every host three times, but for as many as the link failed.
+abbrev pub StopsStarted : Config → SpawnerState → SpawnerState → LinkState → LinkState → Type 0
+StopsStarted c old new link link' = (new.starts ≡ old.starts) ⊎ EndsByStops c link.faults link'.faults link.sent link'.sent
+
+-- Each of these was sent, but for as many as the link failed.
+abbrev pub SendsMost : List (ℕ × Bytes) → LinkState → LinkState → Type 0
+SendsMost datagrams link link' = SendsBut datagrams link.faults link'.faults link.sent link'.sent

@@ -4,6 +4,7 @@ use Rattle.std.specs.List.{range_with_len, zip}
 use Rattle.std.specs.Fmt.{decimal}
 use Rattle.mb_base.specs.Shapes.{Bytes, host_count}
 use Rattle.mb_edge.specs.declared.spawner.Start.{Start}
+use Rattle.mb_edge.specs.Seen.{SpawnerState}
 use Rattle.mb_edge.specs.Children.{start_of}
 use Rattle.mb_edge.specs.Faults.{Rose}
 use Rattle.mb_edge.specs.Told.{with_more}
@@ -55,6 +56,9 @@ pub record Spawned : Type 0 where
 
 abbrev pub spawned : Option (List (ℕ × Start)) → Option (List (ℕ × ℕ)) → Spawned
 spawned starts waits = record { starts = starts; waits = waits }
+
+abbrev pub spawned_by : SpawnerState → Spawned
+spawned_by s = spawned s.starts s.waits
 
 -- the node of each host was started, in order, as these children
 pub record AreStarted (c : Config) (count : ℕ) (children : List ℕ) (old new : Option (List (ℕ × Start))) : Type 0 where

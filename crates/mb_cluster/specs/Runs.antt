@@ -4,6 +4,7 @@ use Rattle.std.specs.List.{flat_map, AllByRecursion}
 use Rattle.std.specs.Io.KnownBytes.{Appends}
 use Rattle.mb_base.specs.Shapes.{Bytes, host_count}
 use Rattle.mb_parts.specs.Fits.{FitsText}
+use Rattle.mb_edge.specs.Seen.{LinkState}
 use Rattle.mb_edge.specs.Told.{with_more}
 use Rattle.mb_sched.specs.declared.configs.Config.{Config}
 use Rattle.mb_model.specs.Clients.{most_agreeing}
@@ -25,6 +26,9 @@ pub record Wire : Type 0 where
 
 abbrev pub wire : Option (List Receive) → Option (List (ℕ × Bytes)) → Wire
 wire received sent = record { received = received; sent = sent }
+
+abbrev pub wire_of : LinkState → Wire
+wire_of l = wire l.received l.sent
 
 -- a first part of the bytes was appended, all of them perhaps
 pub record AppendsFront (bytes : Bytes) (old new : Option Bytes) : Type 0 where

@@ -31,15 +31,15 @@ pub(crate) struct Program {
 
 impl Program {
     ghost use Rattle.std.specs.Prelude.{◌≡◌, ◌+◌, ◌-◌, ◌^◌, ◌≤◌, ◌<◌, ℕ, [], ◌∷◌, length, true, Option, IfOk, OnOk, IsErrOf};
-    ghost use Rattle.mb_base.specs.Shapes.{Bytes, host_count};
-    ghost use Rattle.mb_base.specs.declared.shape.Shape.{Shape as ShapeRecord};
+    ghost use Rattle.mb_base.specs.Shapes.{host_count};
     ghost use Rattle.mb_base.specs.declared.limits.TheConstants.{MESSAGE_LIMIT};
     ghost use Rattle.mb_parts.specs.Fits.{FitsText};
     ghost use Rattle.mb_edge.specs.Faults.{TellsFaults};
-    ghost use Rattle.mb_cluster.specs.Hearing.{Hearing, no_hearing};
-    ghost use Rattle.mb_cluster.specs.Runs.{OpsFit, wire};
-    ghost use Rattle.mb_cluster.specs.Listens.{Listens};
-    ghost use Rattle.mb_cluster.specs.Steps.{ReceivesOne, Awaits, Exchanges, AsksOps};
+    ghost use Rattle.mb_cluster.specs.Hearing.{no_hearing};
+    ghost use Rattle.mb_cluster.specs.Runs.{OpsFit, wire_of};
+    ghost use Rattle.mb_cluster.specs.Listens.{Listens, WhereListens};
+    ghost use Rattle.mb_cluster.specs.Steps.{ReceivesOne, Awaits, Exchanges};
+    ghost use Rattle.mb_cluster.specs.Asking.{AsksAll};
 
     /// The program before it asks.
     pub(crate) fn make(
@@ -75,12 +75,11 @@ impl Program {
     ) -> Result<(), ClusterStop>
         requires ops { OpsFit ops.now }
         requires none { self.old.listener.asker.number ≡ 0 }
-        ensures asks { (s : ShapeRecord) (secret : Bytes) (c : Hearing) → Listens s secret self.old.listener c
-            → AsksOps s secret ops.now result c self.old self.new (wire (L.received link.old) (L.sent link.old)) (wire (L.received link.new) (L.sent link.new)) (K.written sink.old) (K.written sink.new) }
+        ensures asks { AsksAll ops.now result self.old self.new (L.seen link.old) (L.seen link.new) (K.seen sink.old) (K.seen sink.new) }
         ensures hosts { self.new.post.hosts ≡ self.old.post.hosts }
-        ensures opens { L.opens link.new ≡ L.opens link.old }
-        ensures link_faults { TellsFaults (L.never_fails link.old) (L.never_fails link.new) (L.faults link.old) (L.faults link.new) (IsErrOf result ClusterStop.LinkFault) }
-        ensures sink_faults { TellsFaults (K.never_fails sink.old) (K.never_fails sink.new) (K.faults sink.old) (K.faults sink.new) (IsErrOf result ClusterStop.SinkFault) }
+        ensures opens { (L.seen link.new).opens ≡ (L.seen link.old).opens }
+        ensures link_faults { TellsFaults (L.never_fails link.old) (L.never_fails link.new) (L.seen link.old).faults (L.seen link.new).faults (IsErrOf result ClusterStop.LinkFault) }
+        ensures sink_faults { TellsFaults (K.never_fails sink.old) (K.never_fails sink.new) (K.seen sink.old).faults (K.seen sink.new).faults (IsErrOf result ClusterStop.SinkFault) }
     {
         for op in ops {
             self.ask_one(op.as_slice(), link, sink)?;
@@ -97,14 +96,13 @@ impl Program {
     ) -> Result<(), ClusterStop>
         requires op { FitsText op.now }
         requires few { self.old.listener.asker.number < 2 ^ 64 - 1 }
-        ensures asks { (s : ShapeRecord) (secret : Bytes) (c : Hearing) → Listens s secret self.old.listener c
-            → AsksOps s secret (op.now ∷ []) result c self.old self.new (wire (L.received link.old) (L.sent link.old)) (wire (L.received link.new) (L.sent link.new)) (K.written sink.old) (K.written sink.new) }
+        ensures asks { AsksAll (op.now ∷ []) result self.old self.new (L.seen link.old) (L.seen link.new) (K.seen sink.old) (K.seen sink.new) }
         ensures number { OnOk result (self.new.listener.asker.number ≡ self.old.listener.asker.number + 1) }
         ensures turns { self.new.turns ≡ self.old.turns }
         ensures hosts { self.new.post.hosts ≡ self.old.post.hosts }
-        ensures opens { L.opens link.new ≡ L.opens link.old }
-        ensures link_faults { TellsFaults (L.never_fails link.old) (L.never_fails link.new) (L.faults link.old) (L.faults link.new) (IsErrOf result ClusterStop.LinkFault) }
-        ensures sink_faults { TellsFaults (K.never_fails sink.old) (K.never_fails sink.new) (K.faults sink.old) (K.faults sink.new) (IsErrOf result ClusterStop.SinkFault) }
+        ensures opens { (L.seen link.new).opens ≡ (L.seen link.old).opens }
+        ensures link_faults { TellsFaults (L.never_fails link.old) (L.never_fails link.new) (L.seen link.old).faults (L.seen link.new).faults (IsErrOf result ClusterStop.LinkFault) }
+        ensures sink_faults { TellsFaults (K.never_fails sink.old) (K.never_fails sink.new) (K.seen sink.old).faults (K.seen sink.new).faults (IsErrOf result ClusterStop.SinkFault) }
     {
         match self.exchange(op, link) {
             Ok(Some(reply)) => write_result(self.alloc, &reply, sink),
@@ -120,13 +118,12 @@ impl Program {
     fn exchange<L: Link>(&mut self, op: &[u8], link: &mut L) -> Result<Option<Reply>, Failed>
         requires op { FitsText op.now }
         requires few { self.old.listener.asker.number < 2 ^ 64 - 1 }
-        ensures exchanges { (s : ShapeRecord) (secret : Bytes) (c : Hearing) → Listens s secret self.old.listener c
-            → Exchanges s secret op.now result c self.old self.new (wire (L.received link.old) (L.sent link.old)) (wire (L.received link.new) (L.sent link.new)) }
+        ensures exchanges { WhereListens self.old.listener (λ s secret c. Exchanges s secret op.now result c self.old self.new (wire_of (L.seen link.old)) (wire_of (L.seen link.new))) }
         ensures number { OnOk result (self.new.listener.asker.number ≡ self.old.listener.asker.number + 1) }
         ensures turns { self.new.turns ≡ self.old.turns }
         ensures hosts { self.new.post.hosts ≡ self.old.post.hosts }
-        ensures opens { L.opens link.new ≡ L.opens link.old }
-        ensures faults { TellsFaults (L.never_fails link.old) (L.never_fails link.new) (L.faults link.old) (L.faults link.new) (IsErrOf result Failed.Device) }
+        ensures opens { (L.seen link.new).opens ≡ (L.seen link.old).opens }
+        ensures faults { TellsFaults (L.never_fails link.old) (L.never_fails link.new) (L.seen link.old).faults (L.seen link.new).faults (IsErrOf result Failed.Device) }
     {
         let request = self.listener.ask(self.alloc, op)?;
         self.post.send(self.alloc, &request, link)?;
@@ -141,13 +138,12 @@ impl Program {
     ) -> Result<Option<Reply>, Failed>
         requires some { 1 ≤ length request.now }
         requires short { length request.now ≤ MESSAGE_LIMIT }
-        ensures awaits { (s : ShapeRecord) (secret : Bytes) (c : Hearing) → Listens s secret self.old.listener c → c.asker.waits ≡ true
-            → Awaits s secret request.now result c self.old self.new (wire (L.received link.old) (L.sent link.old)) (wire (L.received link.new) (L.sent link.new)) }
+        ensures awaits { WhereListens self.old.listener (λ s secret c. c.asker.waits ≡ true → Awaits s secret request.now result c self.old self.new (wire_of (L.seen link.old)) (wire_of (L.seen link.new))) }
         ensures number { self.new.listener.asker.number ≡ self.old.listener.asker.number }
         ensures turns { self.new.turns ≡ self.old.turns }
         ensures hosts { self.new.post.hosts ≡ self.old.post.hosts }
-        ensures opens { L.opens link.new ≡ L.opens link.old }
-        ensures faults { TellsFaults (L.never_fails link.old) (L.never_fails link.new) (L.faults link.old) (L.faults link.new) (IsErrOf result Failed.Device) }
+        ensures opens { (L.seen link.new).opens ≡ (L.seen link.old).opens }
+        ensures faults { TellsFaults (L.never_fails link.old) (L.never_fails link.new) (L.seen link.old).faults (L.seen link.new).faults (IsErrOf result Failed.Device) }
     {
         for _ in 0..self.turns {
             match self.receive(request, link) {
@@ -163,13 +159,12 @@ impl Program {
     fn receive<L: Link>(&mut self, request: &[u8], link: &mut L) -> Result<Option<Reply>, Failed>
         requires some { 1 ≤ length request.now }
         requires short { length request.now ≤ MESSAGE_LIMIT }
-        ensures receives { (s : ShapeRecord) (secret : Bytes) (c : Hearing) → Listens s secret self.old.listener c
-            → ReceivesOne s secret request.now result c self.old self.new (wire (L.received link.old) (L.sent link.old)) (wire (L.received link.new) (L.sent link.new)) }
+        ensures receives { WhereListens self.old.listener (λ s secret c. ReceivesOne s secret request.now result c self.old self.new (wire_of (L.seen link.old)) (wire_of (L.seen link.new))) }
         ensures number { self.new.listener.asker.number ≡ self.old.listener.asker.number }
         ensures turns { self.new.turns ≡ self.old.turns }
         ensures hosts { self.new.post.hosts ≡ self.old.post.hosts }
-        ensures opens { L.opens link.new ≡ L.opens link.old }
-        ensures faults { TellsFaults (L.never_fails link.old) (L.never_fails link.new) (L.faults link.old) (L.faults link.new) (IsErrOf result Failed.Device) }
+        ensures opens { (L.seen link.new).opens ≡ (L.seen link.old).opens }
+        ensures faults { TellsFaults (L.never_fails link.old) (L.never_fails link.new) (L.seen link.old).faults (L.seen link.new).faults (IsErrOf result Failed.Device) }
     {
         match link.recv(&mut self.buffer) {
             Got::Datagram(count) => match self.listener.hear(self.alloc, &self.buffer[..count]) {
@@ -187,8 +182,8 @@ impl Program {
 
 /// Writes the line of a result.
 fn write_result<K: Sink>(alloc: Global, reply: &Reply, sink: &mut K) -> Result<(), ClusterStop>
-    ensures written { WritesLine result (result_line reply.now) (K.written sink.old) (K.written sink.new) }
-    ensures faults { TellsFaults (K.never_fails sink.old) (K.never_fails sink.new) (K.faults sink.old) (K.faults sink.new) (IsErrOf result ClusterStop.SinkFault) }
+    ensures written { WritesLine result (result_line reply.now) (K.seen sink.old).bytes (K.seen sink.new).bytes }
+    ensures faults { TellsFaults (K.never_fails sink.old) (K.never_fails sink.new) (K.seen sink.old).faults (K.seen sink.new).faults (IsErrOf result ClusterStop.SinkFault) }
 {
     let line = result_line(alloc, reply)?;
     write_all(sink, line.as_bytes())?;

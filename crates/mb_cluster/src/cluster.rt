@@ -1,16 +1,16 @@
 //! A whole run.
 
-ghost use Rattle.std.specs.Prelude.{◌≡◌, ◌≤◌, ◌⊎◌, [], length, vec_capacity, IsErrOf};
+ghost use Rattle.std.specs.Prelude.{◌≡◌, ◌≤◌, [], length, vec_capacity, IsErrOf};
 ghost use Rattle.mb_base.specs.Shapes.{host_count};
 ghost use Rattle.mb_edge.specs.Faults.{TellsFaults};
 ghost use Rattle.mb_cluster.specs.Hearing.{no_hearing};
 ghost use Rattle.mb_cluster.specs.Listens.{Listens};
-ghost use Rattle.mb_cluster.specs.Nodes.{AreStarted, StartsNodes, RunsNodes, EndsAs, spawned};
+ghost use Rattle.mb_cluster.specs.Nodes.{AreStarted, StartsNodes, RunsNodes, EndsAs, spawned_by};
 ghost use Rattle.mb_cluster.specs.Ends.{EndsWell};
-ghost use Rattle.mb_cluster.specs.Runs.{OpsFit, Asks, Opens, wire};
-ghost use Rattle.mb_cluster.specs.Missing.{EndsByStops, AwaitsEach};
+ghost use Rattle.mb_cluster.specs.Runs.{OpsFit, Asks, Opens, wire_of};
+ghost use Rattle.mb_cluster.specs.Missing.{StopsStarted, AwaitsEach};
 ghost use Rattle.mb_cluster.specs.Plays.{Plays};
-ghost use Rattle.mb_cluster.specs.Order.{GoesInOrder, PlaysInOrder};
+ghost use Rattle.mb_cluster.specs.Order.{RunsInOrder, StartsInOrder};
 
 use crate::asking::Program;
 use crate::nodes::{await_nodes, start_nodes};
@@ -39,24 +39,23 @@ pub fn run_cluster<K: Sink, L: Link, P: Spawner>(
 ) -> Result<(), ClusterStop>
     requires { OpsFit config.now.ops }
     // What is asked and heard, and the results that are written.
-    ensures asks { Asks config.now turns result (wire (L.received link.old) (L.sent link.old)) (wire (L.received link.new) (L.sent link.new)) (K.written sink.old) (K.written sink.new) }
-    ensures opens { Opens config.now result (L.opens link.old) (L.opens link.new) }
+    ensures asks { Asks config.now turns result (wire_of (L.seen link.old)) (wire_of (L.seen link.new)) (K.seen sink.old).bytes (K.seen sink.new).bytes }
+    ensures opens { Opens config.now result (L.seen link.old).opens (L.seen link.new).opens }
     // The nodes, and how they end.
-    ensures nodes { RunsNodes config.now result (spawned (P.starts spawner.old) (P.waits spawner.old)) (spawned (P.starts spawner.new) (P.waits spawner.new)) }
+    ensures nodes { RunsNodes config.now result (spawned_by (P.seen spawner.old)) (spawned_by (P.seen spawner.new)) }
     // No node is started before the link is open, and nothing asked before each node is started.
-    ensures order { GoesInOrder config.now turns (L.opens link.old) (L.opens link.new) (wire (L.received link.old) (L.sent link.old)) (wire (L.received link.new) (L.sent link.new)) (K.written sink.old) (K.written sink.new)
-        (spawned (P.starts spawner.old) (P.waits spawner.old)) (spawned (P.starts spawner.new) (P.waits spawner.new)) }
-    ensures bad_ends { EndsAs result (P.bad_ends spawner.old) (P.bad_ends spawner.new) }
+    ensures order { RunsInOrder config.now turns (L.seen link.old) (L.seen link.new) (K.seen sink.old) (K.seen sink.new) (P.seen spawner.old) (P.seen spawner.new) }
+    ensures bad_ends { EndsAs result (P.seen spawner.old).bad_ends (P.seen spawner.new).bad_ends }
     ensures well { P.all_end_well spawner.old → EndsWell result }
     // Whatever the answer is: where any node was started no more STOPs are missing than the link failed, and no more waits for the nodes that were started
     // than the spawner failed, unless a send or a wait may be refused memory.
-    ensures stops { L.sends_without_memory → (P.starts spawner.new ≡ P.starts spawner.old) ⊎ EndsByStops config.now (L.faults link.old) (L.faults link.new) (L.sent link.old) (L.sent link.new) }
+    ensures stops { L.sends_without_memory → StopsStarted config.now (P.seen spawner.old) (P.seen spawner.new) (L.seen link.old) (L.seen link.new) }
     ensures waits { P.waits_without_memory
-        → AwaitsEach config.now (P.faults spawner.old) (P.faults spawner.new) (spawned (P.starts spawner.old) (P.waits spawner.old)) (spawned (P.starts spawner.new) (P.waits spawner.new)) }
+        → AwaitsEach config.now (P.seen spawner.old).faults (P.seen spawner.new).faults (spawned_by (P.seen spawner.old)) (spawned_by (P.seen spawner.new)) }
     // Each device's faults.
-    ensures link_faults { TellsFaults (L.never_fails link.old) (L.never_fails link.new) (L.faults link.old) (L.faults link.new) (IsErrOf result ClusterStop.LinkFault) }
-    ensures spawner_faults { TellsFaults (P.never_fails spawner.old) (P.never_fails spawner.new) (P.faults spawner.old) (P.faults spawner.new) (IsErrOf result ClusterStop.SpawnFault) }
-    ensures sink_faults { TellsFaults (K.never_fails sink.old) (K.never_fails sink.new) (K.faults sink.old) (K.faults sink.new) (IsErrOf result ClusterStop.SinkFault) }
+    ensures link_faults { TellsFaults (L.never_fails link.old) (L.never_fails link.new) (L.seen link.old).faults (L.seen link.new).faults (IsErrOf result ClusterStop.LinkFault) }
+    ensures spawner_faults { TellsFaults (P.never_fails spawner.old) (P.never_fails spawner.new) (P.seen spawner.old).faults (P.seen spawner.new).faults (IsErrOf result ClusterStop.SpawnFault) }
+    ensures sink_faults { TellsFaults (K.never_fails sink.old) (K.never_fails sink.new) (K.seen sink.old).faults (K.seen sink.new).faults (IsErrOf result ClusterStop.SinkFault) }
 {
     let mut program = Program::make(alloc, config.shape, &config.secret, turns)?;
     let mut stop = StopDatagram::make(alloc, &config.shape, &config.secret)?;
@@ -94,20 +93,19 @@ fn play<K: Sink, L: Link, P: Spawner>(
     requires none { program.old.listener.asker.number ≡ 0 }
     requires childless { children.old.items ≡ [] }
     requires room { host_count config.now.shape ≤ vec_capacity children.old }
-    ensures plays { Plays config.now result program.old program.new (wire (L.received link.old) (L.sent link.old)) (wire (L.received link.new) (L.sent link.new)) (K.written sink.old) (K.written sink.new) }
+    ensures plays { Plays config.now result program.old program.new (wire_of (L.seen link.old)) (wire_of (L.seen link.new)) (K.seen sink.old).bytes (K.seen sink.new).bytes }
     ensures hosts { program.new.post.hosts ≡ program.old.post.hosts }
-    ensures opens { Opens config.now result (L.opens link.old) (L.opens link.new) }
-    ensures starts { StartsNodes config.now result children.new.items (P.starts spawner.old) (P.starts spawner.new) }
+    ensures opens { Opens config.now result (L.seen link.old).opens (L.seen link.new).opens }
+    ensures starts { StartsNodes config.now result children.new.items (P.seen spawner.old).starts (P.seen spawner.new).starts }
     ensures few { length children.new.items ≤ host_count config.now.shape }
-    ensures first { AreStarted config.now (length children.new.items) children.new.items (P.starts spawner.old) (P.starts spawner.new) }
-    ensures order { PlaysInOrder config.now program.old program.new (L.opens link.old) (L.opens link.new) (wire (L.received link.old) (L.sent link.old)) (wire (L.received link.new) (L.sent link.new)) (K.written sink.old) (K.written sink.new)
-        children.new.items (P.starts spawner.old) (P.starts spawner.new) }
-    ensures waits { P.waits spawner.new ≡ P.waits spawner.old }
-    ensures bad_ends { P.bad_ends spawner.new ≡ P.bad_ends spawner.old }
+    ensures first { AreStarted config.now (length children.new.items) children.new.items (P.seen spawner.old).starts (P.seen spawner.new).starts }
+    ensures order { StartsInOrder config.now program.old program.new (L.seen link.old) (L.seen link.new) (K.seen sink.old) (K.seen sink.new) children.new.items (P.seen spawner.old) (P.seen spawner.new) }
+    ensures waits { (P.seen spawner.new).waits ≡ (P.seen spawner.old).waits }
+    ensures bad_ends { (P.seen spawner.new).bad_ends ≡ (P.seen spawner.old).bad_ends }
     ensures well { P.all_end_well spawner.old → P.all_end_well spawner.new }
-    ensures link_faults { TellsFaults (L.never_fails link.old) (L.never_fails link.new) (L.faults link.old) (L.faults link.new) (IsErrOf result ClusterStop.LinkFault) }
-    ensures spawner_faults { TellsFaults (P.never_fails spawner.old) (P.never_fails spawner.new) (P.faults spawner.old) (P.faults spawner.new) (IsErrOf result ClusterStop.SpawnFault) }
-    ensures sink_faults { TellsFaults (K.never_fails sink.old) (K.never_fails sink.new) (K.faults sink.old) (K.faults sink.new) (IsErrOf result ClusterStop.SinkFault) }
+    ensures link_faults { TellsFaults (L.never_fails link.old) (L.never_fails link.new) (L.seen link.old).faults (L.seen link.new).faults (IsErrOf result ClusterStop.LinkFault) }
+    ensures spawner_faults { TellsFaults (P.never_fails spawner.old) (P.never_fails spawner.new) (P.seen spawner.old).faults (P.seen spawner.new).faults (IsErrOf result ClusterStop.SpawnFault) }
+    ensures sink_faults { TellsFaults (K.never_fails sink.old) (K.never_fails sink.new) (K.seen sink.old).faults (K.seen sink.new).faults (IsErrOf result ClusterStop.SinkFault) }
 {
     match link.open(config.port, PROGRAM) {
         Ok(()) => {}

@@ -25,13 +25,13 @@ pub(crate) fn start_nodes<P: Spawner>(
     requires none { children.old.items ≡ [] }
     requires room { host_count config.now.shape ≤ vec_capacity children.old }
     ensures few { length children.new.items ≤ host_count config.now.shape }
-    ensures started { AreStarted config.now (length children.new.items) children.new.items (P.starts spawner.old) (P.starts spawner.new) }
+    ensures started { AreStarted config.now (length children.new.items) children.new.items (P.seen spawner.old).starts (P.seen spawner.new).starts }
     ensures all { OnOk result (length children.new.items ≡ host_count config.now.shape) }
     ensures kind { IsSpawnStop result }
-    ensures waits { P.waits spawner.new ≡ P.waits spawner.old }
-    ensures bad_ends { P.bad_ends spawner.new ≡ P.bad_ends spawner.old }
+    ensures waits { (P.seen spawner.new).waits ≡ (P.seen spawner.old).waits }
+    ensures bad_ends { (P.seen spawner.new).bad_ends ≡ (P.seen spawner.old).bad_ends }
     ensures well { P.all_end_well spawner.old → P.all_end_well spawner.new }
-    ensures faults { TellsFaults (P.never_fails spawner.old) (P.never_fails spawner.new) (P.faults spawner.old) (P.faults spawner.new) (IsErrOf result ClusterStop.SpawnFault) }
+    ensures faults { TellsFaults (P.never_fails spawner.old) (P.never_fails spawner.new) (P.seen spawner.old).faults (P.seen spawner.new).faults (IsErrOf result ClusterStop.SpawnFault) }
 {
     let text = print_config(alloc, config)?;
     for host in 0..config.shape.n() {
@@ -47,12 +47,12 @@ fn start_node<P: Spawner>(
     config: &[u8],
     spawner: &mut P,
 ) -> Result<Child, ClusterStop>
-    ensures starts { P.starts spawner.new ≡ with_more (P.starts spawner.old) (added_by result (λ child. (child, node_start config.now host))) }
+    ensures starts { (P.seen spawner.new).starts ≡ with_more (P.seen spawner.old).starts (added_by result (λ child. (child, node_start config.now host))) }
     ensures kind { IsSpawnStop result }
-    ensures waits { P.waits spawner.new ≡ P.waits spawner.old }
-    ensures bad_ends { P.bad_ends spawner.new ≡ P.bad_ends spawner.old }
+    ensures waits { (P.seen spawner.new).waits ≡ (P.seen spawner.old).waits }
+    ensures bad_ends { (P.seen spawner.new).bad_ends ≡ (P.seen spawner.old).bad_ends }
     ensures well { P.all_end_well spawner.old → P.all_end_well spawner.new }
-    ensures faults { TellsFaults (P.never_fails spawner.old) (P.never_fails spawner.new) (P.faults spawner.old) (P.faults spawner.new) (IsErrOf result ClusterStop.SpawnFault) }
+    ensures faults { TellsFaults (P.never_fails spawner.old) (P.never_fails spawner.new) (P.seen spawner.old).faults (P.seen spawner.new).faults (IsErrOf result ClusterStop.SpawnFault) }
 {
     let words = node_words(alloc, host)?;
     let output = format!(in alloc; "node-{host}.record")?;
@@ -80,13 +80,13 @@ pub(crate) fn await_nodes<P: Spawner>(
     spawner: &mut P,
 ) -> Result<(), ClusterStop>
     requires { length children.now < 2 ^ 8 }
-    ensures awaited { AwaitsNodes children.now result (P.waits spawner.old) (P.waits spawner.new) }
-    ensures some { AwaitsSome children.now (P.waits spawner.old) (P.waits spawner.new) }
-    ensures few { P.waits_without_memory → AwaitsBut children.now (P.faults spawner.old) (P.faults spawner.new) (P.waits spawner.old) (P.waits spawner.new) }
-    ensures starts { P.starts spawner.new ≡ P.starts spawner.old }
-    ensures bad_ends { EndsAs result (P.bad_ends spawner.old) (P.bad_ends spawner.new) }
+    ensures awaited { AwaitsNodes children.now result (P.seen spawner.old).waits (P.seen spawner.new).waits }
+    ensures some { AwaitsSome children.now (P.seen spawner.old).waits (P.seen spawner.new).waits }
+    ensures few { P.waits_without_memory → AwaitsBut children.now (P.seen spawner.old).faults (P.seen spawner.new).faults (P.seen spawner.old).waits (P.seen spawner.new).waits }
+    ensures starts { (P.seen spawner.new).starts ≡ (P.seen spawner.old).starts }
+    ensures bad_ends { EndsAs result (P.seen spawner.old).bad_ends (P.seen spawner.new).bad_ends }
     ensures well { P.all_end_well spawner.old → EndsWell result }
-    ensures faults { TellsFaults (P.never_fails spawner.old) (P.never_fails spawner.new) (P.faults spawner.old) (P.faults spawner.new) (IsErrOf result ClusterStop.SpawnFault) }
+    ensures faults { TellsFaults (P.never_fails spawner.old) (P.never_fails spawner.new) (P.seen spawner.old).faults (P.seen spawner.new).faults (IsErrOf result ClusterStop.SpawnFault) }
 {
     let mut ended = Ok(());
     let mut host = 0;

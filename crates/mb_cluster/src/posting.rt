@@ -35,12 +35,12 @@ impl Post {
     ) -> Result<(), Failed>
         requires some { 1 ≤ length message.now }
         requires fits { length message.now ≤ MESSAGE_LIMIT }
-        ensures sent { SendsFront (to_all self.old.hosts self.old.number message.now) result (L.sent link.old) (L.sent link.new) }
+        ensures sent { SendsFront (to_all self.old.hosts self.old.number message.now) result (L.seen link.old).sent (L.seen link.new).sent }
         ensures number { self.new.number ≡ next_number self.old.number }
         ensures hosts { self.new.hosts ≡ self.old.hosts }
-        ensures received { L.received link.new ≡ L.received link.old }
-        ensures opens { L.opens link.new ≡ L.opens link.old }
-        ensures faults { TellsFaults (L.never_fails link.old) (L.never_fails link.new) (L.faults link.old) (L.faults link.new) (IsErrOf result Failed.Device) }
+        ensures received { (L.seen link.new).received ≡ (L.seen link.old).received }
+        ensures opens { (L.seen link.new).opens ≡ (L.seen link.old).opens }
+        ensures faults { TellsFaults (L.never_fails link.old) (L.never_fails link.new) (L.seen link.old).faults (L.seen link.new).faults (IsErrOf result Failed.Device) }
     {
         let number = self.take_number();
         let pieces = cut(alloc, PROGRAM, number, message)?;
@@ -92,10 +92,10 @@ pub(crate) fn first_failure(
 
 /// Sends datagrams to a host, up to the first that fails.
 fn send_to<L: Link>(host: Host, pieces: &[Items<u8>], link: &mut L) -> Result<(), Failed>
-    ensures sent { SendsFront (to_host pieces.now host) result (L.sent link.old) (L.sent link.new) }
-    ensures received { L.received link.new ≡ L.received link.old }
-    ensures opens { L.opens link.new ≡ L.opens link.old }
-    ensures faults { TellsFaults (L.never_fails link.old) (L.never_fails link.new) (L.faults link.old) (L.faults link.new) (IsErrOf result Failed.Device) }
+    ensures sent { SendsFront (to_host pieces.now host) result (L.seen link.old).sent (L.seen link.new).sent }
+    ensures received { (L.seen link.new).received ≡ (L.seen link.old).received }
+    ensures opens { (L.seen link.new).opens ≡ (L.seen link.old).opens }
+    ensures faults { TellsFaults (L.never_fails link.old) (L.never_fails link.new) (L.seen link.old).faults (L.seen link.new).faults (IsErrOf result Failed.Device) }
 {
     for piece in pieces {
         link.send(host, piece.as_slice())?;

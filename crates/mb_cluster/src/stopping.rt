@@ -30,7 +30,7 @@ impl StopDatagram {
     ghost use Rattle.mb_edge.specs.Faults.{TellsFaults};
     ghost use Rattle.mb_cluster.specs.Posts.{posts, stops};
     ghost use Rattle.mb_cluster.specs.Sends.{SendsSome};
-    ghost use Rattle.mb_cluster.specs.Missing.{SendsBut};
+    ghost use Rattle.mb_cluster.specs.Missing.{SendsBut, SendsMost};
     ghost use Rattle.mb_cluster.specs.Stopping.{IsStop, round};
 
     /// The datagram under the number 0.
@@ -58,12 +58,11 @@ impl StopDatagram {
     /// first that failed.
     pub(crate) fn send<L: Link>(&mut self, post: &mut Post, link: &mut L) -> Result<(), Failed>
         requires { 5 ≤ length self.old.bytes.items }
-        ensures sent { (secret : Bytes) → IsStop secret self.old.bytes.items → SendsSome (posts post.old.hosts post.old.number (stops secret)) result (L.sent link.old) (L.sent link.new) }
-        ensures few { L.sends_without_memory → (secret : Bytes) → IsStop secret self.old.bytes.items
-            → SendsBut (posts post.old.hosts post.old.number (stops secret)) (L.faults link.old) (L.faults link.new) (L.sent link.old) (L.sent link.new) }
-        ensures received { L.received link.new ≡ L.received link.old }
-        ensures opens { L.opens link.new ≡ L.opens link.old }
-        ensures faults { TellsFaults (L.never_fails link.old) (L.never_fails link.new) (L.faults link.old) (L.faults link.new) (IsErrOf result Failed.Device) }
+        ensures sent { (secret : Bytes) → IsStop secret self.old.bytes.items → SendsSome (posts post.old.hosts post.old.number (stops secret)) result (L.seen link.old).sent (L.seen link.new).sent }
+        ensures few { L.sends_without_memory → (secret : Bytes) → IsStop secret self.old.bytes.items → SendsMost (posts post.old.hosts post.old.number (stops secret)) (L.seen link.old) (L.seen link.new) }
+        ensures received { (L.seen link.new).received ≡ (L.seen link.old).received }
+        ensures opens { (L.seen link.new).opens ≡ (L.seen link.old).opens }
+        ensures faults { TellsFaults (L.never_fails link.old) (L.never_fails link.new) (L.seen link.old).faults (L.seen link.new).faults (IsErrOf result Failed.Device) }
     {
         let mut sent = Ok(());
         for _ in 0..ROUNDS {
@@ -75,11 +74,11 @@ impl StopDatagram {
 
     /// Sends the datagram to every host.
     fn send_round<L: Link>(&self, hosts: u8, link: &mut L) -> Result<(), Failed>
-        ensures sent { SendsSome (round hosts self.now.bytes.items) result (L.sent link.old) (L.sent link.new) }
-        ensures few { L.sends_without_memory → SendsBut (round hosts self.now.bytes.items) (L.faults link.old) (L.faults link.new) (L.sent link.old) (L.sent link.new) }
-        ensures received { L.received link.new ≡ L.received link.old }
-        ensures opens { L.opens link.new ≡ L.opens link.old }
-        ensures faults { TellsFaults (L.never_fails link.old) (L.never_fails link.new) (L.faults link.old) (L.faults link.new) (IsErrOf result Failed.Device) }
+        ensures sent { SendsSome (round hosts self.now.bytes.items) result (L.seen link.old).sent (L.seen link.new).sent }
+        ensures few { L.sends_without_memory → SendsBut (round hosts self.now.bytes.items) (L.seen link.old).faults (L.seen link.new).faults (L.seen link.old).sent (L.seen link.new).sent }
+        ensures received { (L.seen link.new).received ≡ (L.seen link.old).received }
+        ensures opens { (L.seen link.new).opens ≡ (L.seen link.old).opens }
+        ensures faults { TellsFaults (L.never_fails link.old) (L.never_fails link.new) (L.seen link.old).faults (L.seen link.new).faults (IsErrOf result Failed.Device) }
     {
         let mut sent = Ok(());
         for host in 0..hosts {

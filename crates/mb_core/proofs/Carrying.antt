@@ -14,6 +14,7 @@ use Rattle.mb_model.specs.Histories.{History, Identity, view_of}
 use Rattle.mb_model.specs.Held.{plan_of_view}
 use Rattle.mb_model.specs.Positions.{position_limit, slot_of_plan, slot_vote, in_window}
 use Rattle.mb_model.specs.Stable.{low_of}
+use Rattle.mb_base.specs.Limits.{plan_limit}
 use Rattle.mb_base.specs.Shapes.{span}
 use Rattle.mb_host_laws.proofs.Cases.{some_is}
 use Rattle.mb_normal.specs.declared.normal.Normal.{Normal}
@@ -30,7 +31,7 @@ use Rattle.mb_replica.proofs.Places.{stored}
 use Rattle.mb_replica.proofs.Accepted.{same_again, still_host}
 
 -- So many batches a plan has at most.
-pub index_within : (p : Option Plan) (plan : Plan) (index : ℕ) → Some plan ≡ p → index < length_in p → CanHash plan → index < 64
+pub index_within : (p : Option Plan) (plan : Plan) (index : ℕ) → Some plan ≡ p → index < length_in p → CanHash plan → index < plan_limit
 index_within p plan index is lt can = let below : index < length plan.batches = subst (λ (q : Option Plan). index < length_in q) (sym is) lt in let few = can.1.0 in omega (arith, below, few)
 
 module _ {V : Type 0} (me : Identity V) (d : History) (m : Open) (view : ℕ) (e : Evidence) where

@@ -1,6 +1,6 @@
 -- The next rule, where it is the execution of a batch.
-use Rattle.std.proofs.Common.{◌≡◌, ◌∙◌, ℕ, List, [], ap, sym, subst, inl, inr, Option, Some, Result}
-use Rattle.mb_base.specs.Shapes.{Bytes}
+use Rattle.std.proofs.Common.{◌≡◌, ◌∙◌, ℕ, [], ap, sym, subst, inl, inr, Option, Some}
+use Rattle.mb_service.specs.Machine.{ServiceMachine}
 use Rattle.mb_parts.specs.declared.batch.Batch.{Batch}
 use Rattle.mb_model.specs.Histories.{History, Identity, here}
 use Rattle.mb_model.specs.Stable.{low_of}
@@ -68,9 +68,9 @@ executed_is me p b batch x same = ap (λ (c : Batch). at_interval me p (close_sl
 
 -- ---- there is a step so
 
-module _ {V : Type 0} (is_state : V → Type 0) (after : V → Bytes → V) (result : V → Bytes → Bytes) (part : V → ℕ → Bytes) (restored : List Bytes → Result V (ℕ × ℕ)) (r : ReplicaState V) (done : Done) (pos : ℕ) where
-  by_rule : (me : Identity V) (x : Progress) (rule : Rule) → Serves is_state after result part restored me → StandsAt me r done x → IsNamed (named.Execute pos) rule → next_rule me x.history ≡ Some rule → (batch : Batch)
-      → ((me : Identity V) → Represents me r x.history → Some batch ≡ batch_of (slot_at me x.history pos)) → IsInBatch is_state after result part restored r done pos batch.requests []
+module _ {V : Type 0} (machine : ServiceMachine V) (r : ReplicaState V) (done : Done) (pos : ℕ) where
+  by_rule : (me : Identity V) (x : Progress) (rule : Rule) → Serves machine me → StandsAt me r done x → IsNamed (named.Execute pos) rule → next_rule me x.history ≡ Some rule → (batch : Batch)
+      → ((me : Identity V) → Represents me r x.history → Some batch ≡ batch_of (slot_at me x.history pos)) → IsInBatch machine r done pos batch.requests []
   by_rule me x (Execute p b) serves s is next batch known =
       let here : next_rule me x.history ≡ Some (Execute pos b) = next ∙ ap (λ (q : ℕ). Some (Execute q b)) (sym is) in
       let same : Some batch ≡ Some b = batch_is me r done x s pos b here (Some batch) (known me s.represents) in
@@ -78,6 +78,6 @@ module _ {V : Type 0} (is_state : V → Type 0) (after : V → Bytes → V) (res
       record { me = me; left = x; serves = serves; stands = subst (λ (c : Batch). ServesOn me r done pos c.requests [] x) equal (begins me r done x s pos b here) }
   by_rule me x rule serves s is next batch known = absurd is
 
-  pub in_batch : IsDue is_state after result part restored r done (named.Execute pos) → (batch : Batch) → ((me : Identity V) (d : History) → Represents me r d → Some batch ≡ batch_of (slot_at me d pos))
-      → IsInBatch is_state after result part restored r done pos batch.requests []
+  pub in_batch : IsDue machine r done (named.Execute pos) → (batch : Batch) → ((me : Identity V) (d : History) → Represents me r d → Some batch ≡ batch_of (slot_at me d pos))
+      → IsInBatch machine r done pos batch.requests []
   in_batch t batch known = by_rule t.me t.left t.rule t.serves t.stands t.named t.next batch (λ me rep. known me t.left.history rep)

@@ -1,8 +1,9 @@
 -- The own messages of view changes: what a host has for them when their rules are next, and that its tables stand behind them.
-use Rattle.std.proofs.Common.{◌≡◌, ◌∙◌, ℕ, ◌<◌, false, List, ◌∷◌, refl, sym, ap, subst, Option, Some, None, Result}
+use Rattle.std.proofs.Common.{◌≡◌, ◌∙◌, ℕ, ◌<◌, false, List, ◌∷◌, refl, sym, ap, subst, Option, Some, None}
 use Rattle.std.specs.Prelude.{◌==◌}
-use Rattle.mb_base.specs.Shapes.{Bytes, host_count}
+use Rattle.mb_base.specs.Shapes.{host_count}
 use Rattle.mb_base.specs.declared.shape.Shape.{Shape}
+use Rattle.mb_service.specs.Machine.{ServiceMachine}
 use Rattle.mb_parts.specs.declared.certificates.Evidence.{Evidence}
 use Rattle.mb_parts.specs.declared.certificates.StableCert.{StableCert}
 use Rattle.mb_msg.specs.declared.change.Enter.{Enter as EnterMessage}
@@ -125,27 +126,27 @@ module _ {V : Type 0} (r : ReplicaState V) where
     pub history : History
     pub next : IsNext me r history Join
 
-module _ {V : Type 0} (is_state : V → Type 0) (after : V → Bytes → V) (answer : V → Bytes → Bytes) (part : V → ℕ → Bytes) (restored : List Bytes → Result V (ℕ × ℕ)) (r : ReplicaState V) (done : Done) where
-  pub change_due : (view : ℕ) → IsDue is_state after answer part restored r done (due.ChangeView view) → ChangeDue r view
+module _ {V : Type 0} (machine : ServiceMachine V) (r : ReplicaState V) (done : Done) where
+  pub change_due : (view : ℕ) → IsDue machine r done (due.ChangeView view) → ChangeDue r view
   change_due view q =
       record { me = q.me; history = q.left.history; next = is_next q.me r done q.left (ChangeView view) q.stands (q.next ∙ ap (λ (a : Rule). Some a) (sym (change_rule view q.rule q.named))) }
 
-  pub announce_due : IsDue is_state after answer part restored r done due.Announce → AnnounceDue r
+  pub announce_due : IsDue machine r done due.Announce → AnnounceDue r
   announce_due q =
       let found = announce_rule q.rule q.named in
       record { me = q.me; history = q.left.history; changes = found.0; next = is_next q.me r done q.left (Announce found.0) q.stands (q.next ∙ ap (λ (a : Rule). Some a) (sym found.1)) }
 
-  pub enter_due : IsDue is_state after answer part restored r done due.Enter → EnterDue r
+  pub enter_due : IsDue machine r done due.Enter → EnterDue r
   enter_due q =
       let found = enter_rule q.rule q.named in
       record { me = q.me; history = q.left.history; new_view = found.0; next = is_next q.me r done q.left (Enter found.0) q.stands (q.next ∙ ap (λ (a : Rule). Some a) (sym found.1)) }
 
-  pub open_due : IsDue is_state after answer part restored r done due.Open → OpenDue r
+  pub open_due : IsDue machine r done due.Open → OpenDue r
   open_due q =
       let found = open_rule q.rule q.named in
       record { me = q.me; history = q.left.history; evidence = found.0; plan = found.1; next = is_next q.me r done q.left (Open found.0 found.1) q.stands (q.next ∙ ap (λ (a : Rule). Some a) (sym found.2)) }
 
-  pub join_due : IsDue is_state after answer part restored r done due.Join → JoinDue r
+  pub join_due : IsDue machine r done due.Join → JoinDue r
   join_due q = record { me = q.me; history = q.left.history; next = is_next q.me r done q.left Join q.stands (q.next ∙ ap (λ (a : Rule). Some a) (sym (join_rule q.rule q.named))) }
 
 module _ {V : Type 0} (me : Identity V) (d : History) where

@@ -1,8 +1,9 @@
 -- The own PREPARE and the own COMMIT: what a host has for them when their rules are next, and that its tables stand behind them.
-use Rattle.std.proofs.Common.{◌≡◌, ◌≢◌, ◌∙◌, ℕ, false, [], ◌∷◌, refl, sym, ap, subst, Option, Some, None, List, Result}
+use Rattle.std.proofs.Common.{◌≡◌, ◌≢◌, ◌∙◌, ℕ, false, [], ◌∷◌, refl, sym, ap, subst, Option, Some, None}
 use Rattle.std.specs.Prelude.{option_map}
 use Rattle.std.specs.Option.{option_or}
 use Rattle.mb_base.specs.Shapes.{Bytes}
+use Rattle.mb_service.specs.Machine.{ServiceMachine}
 use Rattle.mb_parts.specs.declared.batch.Batch.{Batch}
 use Rattle.mb_msg.specs.declared.message.Body.TheVariants.{Whole}
 use Rattle.mb_msg.specs.declared.normal.Prepare.{Prepare as PrepareMessage}
@@ -88,13 +89,13 @@ module _ {V : Type 0} (r : ReplicaState V) where
     pub batch : Batch
     pub next : IsNext me r history (Prepare pos batch)
 
-module _ {V : Type 0} (is_state : V → Type 0) (after : V → Bytes → V) (answer : V → Bytes → Bytes) (part : V → ℕ → Bytes) (restored : List Bytes → Result V (ℕ × ℕ)) (r : ReplicaState V) (done : Done) where
-  pub commit_due : (pos : ℕ) → IsDue is_state after answer part restored r done (due.Commit pos) → CommitDue r pos
+module _ {V : Type 0} (machine : ServiceMachine V) (r : ReplicaState V) (done : Done) where
+  pub commit_due : (pos : ℕ) → IsDue machine r done (due.Commit pos) → CommitDue r pos
   commit_due pos q =
       let found = commit_rule pos q.rule q.named in
       record { me = q.me; history = q.left.history; slot = found.0; batch = found.1; next = is_next q.me r done q.left (Commit pos found.0 found.1) q.stands (q.next ∙ ap (λ (a : Rule). Some a) (sym found.2)) }
 
-  pub prepare_due : IsDue is_state after answer part restored r done due.Prepare → PrepareDue r
+  pub prepare_due : IsDue machine r done due.Prepare → PrepareDue r
   prepare_due q =
       let found = prepare_rule q.rule q.named in
       record { me = q.me; history = q.left.history; pos = found.0; batch = found.1; next = is_next q.me r done q.left (Prepare found.0 found.1) q.stands (q.next ∙ ap (λ (a : Rule). Some a) (sym found.2)) }

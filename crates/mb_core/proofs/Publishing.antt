@@ -3,6 +3,7 @@ use Rattle.std.proofs.Common.{◌≡◌, ◌∙◌, ℕ, ◌+◌, ◌-◌, ◌^�
 use Rattle.std.specs.Prelude.{OnOk, nat_lt, count_by}
 use Rattle.std.proofs.lemmas.Bool.{and_parts, ltb-true}
 use Rattle.std.proofs.lemmas.List.{map-append}
+use Rattle.mb_base.specs.Limits.{other_limit}
 use Rattle.mb_base.specs.Shapes.{Bytes}
 use Rattle.mb_base.specs.declared.shape.Shape.{Shape}
 use Rattle.mb_base.specs.declared.names.Ui.{Ui}
@@ -21,7 +22,7 @@ use Rattle.mb_model.specs.Histories.{Stamped, Served, History, Identity, counter
 use Rattle.mb_model.specs.Making.{prepare, commit, view_change, new_view, enter, opening, join}
 use Rattle.mb_model.specs.OwnLog.{is_normal, own_log, has_room, has_other_room, is_unspent}
 use Rattle.mb_model.specs.Stable.{stable_of}
-use Rattle.mb_model.specs.UsableLogs.{normal_limit, other_limit}
+use Rattle.mb_model.specs.UsableLogs.{normal_limit}
 use Rattle.mb_model.specs.Sending.{Progress, begin, write, send, note, to_all, signed, next_ui}
 use Rattle.mb_model.specs.Histories.{stamped as all_stamped}
 use Rattle.mb_model.proofs.ShapesFit.{shape_fits}

@@ -1,7 +1,7 @@
 -- The rules one after the other, and that each is the one that the code names.
 use Rattle.std.proofs.Common.{◌≡◌, ℕ, zero, suc, List, Option, Some, None, Result, refl, sym, ap, subst, ◌∙◌}
 use Rattle.std.specs.Prelude.{OnOk}
-use Rattle.mb_base.specs.Shapes.{Bytes}
+use Rattle.mb_service.specs.Machine.{ServiceMachine}
 use Rattle.mb_msg.specs.declared.change.ViewChange.{ViewChange}
 use Rattle.mb_msg.specs.declared.change.NewView.{NewView}
 use Rattle.mb_msg.specs.declared.change.Plan.{Plan}
@@ -98,8 +98,8 @@ module _ {V : Type 0} (me : Identity V) where
     }
 
 -- Behind so many rounds the replica stands where the rules that are left go on, whatever it stood for at first.
-abbrev pub Runs : {V : Type 0} → (V → Type 0) → (V → Bytes → V) → (V → Bytes → Bytes) → (V → ℕ → Bytes) → (List Bytes → Result V (ℕ × ℕ)) → ReplicaState V → Done → ReplicaState V → Done → ℕ → Type 0
-Runs {V} is_state after result part restored r done now more left = (me : Identity V) (x : Progress) → Serves is_state after result part restored me → StandsAt me r done x → Running me now more left (run_rules me enough x)
+abbrev pub Runs : {V : Type 0} → ServiceMachine V → ReplicaState V → Done → ReplicaState V → Done → ℕ → Type 0
+Runs {V} machine r done now more left = (me : Identity V) (x : Progress) → Serves machine me → StandsAt me r done x → Running me now more left (run_rules me enough x)
 
 -- The rule is this one, so what carries out this one carries out the rule.
 pub carried_as : {V : Type 0} {T E : Type 0} (me : Identity V) (new : ReplicaState V) (more : Done) (x : Progress) (result : Result T E) (rule this : Rule) → rule ≡ this → next_rule me x.history ≡ Some rule

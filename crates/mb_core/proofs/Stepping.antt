@@ -1,6 +1,6 @@
 -- How a step goes on: between two batches of it the replica stands where the step stands.
-use Rattle.std.proofs.Common.{◌≡◌, ℕ, List, [], ◌∷◌, map, Option, Some, None, Result, refl, sym, ap, subst, ◌∙◌}
-use Rattle.mb_base.specs.Shapes.{Bytes}
+use Rattle.std.proofs.Common.{◌≡◌, List, [], ◌∷◌, map, Option, Some, None, refl, sym, ap, subst, ◌∙◌}
+use Rattle.mb_service.specs.Machine.{ServiceMachine}
 use Rattle.mb_msg.specs.declared.event.Event.{Event}
 use Rattle.mb_msg.specs.declared.event.Outcome.{Outcome}
 use Rattle.mb_msg.specs.declared.event.Sent.{Sent}
@@ -57,40 +57,40 @@ is_step told step a is t = record {
   adopted = ap (λ (s : Step). s.adopted) is ∙ t.adopted;
 }
 
-module _ {V : Type 0} (is_state : V → Type 0) (after : V → Bytes → V) (result : V → Bytes → Bytes) (part : V → ℕ → Bytes) (restored : List Bytes → Result V (ℕ × ℕ)) where
+module _ {V : Type 0} (machine : ServiceMachine V) where
   abbrev IsService : Identity V → Type 0
-  IsService me = Serves is_state after result part restored me
+  IsService me = Serves machine me
 
-  pub step_history : (r : ReplicaState V) (done : Done) → IsInStep is_state after result part restored r done → HasHistory r
+  pub step_history : (r : ReplicaState V) (done : Done) → IsInStep machine r done → HasHistory r
   step_history r done s = has_history s.me r done s.left s.stands
 
   -- the rule that the code names is next
-  pub is_due : (r : ReplicaState V) (done : Done) (due : Due) → IsInStep is_state after result part restored r done → ((me : Identity V) (d : History) → Represents me r d → Names (Some due) (next_rule me d))
-      → IsDue is_state after result part restored r done due
+  pub is_due : (r : ReplicaState V) (done : Done) (due : Due) → IsInStep machine r done → ((me : Identity V) (d : History) → Represents me r d → Names (Some due) (next_rule me d))
+      → IsDue machine r done due
   is_due r done due s named = by_rule (next_rule s.me s.left.history) refl (named s.me s.left.history s.stands.represents) where
-    by_rule : (o : Option Rule) → next_rule s.me s.left.history ≡ o → Names (Some due) o → IsDue is_state after result part restored r done due
+    by_rule : (o : Option Rule) → next_rule s.me s.left.history ≡ o → Names (Some due) o → IsDue machine r done due
     by_rule None e n = absurd n
     by_rule (Some rule) e n = record { me = s.me; left = s.left; rule = rule; serves = s.serves; stands = s.stands; named = n; next = e }
 
   -- and is carried out
-  pub is_done : (r new : ReplicaState V) (done more : Done) (due : Due) → IsDue is_state after result part restored r done due
+  pub is_done : (r new : ReplicaState V) (done more : Done) (due : Due) → IsDue machine r done due
       → ((me : Identity V) (x : Progress) (rule : Rule) → IsService me → StandsAt me r done x → IsNamed due rule → next_rule me x.history ≡ Some rule → StandsAt me new more (carry_out me rule x))
-      → IsInStep is_state after result part restored new more
+      → IsInStep machine new more
   is_done r new done more due is carried = record { me = is.me; left = carry_out is.me is.rule is.left; serves = is.serves; stands = carried is.me is.left is.rule is.serves is.stands is.named is.next }
 
   -- at the beginning of a step
-  pub step_begins : (r : ReplicaState V) (done : Done) → IsAtRest is_state after result part restored r → done.sent ≡ [] → done.executed ≡ [] → done.installed ≡ None → IsInStep is_state after result part restored r done
+  pub step_begins : (r : ReplicaState V) (done : Done) → IsAtRest machine r → done.sent ≡ [] → done.executed ≡ [] → done.installed ≡ None → IsInStep machine r done
   step_begins r done a sent executed installed = record { me = a.me; left = begin a.history; serves = a.serves; stands = stands_begin a.me r done a.history a.represents a.whole sent executed installed }
 
   -- what a step does of any history it stands for, it does of that which it is in
-  pub step_goes_on : (r new : ReplicaState V) (done more : Done) (f : Identity V → Progress → Progress) → IsInStep is_state after result part restored r done
-      → ((me : Identity V) (x : Progress) → IsService me → StandsAt me r done x → StandsAt me new more (f me x)) → IsInStep is_state after result part restored new more
+  pub step_goes_on : (r new : ReplicaState V) (done more : Done) (f : Identity V → Progress → Progress) → IsInStep machine r done
+      → ((me : Identity V) (x : Progress) → IsService me → StandsAt me r done x → StandsAt me new more (f me x)) → IsInStep machine new more
   step_goes_on r new done more f s stands = record { me = s.me; left = f s.me s.left; serves = s.serves; stands = stands s.me s.left s.serves s.stands }
 
   -- at its end it stands for what the event leaves, and is at rest
-  pub step_ends : (r new : ReplicaState V) (event : Event) → IsAtRest is_state after result part restored r
+  pub step_ends : (r new : ReplicaState V) (event : Event) → IsAtRest machine r
       → ((me : Identity V) (d : History) → IsService me → Represents me r d → IsWhole d → Represents me new (transition me d event).left.history)
-      → IsAtRest is_state after result part restored new
+      → IsAtRest machine new
   step_ends r new event a represents = record {
     me = a.me;
     history = (transition a.me a.history event).left.history;

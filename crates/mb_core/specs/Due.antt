@@ -1,7 +1,7 @@
 -- What a host has to do next: a rule of its history, of which the code names the kind and the position. What it is done with is lent again.
-use Rattle.std.specs.Prelude.{◌≡◌, ℕ, List, Result, Option, Some, None}
+use Rattle.std.specs.Prelude.{◌≡◌, Option, Some, None}
 use Rattle.std.specs.Option.{option_or}
-use Rattle.mb_base.specs.Shapes.{Bytes}
+use Rattle.mb_service.specs.Machine.{ServiceMachine}
 use Rattle.mb_model.specs.Histories.{History, Identity}
 use Rattle.mb_model.specs.Sending.{Progress}
 use Rattle.mb_model.specs.EnabledRules.{Rule, ChangeView, Announce, Enter, Open, Join, Commit, Execute, Prepare, change_enabled, announce_enabled, enter_enabled, open_enabled, join_enabled, commit_enabled, execute_enabled, prepare_enabled, next_rule}
@@ -39,11 +39,11 @@ module _ {S : Type 0} (self : Identity S) where
   normal_rule d = option_or (commit_enabled self d) (option_or (execute_enabled self d) (prepare_enabled self d))
 
 -- There is a step that the replica is in, of a host with this service, in which the rule of this name is next.
-pub record IsDue {V : Type 0} (is_state : V → Type 0) (after : V → Bytes → V) (result : V → Bytes → Bytes) (part : V → ℕ → Bytes) (restored : List Bytes → Result V (ℕ × ℕ)) (r : ReplicaState V) (done : Done) (due : Due) : Type 0 where
+pub record IsDue {V : Type 0} (machine : ServiceMachine V) (r : ReplicaState V) (done : Done) (due : Due) : Type 0 where
   pub me : Identity V
   pub left : Progress
   pub rule : Rule
-  pub serves : Serves is_state after result part restored me
+  pub serves : Serves machine me
   pub stands : StandsAt me r done left
   pub named : IsNamed due rule
   pub next : next_rule me left.history ≡ Some rule

@@ -1,6 +1,7 @@
 -- A batch in the middle of its execution: which requests of it are served, and which are left.
-use Rattle.std.specs.Prelude.{◌≡◌, ℕ, Bool, true, false, List, Result}
+use Rattle.std.specs.Prelude.{◌≡◌, ℕ, Bool, true, false, List}
 use Rattle.mb_base.specs.Shapes.{Bytes}
+use Rattle.mb_service.specs.Machine.{ServiceMachine}
 use Rattle.mb_parts.specs.declared.request.Request.{Request}
 use Rattle.mb_parts.specs.declared.batch.Batch.{Batch}
 use Rattle.mb_msg.specs.declared.event.Placed.{Placed}
@@ -21,19 +22,19 @@ module _ {V : Type 0} where
     pub batch : Batch
     pub serving : IsServing me pos batch more x.history
 
-  module _ (is_state : V → Type 0) (after : V → Bytes → V) (result : V → Bytes → Bytes) (part : V → ℕ → Bytes) (restored : List Bytes → Result V (ℕ × ℕ)) (r : ReplicaState V) (done : Done) (pos : ℕ) where
+  module _ (machine : ServiceMachine V) (r : ReplicaState V) (done : Done) (pos : ℕ) where
     -- There is a step so, of a host with this service.
     pub record IsInBatch (more : List Request) (served : List Placed) : Type 0 where
       pub me : Identity V
       pub left : Progress
-      pub serves : Serves is_state after result part restored me
+      pub serves : Serves machine me
       pub stands : ServesOn me r done pos more served left
 
     -- There is a step in which the batch at this position was just executed.
     pub record IsBehindBatch : Type 0 where
       pub me : Identity V
       pub left : Progress
-      pub serves : Serves is_state after result part restored me
+      pub serves : Serves machine me
       pub stands : StandsAt me r done left
       pub executed : JustExecuted me left.history pos
 

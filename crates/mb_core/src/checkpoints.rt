@@ -1,15 +1,13 @@
 //! CHECKPOINT: the digest of the state at a position, and the floors of all hosts under it.
 
 ghost use Rattle.mb_replica.specs.Between.{BringsCheckpoint};
-ghost use Rattle.std.specs.Prelude.{◌≡◌, IfOk, ◌<◌, None, true, OnOk, ◌%◌, ◌==◌};
-ghost use Rattle.mb_base.specs.Shapes.{host_count, interval};
+ghost use Rattle.std.specs.Prelude.{◌≡◌, IfOk, ◌<◌, None};
+ghost use Rattle.mb_base.specs.Shapes.{host_count};
 ghost use Rattle.mb_model.specs.Histories.{Identity, History, floor_below};
-ghost use Rattle.mb_model.specs.Making.{floors_under, if_covered, present_parts, checkpoint};
-ghost use Rattle.mb_model.specs.States.{state_digest};
-ghost use Rattle.mb_model.specs.OwnLog.{has_room};
-ghost use Rattle.mb_model.specs.Sending.{Progress, stamp};
-ghost use Rattle.mb_steps.specs.Arises.{JustExecuted};
-ghost use Rattle.mb_replica.specs.Represents.{Represents, StandsAt};
+ghost use Rattle.mb_model.specs.Making.{floors_under, if_covered, checkpoint};
+ghost use Rattle.mb_model.specs.Sending.{Progress};
+ghost use Rattle.mb_replica.specs.Represents.{Represents};
+ghost use Rattle.mb_core.specs.Steps.{Certifies};
 
 use crate::stamping::{NO_UI, publish, sign};
 use mb_base::{Digest, Duplicate, Host, Items, NoMemory, Pos};
@@ -27,7 +25,7 @@ pub(crate) fn checkpoint<V: Service + Drop>(
     done: &mut Done,
 ) -> Result<(), NoMemory>
     requires { BringsCheckpoint replica.old done.old pos state }
-    ensures { (me : Identity V) (x : Progress) → StandsAt me replica.old done.old x → JustExecuted me x.history pos → (pos % interval me.shape == 0) ≡ true → has_room me x.history ≡ true → state ≡ state_digest (present_parts me x.history) pos → OnOk result (StandsAt me replica.new done.new (stamp me (checkpoint me x.history pos) x)) }
+    ensures { (me : Identity V) (x : Progress) → Certifies me x pos state result replica.old done.old replica.new done.new }
 {
     let floors = floors_under(replica, alloc, pos)?;
     let checkpoint = Checkpoint {

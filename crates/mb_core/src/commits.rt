@@ -1,16 +1,14 @@
 //! COMMIT: the vote of a backup for a batch that the primary ordered.
 
-ghost use Rattle.std.specs.Prelude.{◌≡◌, Some, OnOk};
+ghost use Rattle.std.specs.Prelude.{Some};
 ghost use Rattle.mb_parts.specs.declared.batch.Batch.{Batch as BatchValue};
 ghost use Rattle.mb_model.specs.declared.known.KnownSlot.{KnownSlot};
 ghost use Rattle.mb_model.specs.Histories.{Identity};
 ghost use Rattle.mb_model.specs.Sending.{Progress};
-ghost use Rattle.mb_model.specs.EnabledRules.{next_rule};
 ghost use Rattle.mb_model.specs.EnabledRules as rules;
-ghost use Rattle.mb_model.specs.CarriedOut.{carry_out};
 ghost use Rattle.mb_core.specs.declared.rules.Due.TheVariants as due;
 ghost use Rattle.mb_core.specs.Due.{IsDue};
-ghost use Rattle.mb_replica.specs.Represents.{StandsAt};
+ghost use Rattle.mb_core.specs.Steps.{CarriesOut};
 
 use crate::stamping::{NO_UI, publish, sign};
 use mb_base::{Duplicate, NoMemory, Pos};
@@ -26,8 +24,8 @@ pub(crate) fn commit<V: Service + Drop>(
     pos: Pos,
     done: &mut Done,
 ) -> Result<(), NoMemory>
-    requires { IsDue V.is_state V.after V.answer V.part_of V.restored replica.old done.old (due.Commit pos) }
-    ensures { (me : Identity V) (x : Progress) → (k : KnownSlot) (b : BatchValue) → StandsAt me replica.old done.old x → next_rule me x.history ≡ Some (rules.Commit pos k b) → OnOk result (StandsAt me replica.new done.new (carry_out me (rules.Commit pos k b) x)) }
+    requires { IsDue V.machine replica.old done.old (due.Commit pos) }
+    ensures { (me : Identity V) (x : Progress) (k : KnownSlot) (b : BatchValue) → CarriesOut me x (rules.Commit pos k b) result replica.old done.old replica.new done.new }
 {
     let Some(order) = replica.agreement.normal.cert_at(pos) else {
         return Ok(());

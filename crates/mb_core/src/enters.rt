@@ -1,17 +1,15 @@
 //! ENTER: a backup answers the NEW_VIEW of its view.
 
-ghost use Rattle.std.specs.Prelude.{◌≡◌, ◌<◌, Some, OnOk};
+ghost use Rattle.std.specs.Prelude.{◌<◌, Some};
 ghost use Rattle.mb_base.specs.Shapes.{host_count};
 ghost use Rattle.mb_change.specs.Searches.{with_enter};
 ghost use Rattle.mb_change.specs.Represents.{StandsWith};
 ghost use Rattle.mb_model.specs.Histories.{Identity};
-ghost use Rattle.mb_replica.specs.Represents.{StandsAt};
 ghost use Rattle.mb_replica.specs.Between.{WritesChange};
+ghost use Rattle.mb_core.specs.Steps.{CarriesOut};
 ghost use Rattle.mb_msg.specs.declared.change.NewView.{NewView as NewViewValue};
 ghost use Rattle.mb_model.specs.Sending.{Progress};
-ghost use Rattle.mb_model.specs.EnabledRules.{next_rule};
 ghost use Rattle.mb_model.specs.EnabledRules as rules;
-ghost use Rattle.mb_model.specs.CarriedOut.{carry_out};
 ghost use Rattle.mb_core.specs.declared.rules.Due.TheVariants as due;
 ghost use Rattle.mb_core.specs.Due.{IsDue};
 
@@ -28,8 +26,8 @@ pub(crate) fn enter<V: Service + Drop>(
     alloc: Global,
     done: &mut Done,
 ) -> Result<(), NoMemory>
-    requires { IsDue V.is_state V.after V.answer V.part_of V.restored replica.old done.old due.Enter }
-    ensures { (me : Identity V) (x : Progress) → (n : NewViewValue) → StandsAt me replica.old done.old x → next_rule me x.history ≡ Some (rules.Enter n) → OnOk result (StandsAt me replica.new done.new (carry_out me (rules.Enter n) x)) }
+    requires { IsDue V.machine replica.old done.old due.Enter }
+    ensures { (me : Identity V) (x : Progress) (n : NewViewValue) → CarriesOut me x (rules.Enter n) result replica.old done.old replica.new done.new }
 {
     let Some(new_view) = replica.agreement.change.new_view() else {
         return Ok(());

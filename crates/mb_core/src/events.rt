@@ -1,17 +1,17 @@
 //! One event: what it does, the rules that follow, and a FETCH at its end.
 
-ghost use Rattle.std.specs.Prelude.{◌≡◌, ◌&&◌, ◌||◌, true, IfOk, OnOk};
+ghost use Rattle.std.specs.Prelude.{◌≡◌, ◌&&◌, ◌||◌, true, OnOk};
 ghost use Rattle.mb_msg.specs.Fits.{Fits};
 ghost use Rattle.mb_msg.specs.Reading.{message_of};
 ghost use Rattle.mb_model.specs.Histories.{Identity, History};
 ghost use Rattle.mb_model.specs.Stable.{low_of};
 ghost use Rattle.mb_model.specs.Positions.{is_behind};
 ghost use Rattle.mb_model.specs.Sending.{Progress, begin};
-ghost use Rattle.mb_model.specs.Given.{answer as answered};
 ghost use Rattle.mb_model.specs.HostStep.{transition, on_bytes, on_message, on_patience, after_patience, on_nudge, finished, finished_where, with_fetch, low_rose};
-ghost use Rattle.mb_msg.specs.declared.event.Outcome.{Outcome as OutcomeValue};
 ghost use Rattle.mb_replica.specs.Represents.{Represents, Serves, StandsAt, IsInStep};
 ghost use Rattle.mb_replica.specs.Told.{KnowsBytes, KnowsEvent, KnowsMessage};
+ghost use Rattle.mb_replica.specs.Steps.{AnswersEvent};
+ghost use Rattle.mb_core.specs.Steps.{Finishes};
 
 use crate::nudges::on_nudge;
 use crate::patience::on_patience;
@@ -29,9 +29,9 @@ pub(crate) fn on_event<V: Service + Drop>(
     known: &Option<Digest>,
     done: &mut Done,
 ) -> Result<Outcome, NoMemory>
-    requires stepping { IsInStep V.is_state V.after V.answer V.part_of V.restored replica.old done.old }
+    requires stepping { IsInStep V.machine replica.old done.old }
     requires known { KnowsEvent replica.old.agreement.shape known.now event.now }
-    ensures { (me : Identity V) (d : History) → Serves V.is_state V.after V.answer V.part_of V.restored me → StandsAt me replica.old done.old (begin d) → IfOk result (λ o. (o ≡ (transition me d event.now).outcome) × StandsAt me replica.new done.new (transition me d event.now).left) }
+    ensures { AnswersEvent (Serves V.machine) (λ me d. transition me d event.now) result replica.old done.old replica.new done.new }
 {
     match event {
         Event::Given(bytes) => on_bytes(replica, alloc, bytes.as_slice(), known, done),
@@ -49,9 +49,9 @@ fn on_bytes<V: Service + Drop>(
     known: &Option<Digest>,
     done: &mut Done,
 ) -> Result<Outcome, NoMemory>
-    requires stepping { IsInStep V.is_state V.after V.answer V.part_of V.restored replica.old done.old }
+    requires stepping { IsInStep V.machine replica.old done.old }
     requires known { KnowsBytes replica.old.agreement.shape known.now bytes.now }
-    ensures { (me : Identity V) (d : History) → Serves V.is_state V.after V.answer V.part_of V.restored me → StandsAt me replica.old done.old (begin d) → IfOk result (λ o. (o ≡ (on_bytes me (message_of replica.old.agreement.shape bytes.now) d).outcome) × StandsAt me replica.new done.new (on_bytes me (message_of replica.old.agreement.shape bytes.now) d).left) }
+    ensures { AnswersEvent (Serves V.machine) (λ me d. on_bytes me (message_of replica.old.agreement.shape bytes.now) d) result replica.old done.old replica.new done.new }
 {
     match decode(alloc, &replica.agreement.shape, bytes) {
         Ok(message) => on_message(replica, alloc, message, known, done),
@@ -69,8 +69,8 @@ fn on_message<V: Service + Drop>(
 ) -> Result<Outcome, NoMemory>
     requires fits { Fits replica.old.agreement.shape message }
     requires known { KnowsMessage known.now message }
-    requires stepping { IsInStep V.is_state V.after V.answer V.part_of V.restored replica.old done.old }
-    ensures { (me : Identity V) (d : History) → Serves V.is_state V.after V.answer V.part_of V.restored me → StandsAt me replica.old done.old (begin d) → IfOk result (λ o. (o ≡ (on_message me d message).outcome) × StandsAt me replica.new done.new (on_message me d message).left) }
+    requires stepping { IsInStep V.machine replica.old done.old }
+    ensures { AnswersEvent (Serves V.machine) (λ me d. on_message me d message) result replica.old done.old replica.new done.new }
 {
     let before = replica.low();
     let answer = replica.give(alloc, message, known, done)?;
@@ -83,8 +83,8 @@ fn after_patience<V: Service + Drop>(
     alloc: Global,
     done: &mut Done,
 ) -> Result<Outcome, NoMemory>
-    requires { IsInStep V.is_state V.after V.answer V.part_of V.restored replica.old done.old }
-    ensures { (me : Identity V) (d : History) → Serves V.is_state V.after V.answer V.part_of V.restored me → StandsAt me replica.old done.old (begin d) → IfOk result (λ o. (o ≡ (after_patience me d (on_patience me (begin d))).outcome) × StandsAt me replica.new done.new (after_patience me d (on_patience me (begin d))).left) }
+    requires { IsInStep V.machine replica.old done.old }
+    ensures { AnswersEvent (Serves V.machine) (λ me d. after_patience me d (on_patience me (begin d))) result replica.old done.old replica.new done.new }
 {
     let before = replica.low();
     let outcome = on_patience(replica, alloc, done)?;
@@ -97,8 +97,8 @@ fn after_nudge<V: Service + Drop>(
     alloc: Global,
     done: &mut Done,
 ) -> Result<Outcome, NoMemory>
-    requires { IsInStep V.is_state V.after V.answer V.part_of V.restored replica.old done.old }
-    ensures { (me : Identity V) (d : History) → Serves V.is_state V.after V.answer V.part_of V.restored me → StandsAt me replica.old done.old (begin d) → IfOk result (λ o. (o ≡ (finished me true d (on_nudge me (begin d))).outcome) × StandsAt me replica.new done.new (finished me true d (on_nudge me (begin d))).left) }
+    requires { IsInStep V.machine replica.old done.old }
+    ensures { AnswersEvent (Serves V.machine) (λ me d. finished me true d (on_nudge me (begin d))) result replica.old done.old replica.new done.new }
 {
     let before = replica.low();
     on_nudge(replica, alloc, done)?;
@@ -115,8 +115,8 @@ fn finished_where<V: Service + Drop>(
     before: Pos,
     done: &mut Done,
 ) -> Result<(), NoMemory>
-    requires { IsInStep V.is_state V.after V.answer V.part_of V.restored replica.old done.old }
-    ensures { (me : Identity V) (d : History) (x : Progress) (o : OutcomeValue) → Serves V.is_state V.after V.answer V.part_of V.restored me → StandsAt me replica.old done.old x → before ≡ low_of me d → OnOk result (StandsAt me replica.new done.new (finished_where me answer.rules_follow answer.asks d (answered o x)).left) }
+    requires { IsInStep V.machine replica.old done.old }
+    ensures { Finishes (Serves V.machine) before (λ me d a. finished_where me answer.rules_follow answer.asks d a) result replica.old done.old replica.new done.new }
 {
     if answer.rules_follow {
         return finished(replica, alloc, answer.asks, before, done);
@@ -132,8 +132,8 @@ fn finished<V: Service + Drop>(
     before: Pos,
     done: &mut Done,
 ) -> Result<(), NoMemory>
-    requires { IsInStep V.is_state V.after V.answer V.part_of V.restored replica.old done.old }
-    ensures { (me : Identity V) (d : History) (x : Progress) (o : OutcomeValue) → Serves V.is_state V.after V.answer V.part_of V.restored me → StandsAt me replica.old done.old x → before ≡ low_of me d → OnOk result (StandsAt me replica.new done.new (finished me asks d (answered o x)).left) }
+    requires { IsInStep V.machine replica.old done.old }
+    ensures { Finishes (Serves V.machine) before (λ me d a. finished me asks d a) result replica.old done.old replica.new done.new }
 {
     run_rules(replica, alloc, done)?;
     with_fetch(replica, alloc, asks, before, done)
@@ -147,7 +147,7 @@ fn with_fetch<V: Service + Drop>(
     before: Pos,
     done: &mut Done,
 ) -> Result<(), NoMemory>
-    requires { IsInStep V.is_state V.after V.answer V.part_of V.restored replica.now done.old }
+    requires { IsInStep V.machine replica.now done.old }
     ensures { (me : Identity V) (d : History) (x : Progress) → StandsAt me replica.now done.old x → before ≡ low_of me d → OnOk result (StandsAt me replica.now done.new (with_fetch me asks d x)) }
 {
     if asks_for_state(replica, asks, before) {

@@ -1,23 +1,23 @@
 //! Executing the batch of a position, and the CHECKPOINT behind a multiple of the interval.
 
-ghost use Rattle.std.specs.Prelude.{ℕ, true, List, [], ◌∷◌, ◌++◌, Some, None, OnOk, ◌≡◌, IfOk, ◌<◌, ◌≤◌, ◌%◌, ◌==◌, length};
+ghost use Rattle.std.specs.Prelude.{ℕ, true, List, [], ◌∷◌, Some, None, OnOk, ◌≡◌, IfOk, ◌<◌, ◌≤◌, ◌%◌, ◌==◌, length};
 ghost use Rattle.mb_base.specs.Shapes.{client_count, interval};
 ghost use Rattle.mb_parts.specs.declared.request.Request.{Request as RequestValue};
 ghost use Rattle.mb_parts.specs.declared.batch.Batch.{Batch as BatchValue};
 ghost use Rattle.mb_msg.specs.declared.event.Placed.{Placed as PlacedValue};
 ghost use Rattle.mb_model.specs.Histories.{Identity, History};
 ghost use Rattle.mb_model.specs.Positions.{slot_at};
-ghost use Rattle.mb_model.specs.EnabledRules.{next_rule, Execute};
+ghost use Rattle.mb_model.specs.EnabledRules.{Execute};
 ghost use Rattle.mb_model.specs.Sending.{Progress};
-ghost use Rattle.mb_model.specs.PlainChecks.{last_seq};
-ghost use Rattle.mb_model.specs.CarriedOut.{serve_all, serve, with_reply, close_slot, at_interval, with_checkpoint, carry_out};
+ghost use Rattle.mb_model.specs.CarriedOut.{serve_all, serve, with_reply, close_slot, at_interval, with_checkpoint};
 ghost use Rattle.mb_steps.specs.Arises.{JustExecuted};
 ghost use Rattle.mb_normal.specs.Tables.{batch_of};
 ghost use Rattle.mb_core.specs.declared.rules.Due.TheVariants as due;
 ghost use Rattle.mb_core.specs.Due.{IsDue};
-ghost use Rattle.mb_replica.specs.Represents.{Serves, StandsServing, StandsAt, Represents};
-ghost use Rattle.mb_core.specs.Serving.{ServesOn, IsInBatch, IsBehindBatch, WritesShelf, KeepsWhere};
-ghost use Rattle.mb_model.specs.States.{parts_of};
+ghost use Rattle.mb_replica.specs.Represents.{Serves, StandsAt, Represents};
+ghost use Rattle.mb_replica.specs.Steps.{StepsWhere};
+ghost use Rattle.mb_core.specs.Steps.{CarriesOut, ServesAll, ServesOne, RepliesTo, KeepsSnapshot};
+ghost use Rattle.mb_core.specs.Serving.{ServesOn, IsInBatch, IsBehindBatch, WritesShelf};
 ghost use Rattle.mb_fetch.specs.Snapshots.{parts_at};
 ghost use Rattle.mb_cache.specs.Represents.{snapshots_of};
 
@@ -36,8 +36,8 @@ pub(crate) fn execute<V: Service + Drop>(
     pos: Pos,
     done: &mut Done,
 ) -> Result<(), NoMemory>
-    requires { IsDue V.is_state V.after V.answer V.part_of V.restored replica.old done.old (due.Execute pos) }
-    ensures { (me : Identity V) (x : Progress) → (b : BatchValue) → Serves V.is_state V.after V.answer V.part_of V.restored me → StandsAt me replica.old done.old x → next_rule me x.history ≡ Some (Execute pos b) → OnOk result (StandsAt me replica.new done.new (carry_out me (Execute pos b) x)) }
+    requires { IsDue V.machine replica.old done.old (due.Execute pos) }
+    ensures { (me : Identity V) (x : Progress) (b : BatchValue) → Serves V.machine me → CarriesOut me x (Execute pos b) result replica.old done.old replica.new done.new }
 {
     let Some(batch) = batch_at(replica, alloc, pos)? else {
         return Ok(());
@@ -57,8 +57,8 @@ fn serve_all<V: Service + Drop>(
     batch: Batch,
     done: &mut Done,
 ) -> Result<Items<Placed>, NoMemory>
-    requires { IsInBatch V.is_state V.after V.answer V.part_of V.restored replica.old done.old pos batch.requests [] }
-    ensures { (me : Identity V) (x : Progress) → Serves V.is_state V.after V.answer V.part_of V.restored me → ServesOn me replica.old done.old pos batch.requests [] x → IfOk result (λ served. ServesOn me replica.new done.new pos [] served (serve_all me pos batch.requests x)) }
+    requires { IsInBatch V.machine replica.old done.old pos batch.requests [] }
+    ensures { (me : Identity V) (x : Progress) → Serves V.machine me → ServesAll me x pos batch.requests result replica.old done.old replica.new done.new }
 {
     let mut requests = Items::new(alloc);
     for request in batch.requests.into_vec() {
@@ -76,8 +76,8 @@ fn serve<V: Service + Drop>(
     request: &Request,
     done: &mut Done,
 ) -> Result<bool, NoMemory>
-    requires { (more : List RequestValue) × ((served : List PlacedValue) × IsInBatch V.is_state V.after V.answer V.part_of V.restored replica.old done.old pos (request.now ∷ more) served) }
-    ensures { (me : Identity V) (x : Progress) (more : List RequestValue) (served : List PlacedValue) → Serves V.is_state V.after V.answer V.part_of V.restored me → ServesOn me replica.old done.old pos (request.now ∷ more) served x → IfOk result (λ fresh. ServesOn me replica.new done.new pos more (served ++ (record { request = request.now; fresh = fresh }) ∷ []) (serve me pos request.now x)) }
+    requires { (more : List RequestValue) × ((served : List PlacedValue) × IsInBatch V.machine replica.old done.old pos (request.now ∷ more) served) }
+    ensures { (me : Identity V) (x : Progress) → ServesOne V.machine me x pos request.now result replica.old done.old replica.new done.new }
 {
     let fresh = replica.keeper.execute(alloc, pos, request)?;
     replica.agreement.normal.settle(request.client, request.seq);
@@ -95,7 +95,7 @@ fn with_reply<V: Service + Drop>(
 ) -> Result<(), NoMemory>
     requires client { client < client_count replica.now.agreement.shape }
     requires clients { length replica.now.keeper.served.table ≡ client_count replica.now.agreement.shape }
-    ensures { (me : Identity V) (x : Progress) (p : PlacedValue) (served : List PlacedValue) → StandsServing me replica.now done.old served x → p.request.client ≡ client → p.fresh ≡ fresh → (fresh ≡ true → 1 ≤ last_seq me x.history client) → OnOk result (StandsServing me replica.now done.new served (with_reply me p x)) }
+    ensures { (me : Identity V) (x : Progress) (p : PlacedValue) → RepliesTo me x p client fresh result replica.now done.old done.new }
 {
     if fresh {
         return replica.send_stored_reply(alloc, client, done);
@@ -113,8 +113,8 @@ fn close_slot<V: Service + Drop>(
     requests: Items<Placed>,
     done: &mut Done,
 ) -> Result<(), NoMemory>
-    requires { IsInBatch V.is_state V.after V.answer V.part_of V.restored replica.old done.old pos [] requests }
-    ensures { (me : Identity V) (x : Progress) → Serves V.is_state V.after V.answer V.part_of V.restored me → ServesOn me replica.old done.old pos [] requests x → OnOk result (StandsAt me replica.new done.new (close_slot me pos x)) }
+    requires { IsInBatch V.machine replica.old done.old pos [] requests }
+    ensures { (me : Identity V) (x : Progress) → Serves V.machine me → ServesOn me replica.old done.old pos [] requests x → OnOk result (StandsAt me replica.new done.new (close_slot me pos x)) }
 {
     keep_at_interval(replica, alloc, pos)?;
     replica.agreement.exec = pos;
@@ -131,7 +131,7 @@ fn keep_at_interval<V: Service + Drop>(
     requires above { (other : ℕ) → pos ≤ other → parts_at replica.old.keeper.snapshots other ≡ None }
     requires room { length replica.old.keeper.snapshots < 3 }
     ensures writes { OnOk result (WritesShelf replica.old replica.new) }
-    ensures kept { OnOk result (KeepsWhere (pos % interval replica.old.agreement.shape == 0) pos (parts_of (snapshots_of V.part_of V.restored) replica.old.keeper.served) replica.old.keeper.snapshots replica.new.keeper.snapshots) }
+    ensures kept { OnOk result (KeepsSnapshot (snapshots_of V.machine) pos replica.old replica.new) }
 {
     if !replica.is_at_interval(pos) {
         return Ok(());
@@ -146,8 +146,8 @@ fn at_interval<V: Service + Drop>(
     pos: Pos,
     done: &mut Done,
 ) -> Result<(), NoMemory>
-    requires { IsBehindBatch V.is_state V.after V.answer V.part_of V.restored replica.old done.old pos }
-    ensures { (me : Identity V) (x : Progress) → Serves V.is_state V.after V.answer V.part_of V.restored me → StandsAt me replica.old done.old x → JustExecuted me x.history pos → OnOk result (StandsAt me replica.new done.new (at_interval me pos x)) }
+    requires { IsBehindBatch V.machine replica.old done.old pos }
+    ensures { StepsWhere (Serves V.machine) (λ me x. JustExecuted me x.history pos) (λ me x. at_interval me pos x) result replica.old done.old replica.new done.new }
 {
     if replica.is_at_interval(pos) {
         return with_checkpoint(replica, alloc, pos, done);
@@ -163,8 +163,8 @@ fn with_checkpoint<V: Service + Drop>(
     done: &mut Done,
 ) -> Result<(), NoMemory>
     requires interval { (pos % interval replica.old.agreement.shape == 0) ≡ true }
-    requires standing { IsBehindBatch V.is_state V.after V.answer V.part_of V.restored replica.old done.old pos }
-    ensures { (me : Identity V) (x : Progress) → Serves V.is_state V.after V.answer V.part_of V.restored me → StandsAt me replica.old done.old x → JustExecuted me x.history pos → OnOk result (StandsAt me replica.new done.new (with_checkpoint me pos x)) }
+    requires standing { IsBehindBatch V.machine replica.old done.old pos }
+    ensures { StepsWhere (Serves V.machine) (λ me x. JustExecuted me x.history pos) (λ me x. with_checkpoint me pos x) result replica.old done.old replica.new done.new }
 {
     if !has_room(replica) {
         return Ok(());

@@ -1,11 +1,10 @@
 //! JOIN: a host goes on in its view at the stable position.
 
-ghost use Rattle.std.specs.Prelude.{None, ◌≡◌, Some, OnOk, IfOk};
-ghost use Rattle.mb_replica.specs.Represents.{Represents, StandsAt};
+ghost use Rattle.std.specs.Prelude.{None, ◌≡◌, IfOk};
+ghost use Rattle.mb_replica.specs.Represents.{Represents};
+ghost use Rattle.mb_core.specs.Steps.{CarriesOut};
 ghost use Rattle.mb_model.specs.Sending.{Progress};
-ghost use Rattle.mb_model.specs.EnabledRules.{next_rule};
 ghost use Rattle.mb_model.specs.EnabledRules as rules;
-ghost use Rattle.mb_model.specs.CarriedOut.{carry_out};
 ghost use Rattle.mb_core.specs.declared.rules.Due.TheVariants as due;
 ghost use Rattle.mb_core.specs.Due.{IsDue};
 ghost use Rattle.mb_model.specs.Histories.{Identity, History};
@@ -24,8 +23,8 @@ pub(crate) fn join<V: Service + Drop>(
     alloc: Global,
     done: &mut Done,
 ) -> Result<(), NoMemory>
-    requires { IsDue V.is_state V.after V.answer V.part_of V.restored replica.old done.old due.Join }
-    ensures { (me : Identity V) (x : Progress) → StandsAt me replica.old done.old x → next_rule me x.history ≡ Some (rules.Join) → OnOk result (StandsAt me replica.new done.new (carry_out me (rules.Join) x)) }
+    requires { IsDue V.machine replica.old done.old due.Join }
+    ensures { (me : Identity V) (x : Progress) → CarriesOut me x rules.Join result replica.old done.old replica.new done.new }
 {
     let evidence = join_evidence(replica, alloc)?;
     let stable = replica.agreement.stable.duplicate(alloc)?;

@@ -10,12 +10,11 @@ ghost use Rattle.mb_change.specs.Represents.{StandsWith};
 ghost use Rattle.std.specs.Prelude.{List, ◌≡◌, Some, OnOk};
 ghost use Rattle.mb_msg.specs.declared.change.ViewChange.{ViewChange as ViewChangeValue};
 ghost use Rattle.mb_model.specs.Sending.{Progress};
-ghost use Rattle.mb_model.specs.EnabledRules.{next_rule};
 ghost use Rattle.mb_model.specs.EnabledRules as rules;
-ghost use Rattle.mb_model.specs.CarriedOut.{carry_out};
 ghost use Rattle.mb_core.specs.declared.rules.Due.TheVariants as due;
 ghost use Rattle.mb_core.specs.Due.{IsDue};
-ghost use Rattle.mb_replica.specs.Represents.{StandsAt, Represents};
+ghost use Rattle.mb_replica.specs.Represents.{Represents};
+ghost use Rattle.mb_core.specs.Steps.{CarriesOut};
 ghost use Rattle.mb_msg.specs.Plans.{CanHash};
 ghost use Rattle.mb_model.specs.Histories.{Identity, History, view_of};
 ghost use Rattle.mb_model.specs.Making.{new_view_with};
@@ -34,8 +33,8 @@ pub(crate) fn announce<V: Service + Drop>(
     alloc: Global,
     done: &mut Done,
 ) -> Result<(), NoMemory>
-    requires { IsDue V.is_state V.after V.answer V.part_of V.restored replica.old done.old due.Announce }
-    ensures { (me : Identity V) (x : Progress) → (changes : List ViewChangeValue) → StandsAt me replica.old done.old x → next_rule me x.history ≡ Some (rules.Announce changes) → OnOk result (StandsAt me replica.new done.new (carry_out me (rules.Announce changes) x)) }
+    requires { IsDue V.machine replica.old done.old due.Announce }
+    ensures { (me : Identity V) (x : Progress) (changes : List ViewChangeValue) → CarriesOut me x (rules.Announce changes) result replica.old done.old replica.new done.new }
 {
     let view = replica.view();
     let found = replica.agreement.change.chosen(alloc, view)?;

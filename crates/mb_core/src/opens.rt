@@ -1,21 +1,20 @@
 //! OPEN: a host opens its view with evidence of the plan, and the plan.
 
 ghost use Rattle.std.specs.Prelude.{None, ◌≡◌, ◌^◌, ◌<◌, Some, OnOk, IfOk, option_map, map, slice_get};
-ghost use Rattle.mb_replica.specs.Represents.{Represents, StandsAt};
+ghost use Rattle.mb_replica.specs.Represents.{Represents};
 ghost use Rattle.mb_msg.specs.declared.stamped.Stamped.TheVariants as stamped;
 ghost use Rattle.mb_msg.specs.Stamps.{with_ui};
 ghost use Rattle.mb_parts.specs.declared.certificates.Evidence.{Evidence as EvidenceValue};
 ghost use Rattle.mb_msg.specs.declared.change.Plan.{Plan as PlanValue};
 ghost use Rattle.mb_model.specs.Sending.{Progress};
-ghost use Rattle.mb_model.specs.EnabledRules.{next_rule};
 ghost use Rattle.mb_model.specs.EnabledRules as rules;
-ghost use Rattle.mb_model.specs.CarriedOut.{carry_out};
 ghost use Rattle.mb_core.specs.declared.rules.Due.TheVariants as due;
 ghost use Rattle.mb_core.specs.Due.{IsDue};
 ghost use Rattle.mb_model.specs.Histories.{Identity, History};
 ghost use Rattle.mb_model.specs.Held.{plan_at, plan_of_view};
 ghost use Rattle.mb_replica.specs.Between.{WritesNormal, WritesChange};
 ghost use Rattle.mb_replica.specs.Holding.{length_in};
+ghost use Rattle.mb_core.specs.Steps.{CarriesOut};
 ghost use Rattle.mb_change.specs.Searches.{with_evidence};
 ghost use Rattle.mb_change.specs.Represents.{StandsWith};
 ghost use Rattle.mb_parts.specs.Bares.{batch_digest};
@@ -35,8 +34,8 @@ pub(crate) fn open<V: Service + Drop>(
     alloc: Global,
     done: &mut Done,
 ) -> Result<(), NoMemory>
-    requires { IsDue V.is_state V.after V.answer V.part_of V.restored replica.old done.old due.Open }
-    ensures { (me : Identity V) (x : Progress) → (e : EvidenceValue) (plan : PlanValue) → StandsAt me replica.old done.old x → next_rule me x.history ≡ Some (rules.Open e plan) → OnOk result (StandsAt me replica.new done.new (carry_out me (rules.Open e plan) x)) }
+    requires { IsDue V.machine replica.old done.old due.Open }
+    ensures { (me : Identity V) (x : Progress) (e : EvidenceValue) (plan : PlanValue) → CarriesOut me x (rules.Open e plan) result replica.old done.old replica.new done.new }
 {
     let view = replica.view();
     let found = replica.agreement.change.evidence_for(alloc, view)?;

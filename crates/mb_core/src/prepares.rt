@@ -1,13 +1,11 @@
 //! PREPARE: a batch that the primary orders at a position.
 
-ghost use Rattle.std.specs.Prelude.{ℕ, ◌≡◌, Some, OnOk};
-ghost use Rattle.mb_replica.specs.Represents.{StandsAt};
+ghost use Rattle.std.specs.Prelude.{ℕ, Some};
+ghost use Rattle.mb_core.specs.Steps.{CarriesOut};
 ghost use Rattle.mb_parts.specs.declared.batch.Batch.{Batch as BatchValue};
 ghost use Rattle.mb_model.specs.Histories.{Identity};
 ghost use Rattle.mb_model.specs.Sending.{Progress};
-ghost use Rattle.mb_model.specs.EnabledRules.{next_rule};
 ghost use Rattle.mb_model.specs.EnabledRules as rules;
-ghost use Rattle.mb_model.specs.CarriedOut.{carry_out};
 ghost use Rattle.mb_core.specs.declared.rules.Due.TheVariants as due;
 ghost use Rattle.mb_core.specs.Due.{IsDue};
 
@@ -25,8 +23,8 @@ pub(crate) fn prepare<V: Service + Drop>(
     alloc: Global,
     done: &mut Done,
 ) -> Result<(), NoMemory>
-    requires { IsDue V.is_state V.after V.answer V.part_of V.restored replica.old done.old due.Prepare }
-    ensures { (me : Identity V) (x : Progress) → (pos : ℕ) (b : BatchValue) → StandsAt me replica.old done.old x → next_rule me x.history ≡ Some (rules.Prepare pos b) → OnOk result (StandsAt me replica.new done.new (carry_out me (rules.Prepare pos b) x)) }
+    requires { IsDue V.machine replica.old done.old due.Prepare }
+    ensures { (me : Identity V) (x : Progress) (pos : ℕ) (b : BatchValue) → CarriesOut me x (rules.Prepare pos b) result replica.old done.old replica.new done.new }
 {
     let pos = next_position(replica);
     let batch = replica.agreement.normal.batch(alloc)?;

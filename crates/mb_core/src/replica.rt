@@ -6,12 +6,10 @@ ghost use Rattle.mb_model.specs.Histories.{Identity, History, here};
 ghost use Rattle.mb_model.specs.Stable.{low_of};
 ghost use Rattle.mb_model.specs.OwnLog.{own_log, log_longest};
 ghost use Rattle.mb_model.specs.Positions.{exec_of};
-ghost use Rattle.mb_model.specs.HostStep.{transition};
-ghost use Rattle.mb_steps.specs.Arises.{IsWhole};
 ghost use Rattle.mb_core.specs.Halting.{Halts};
 ghost use Rattle.mb_replica.specs.Lengths.{AreMessageLong, AreOutgoingLong};
 ghost use Rattle.mb_replica.specs.Represents.{Serves, IsStep, IsTold};
-ghost use Rattle.mb_core.specs.Represents.{Represents, IsHost, IsAtRest};
+ghost use Rattle.mb_core.specs.Represents.{Represents, IsHost, IsAtRest, StepsAs};
 ghost use Rattle.mb_replica.specs.Told.{KnowsEvent};
 ghost use Rattle.mb_replica.specs.Waiting.{wants};
 
@@ -48,9 +46,9 @@ impl<V: Service + Drop> Replica<V> {
         service: V,
     ) -> Result<Replica<V>, NoMemory>
         requires { host < host_count shape }
-        ensures stands { (me : Identity V) → Serves V.is_state V.after V.answer V.part_of V.restored me → me.initial ≡ service → IfOk result (λ r. IsHost me r → Represents me r []) }
+        ensures stands { (me : Identity V) → Serves V.machine me → me.initial ≡ service → IfOk result (λ r. IsHost me r → Represents me r []) }
         ensures host { IfOk result (λ r. (r.state.agreement.shape ≡ shape) × (r.state.agreement.host ≡ host) × (r.state.agreement.usig.secret ≡ secret.now)) }
-        ensures rests { IfOk result (λ r. IsAtRest V.is_state V.after V.answer V.part_of V.restored r) }
+        ensures rests { IfOk result (λ r. IsAtRest V.machine r) }
         ensures runs { IfOk result (λ r. r.halted ≡ false) }
     {
         Ok(Replica {
@@ -63,11 +61,10 @@ impl<V: Service + Drop> Replica<V> {
     ///
     /// After `NoMemory` every later call is `Halted`, and only then.
     pub fn step(&mut self, alloc: Global, event: &Event) -> Result<Step, Stop>
-        requires { self.old.halted ≡ false → IsAtRest V.is_state V.after V.answer V.part_of V.restored self.old }
-        ensures stands { (me : Identity V) (d : History) → Serves V.is_state V.after V.answer V.part_of V.restored me → Represents me self.old d → IsWhole d
-            → IfOk result (λ s. IsStep s (transition me d event.now) × (Represents me self.new (transition me d event.now).left.history × IsWhole (transition me d event.now).left.history)) }
+        requires { self.old.halted ≡ false → IsAtRest V.machine self.old }
+        ensures stands { StepsAs V.machine event.now IsStep self.old result self.new }
         ensures lengths { IfOk result (λ s. AreMessageLong s.sent) }
-        ensures rests { self.new.halted ≡ false → IsAtRest V.is_state V.after V.answer V.part_of V.restored self.new }
+        ensures rests { self.new.halted ≡ false → IsAtRest V.machine self.new }
         ensures halts { Halts self.old result self.new }
     {
         let told = self.step_told(alloc, event, &None)?;
@@ -87,12 +84,11 @@ impl<V: Service + Drop> Replica<V> {
         event: &Event,
         known: &Option<Digest>,
     ) -> Result<Told, Stop>
-        requires rests { self.old.halted ≡ false → IsAtRest V.is_state V.after V.answer V.part_of V.restored self.old }
+        requires rests { self.old.halted ≡ false → IsAtRest V.machine self.old }
         requires known { KnowsEvent self.old.state.agreement.shape known.now event.now }
-        ensures stands { (me : Identity V) (d : History) → Serves V.is_state V.after V.answer V.part_of V.restored me → Represents me self.old d → IsWhole d
-            → IfOk result (λ t. IsTold t (transition me d event.now) × (Represents me self.new (transition me d event.now).left.history × IsWhole (transition me d event.now).left.history)) }
+        ensures stands { StepsAs V.machine event.now IsTold self.old result self.new }
         ensures lengths { IfOk result (λ t. AreOutgoingLong t.sent) }
-        ensures rests { self.new.halted ≡ false → IsAtRest V.is_state V.after V.answer V.part_of V.restored self.new }
+        ensures rests { self.new.halted ≡ false → IsAtRest V.machine self.new }
         ensures halts { Halts self.old result self.new }
     {
         if self.halted {

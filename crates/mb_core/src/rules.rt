@@ -1,11 +1,13 @@
 //! What follows in the same step: eight rules, of which the first that is enabled is next, again and again.
 
-ghost use Rattle.std.specs.Prelude.{Some, OnOk, ◌≡◌};
+ghost use Rattle.std.specs.Prelude.{Some, ◌≡◌};
 ghost use Rattle.mb_model.specs.Sending.{Progress};
 ghost use Rattle.mb_model.specs.EnabledRules.{Rule, next_rule, next_position};
 ghost use Rattle.mb_model.specs.CarriedOut.{run_rules, carry_out, enough};
-ghost use Rattle.mb_core.specs.Due.{IsNamed, IsDue, Names, change_rule, normal_rule};
-ghost use Rattle.mb_replica.specs.Represents.{Serves, StandsAt, Represents, HasHistory, IsInStep};
+ghost use Rattle.mb_core.specs.Due.{IsDue, Names, change_rule, normal_rule};
+ghost use Rattle.mb_replica.specs.Represents.{Serves, Represents, HasHistory, IsInStep};
+ghost use Rattle.mb_replica.specs.Steps.{StepsTo};
+ghost use Rattle.mb_core.specs.Steps.{CarriesNamed};
 ghost use Rattle.mb_model.specs.Histories.{Identity, History};
 
 use crate::commits::commit;
@@ -54,8 +56,8 @@ pub(crate) fn run_rules<V: Service + Drop>(
     alloc: Global,
     done: &mut Done,
 ) -> Result<(), NoMemory>
-    requires { IsInStep V.is_state V.after V.answer V.part_of V.restored replica.old done.old }
-    ensures { (me : Identity V) (x : Progress) → Serves V.is_state V.after V.answer V.part_of V.restored me → StandsAt me replica.old done.old x → OnOk result (StandsAt me replica.new done.new (run_rules me enough x)) }
+    requires { IsInStep V.machine replica.old done.old }
+    ensures { StepsTo (Serves V.machine) (λ me x. run_rules me enough x) result replica.old done.old replica.new done.new }
 {
     for _round in 0..ENOUGH {
         let Some(rule) = next_rule(replica) else {
@@ -72,8 +74,8 @@ fn carry_out<V: Service + Drop>(
     rule: Due,
     done: &mut Done,
 ) -> Result<(), NoMemory>
-    requires { IsDue V.is_state V.after V.answer V.part_of V.restored replica.old done.old rule }
-    ensures { (me : Identity V) (x : Progress) → (r : Rule) → Serves V.is_state V.after V.answer V.part_of V.restored me → StandsAt me replica.old done.old x → IsNamed rule r → next_rule me x.history ≡ Some r → OnOk result (StandsAt me replica.new done.new (carry_out me r x)) }
+    requires { IsDue V.machine replica.old done.old rule }
+    ensures { (me : Identity V) (x : Progress) (r : Rule) → Serves V.machine me → CarriesNamed me x rule r result replica.old done.old replica.new done.new }
 {
     match rule {
         Due::ChangeView { view } => change_view(replica, alloc, view, done),

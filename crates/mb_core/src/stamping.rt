@@ -10,12 +10,10 @@ ghost use Rattle.mb_msg.specs.Spelling.{stamped_kind};
 ghost use Rattle.mb_msg.specs.AsStamped.{stamped_digest};
 ghost use Rattle.mb_log.specs.Logs.{has_room_for, appended};
 ghost use Rattle.mb_model.specs.Sending.{signed, to_all};
-ghost use Rattle.mb_steps.specs.Arises.{Adds};
-ghost use Rattle.mb_searches.specs.Sound.{IsSound};
-ghost use Rattle.mb_standing.specs.Stands.{GatesStand};
 ghost use Rattle.mb_replica.specs.Represents.{IsHost, Represents};
 ghost use Rattle.mb_replica.specs.Told.{as_outgoing, said_of};
 ghost use Rattle.mb_replica.specs.Between.{WritesCounter, WritesStamp};
+ghost use Rattle.mb_core.specs.Steps.{GatesFollow};
 ghost use Rattle.mb_core.specs.Signed.{IsSigned};
 
 use mb_base::{Counter, Digest, Items, NoMemory, Ui};
@@ -142,7 +140,7 @@ pub(crate) fn publish<V: Service + Drop>(
     ensures sent { OnOk result (done.new.sent ≡ done.old.sent ++ as_outgoing (to_all (as_message message)) ∷ []) }
     ensures kept { (done.new.executed ≡ done.old.executed) × (done.new.installed ≡ done.old.installed) }
     ensures log { OnOk result (replica.new.agreement.log ≡ appended message replica.old.agreement.log) }
-    ensures gates { (me : Identity V) (d : History) → IsHost me replica.old → IsSound me d → Adds me d (StampedEntry message) → GatesStand me replica.old.agreement.gates.items d → OnOk result (GatesStand me replica.new.agreement.gates.items (StampedEntry message ∷ d)) }
+    ensures gates { (me : Identity V) (d : History) → GatesFollow me d (StampedEntry message) result replica.old replica.new }
     ensures writes { OnOk result (WritesStamp replica.old replica.new) }
 {
     let message = replica

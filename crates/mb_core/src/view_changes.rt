@@ -1,8 +1,8 @@
 //! VIEW_CHANGE: a host leaves for another view, and shows all of its own log.
 
-ghost use Rattle.std.specs.Prelude.{◌≡◌, true, Some, is_none, OnOk, IfOk};
+ghost use Rattle.std.specs.Prelude.{◌≡◌, true, is_none, OnOk, IfOk};
 ghost use Rattle.mb_model.specs.UsableLogs.{is_whole};
-ghost use Rattle.mb_replica.specs.Represents.{IsHost, Represents, StandsAt};
+ghost use Rattle.mb_replica.specs.Represents.{IsHost, Represents};
 ghost use Rattle.mb_core.specs.Carrying.{StoresOwn};
 ghost use Rattle.mb_change.specs.Searches.{with_wish};
 ghost use Rattle.mb_change.specs.Represents.{StandsWith};
@@ -13,10 +13,9 @@ ghost use Rattle.mb_msg.specs.Fits.{FitsViewChange, FitsStamped};
 ghost use Rattle.mb_msg.specs.declared.change.ViewChange.{ViewChange as ViewChangeValue};
 ghost use Rattle.mb_msg.specs.Stamps.{with_ui};
 ghost use Rattle.mb_replica.specs.Between.{WritesChange, WritesNormal};
+ghost use Rattle.mb_core.specs.Steps.{CarriesOut};
 ghost use Rattle.mb_model.specs.Sending.{Progress};
-ghost use Rattle.mb_model.specs.EnabledRules.{next_rule};
 ghost use Rattle.mb_model.specs.EnabledRules as rules;
-ghost use Rattle.mb_model.specs.CarriedOut.{carry_out};
 ghost use Rattle.mb_core.specs.declared.rules.Due.TheVariants as due;
 ghost use Rattle.mb_core.specs.Due.{IsDue};
 ghost use Rattle.mb_model.specs.Histories.{Identity, History};
@@ -38,8 +37,8 @@ pub(crate) fn change_view<V: Service + Drop>(
     view: View,
     done: &mut Done,
 ) -> Result<(), NoMemory>
-    requires { IsDue V.is_state V.after V.answer V.part_of V.restored replica.old done.old (due.ChangeView view) }
-    ensures { (me : Identity V) (x : Progress) → StandsAt me replica.old done.old x → next_rule me x.history ≡ Some (rules.ChangeView view) → OnOk result (StandsAt me replica.new done.new (carry_out me (rules.ChangeView view) x)) }
+    requires { IsDue V.machine replica.old done.old (due.ChangeView view) }
+    ensures { (me : Identity V) (x : Progress) → CarriesOut me x (rules.ChangeView view) result replica.old done.old replica.new done.new }
 {
     let message = view_change(replica, alloc, view)?;
     let signed = sign(replica, alloc, message)?;

@@ -1,3 +1,4 @@
 pub mod Operations
 pub mod Snapshots
+pub mod Machine
 pub mod Laws

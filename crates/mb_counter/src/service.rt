@@ -10,19 +10,10 @@ use sha2::{Digest as _, Sha256};
 use std::alloc::Global;
 
 impl Service for Counter {
-    ghost use Rattle.mb_counter.specs.Operations.{IsCount, after, answer};
-    ghost use Rattle.mb_counter.specs.Snapshots.{part_of, restored};
+    ghost use Rattle.mb_counter.specs.Machine.{count_machine};
     ghost use Rattle.mb_counter.specs.Laws.{states_stay, answers_are_short, parts_give_the_state, one_list_of_parts};
 
-    ghost is_state = { IsCount };
-
-    ghost after = { after };
-
-    ghost answer = { answer };
-
-    ghost part_of = { part_of };
-
-    ghost restored = { restored };
+    ghost machine = { count_machine };
 
     ghost states_stay = { states_stay };
 

@@ -2,8 +2,8 @@
 use Rattle.std.proofs.Common.{◌≡◌, ℕ, List, [], ◌∷◌, refl, ap, arith}
 use Rattle.mb_base.specs.Shapes.{Bytes}
 use Rattle.mb_cache.specs.Represents.{machine_of, snapshots_of}
-use Rattle.mb_counter.specs.Operations.{IsCount, after, answer}
-use Rattle.mb_counter.specs.Snapshots.{part_of, restored}
+use Rattle.mb_counter.specs.Machine.{count_machine}
+use Rattle.mb_counter.specs.Operations.{IsCount, after}
 use Rattle.mb_counter.specs.Laws.{states_stay, answers_are_short, parts_give_the_state}
 use Rattle.mb_headline.proofs.Promised.{all_stay_one}
 use Rattle.mb_schedule.specs.declared.schedule.Schedule.{Schedule}
@@ -21,9 +21,9 @@ use Rattle.mb_counting.specs.Counts.{text_of_end, IsAnswer}
 
 -- the count after these operations, from 0 on
 abbrev after_all : List Bytes → ℕ
-after_all ops = state_after (machine_of after answer) 0 ops
+after_all ops = state_after (machine_of count_machine) 0 ops
 
-stays_count : (ops : List Bytes) (count : ℕ) → IsCount count → IsCount (state_after (machine_of after answer) count ops)
+stays_count : (ops : List Bytes) (count : ℕ) → IsCount count → IsCount (state_after (machine_of count_machine) count ops)
 unfolding state_after
 stays_count [] count is = is
 stays_count (op ∷ ops) count is = stays_count ops (after count op) (states_stay count op is)
@@ -31,14 +31,14 @@ stays_count (op ∷ ops) count is = stays_count ops (after count op) (states_sta
 is_count : (ops : List Bytes) → IsCount (after_all ops)
 is_count ops = stays_count ops 0 (omega arith)
 
-count_is_service : IsService (machine_of after answer) (snapshots_of part_of restored) 0
+count_is_service : IsService (machine_of count_machine) (snapshots_of count_machine) 0
 count_is_service = record {
   short = λ ops op fit fits. answers_are_short (after_all ops) op (is_count ops);
   whole = λ ops fit. parts_give_the_state (after_all ops) (is_count ops);
 }
 
 -- Hosts are made with it.
-pub is_system : (s : Schedule) → IsSystem IsCount after answer part_of restored (system_of s)
+pub is_system : (s : Schedule) → IsSystem count_machine (system_of s)
 is_system s = record { machine = refl; snapshots = refl; first = omega arith }
 
 -- what a story ends with is the answer

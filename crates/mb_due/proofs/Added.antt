@@ -6,6 +6,7 @@ use Rattle.std.specs.Option.{option_or}
 use Rattle.std.proofs.lemmas.Bool.{cases_Bool, and_parts, eqb-true, ltb-true}
 use Rattle.sha2.specs.Sha256.{sha256}
 use Rattle.sha2.proofs.Facts256.{length-sha256}
+use Rattle.mb_base.specs.Limits.{part_count}
 use Rattle.mb_base.specs.Shapes.{Bytes}
 use Rattle.mb_usig.specs.Tags.{certificate}
 use Rattle.mb_usig.proofs.Laws.{same_bytes-true}
@@ -60,7 +61,7 @@ use Rattle.mb_promise.specs.AddsGiven.{IsBroughtBy, IsDone, IsPartOf, ShowsFloor
 
 -- Where the answer is that it is no state, the tests before passed.
 last_failed : (wanted list held : Bool) (wrong : Option ℕ) (last : Option Outcome) (p a : ℕ)
-    → option_or (then_some (not wanted) outcome.Idle) (option_or (then_some (not list) (outcome.WrongDigest 65)) (option_or (wrong_digest wrong) (option_or (then_some held outcome.Idle) last))) ≡ Some (outcome.BadState p a)
+    → option_or (then_some (not wanted) outcome.Idle) (option_or (then_some (not list) (outcome.WrongDigest part_count)) (option_or (wrong_digest wrong) (option_or (then_some held outcome.Idle) last))) ≡ Some (outcome.BadState p a)
     → (wanted ≡ true) × (list ≡ true) × (wrong ≡ None) × (last ≡ Some (outcome.BadState p a))
 last_failed false list held wrong last p a e = absurd cc
 last_failed true false held wrong last p a e = absurd cc

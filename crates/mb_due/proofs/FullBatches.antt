@@ -3,12 +3,13 @@ use Rattle.std.proofs.Common.{◌≡◌, ℕ, zero, suc, ◌+◌, ◌<◌, ◌�
 use Rattle.std.specs.List.{AllByRecursion, flat_map}
 use Rattle.std.proofs.lemmas.Bool.{cases_Bool, leb-false}
 use Rattle.std.proofs.lemmas.List.Concat.{flat_map-cons}
+use Rattle.mb_base.specs.Limits.{batch_limit, batch_bytes_limit}
 use Rattle.mb_base.specs.declared.shape.Shape.{Shape}
 use Rattle.mb_parts.specs.declared.request.Request.{Request}
 use Rattle.mb_parts.specs.declared.batch.Batch.{Batch}
 use Rattle.mb_parts.specs.Spelling.{request_bytes}
 use Rattle.mb_parts.specs.Fits.{FitsRequest}
-use Rattle.mb_model.specs.Batches.{batch_limit, batch_bytes_limit, has_place, fitting, first_batch}
+use Rattle.mb_model.specs.Batches.{has_place, fitting, first_batch}
 use Rattle.mb_promise.specs.NothingLeft.{IsFull}
 use Rattle.mb_host_laws.proofs.Cases.{some_is}
 use Rattle.mb_host_laws.proofs.FirstBatches.{first_fits}

@@ -6,6 +6,7 @@ use Rattle.std.specs.Prelude.{◌==◌, map, drop, slice_get, nat_le, if◌then�
 use Rattle.std.proofs.lemmas.Bool.{cases_Bool, eqb-true, eq-eqb, le-leb, lt-leb}
 use Rattle.std.proofs.lemmas.List.{length-map, length-reverse, length-take-le, reverse-append, take-take}
 use Rattle.std.proofs.lemmas.Option.{slice_get_within}
+use Rattle.mb_base.specs.Limits.{entry_bytes_limit, part_bytes_limit, entry_limit}
 use Rattle.mb_base.specs.Shapes.{Bytes}
 use Rattle.mb_parts.specs.declared.certificates.Evidence.{Evidence}
 use Rattle.mb_parts.specs.Counters.{at_counter}
@@ -22,8 +23,8 @@ use Rattle.mb_model.specs.States.{part_digests}
 use Rattle.mb_model.specs.Histories.{History, Identity, stamped as all_stamped, counter_of, view_of}
 use Rattle.mb_model.specs.Held.{evidence_of, evidence_in}
 use Rattle.mb_model.specs.Stable.{stable_of, log_floor}
-use Rattle.mb_model.specs.OwnLog.{behind, behind_opening, behind_change, kept_forms, first_packed, packed, entry_bytes_limit, log_start, count_from, since}
-use Rattle.mb_model.specs.Making.{expected, fitting, first_fitting, part_bytes_limit}
+use Rattle.mb_model.specs.OwnLog.{behind, behind_opening, behind_change, kept_forms, first_packed, packed, log_start, count_from, since}
+use Rattle.mb_model.specs.Making.{expected, fitting, first_fitting}
 use Rattle.mb_model.proofs.Options.{if_some}
 use Rattle.mb_steps.proofs.StepHeldEvidence.{some_is}
 use Rattle.mb_promise.specs.ShowsLog.{votes_or_opens, changes_view, shortens, next_shown, IsShownOf, BeginsAt, ShowsLog, ShowsState}
@@ -217,11 +218,11 @@ packed_few (suc most) used (m ∷ l) = go (nat_le (used + length (stamped_bytes 
 first_packed_at : (l : List StampedMessage) (i : ℕ) (x : StampedMessage) → slice_get (first_packed l) i ≡ Some x → slice_get l i ≡ Some x
 first_packed_at [] i x e = e
 first_packed_at (m ∷ l) zero x e = e
-first_packed_at (m ∷ l) (suc i) x e = packed_at 63 (length (stamped_bytes m)) l i x e
+first_packed_at (m ∷ l) (suc i) x e = packed_at (entry_limit - 1) (length (stamped_bytes m)) l i x e
 
-first_packed_few : (l : List StampedMessage) → length (first_packed l) ≤ 64
+first_packed_few : (l : List StampedMessage) → length (first_packed l) ≤ entry_limit
 first_packed_few [] = omega arith
-first_packed_few (m ∷ l) = omega (arith, packed_few 63 (length (stamped_bytes m)) l)
+first_packed_few (m ∷ l) = omega (arith, packed_few (entry_limit - 1) (length (stamped_bytes m)) l)
 
 -- ---- a LOG and a STATE
 

@@ -3,6 +3,7 @@ use Rattle.std.proofs.Common.{◌≡◌, ℕ, ◌+◌, ◌<◌, Bool, true, fals
 use Rattle.std.specs.Prelude.{◌==◌, nat_lt, nat_le, count_by}
 use Rattle.std.proofs.lemmas.Bool.{cases_Bool, and_parts, and_from, or_cases, eq-eqb, ltb-true, lt-ltb}
 use Rattle.std.proofs.lemmas.List.Sums.{sum_by-cons}
+use Rattle.mb_base.specs.Limits.{other_limit}
 use Rattle.mb_base.specs.Shapes.{host_count}
 use Rattle.mb_parts.specs.Ordered.{current_view, is_opened, is_entered as entered_in, last_position}
 use Rattle.mb_msg.specs.declared.message.Message.TheVariants as message
@@ -10,7 +11,6 @@ use Rattle.mb_msg.specs.declared.normal.Prepare.{Prepare}
 use Rattle.mb_msg.specs.declared.normal.Commit.{Commit}
 use Rattle.mb_msg.specs.declared.stamped.Stamped.{Stamped as StampedMessage}
 use Rattle.mb_msg.specs.declared.stamped.Stamped.TheVariants as stamped
-use Rattle.mb_model.specs.UsableLogs.{other_limit}
 use Rattle.mb_model.specs.Histories.{Accepted, Stamped, Closed, History, Identity, origin, taken_of, stamped as all_stamped, counter_of, here, view_of, is_open}
 use Rattle.mb_model.specs.Held.{wish_of, new_view_of, evidence_of}
 use Rattle.mb_model.specs.Stable.{stable_of, low_of, log_floor}

@@ -3,6 +3,7 @@ use Rattle.std.proofs.Common.{◌≡◌, ℕ, zero, suc, ◌+◌, ◌<◌, ◌�
 use Rattle.std.specs.Prelude.{map, filter_map, option_map}
 use Rattle.std.specs.List.{range_with_len}
 use Rattle.std.proofs.lemmas.Bool.{cases_Bool, eqb-true, eqb-false, ltb-true, lt-ltb}
+use Rattle.mb_base.specs.Limits.{ahead_limit}
 use Rattle.mb_base.specs.Shapes.{client_count}
 use Rattle.mb_parts.specs.declared.request.Request.{Request}
 use Rattle.mb_parts.specs.declared.batch.Batch.{Batch}
@@ -13,7 +14,7 @@ use Rattle.mb_model.specs.Histories.{History, Identity, here, view_of, is_open, 
 use Rattle.mb_model.specs.OwnLog.{has_room}
 use Rattle.mb_model.specs.Positions.{exec_of, slot_in, slot_at, in_window}
 use Rattle.mb_model.specs.Execution.{state_of}
-use Rattle.mb_model.specs.EnabledRules.{Rule, Commit, Prepare, rule_where, with_batch, next_position, number_of, greatest, greatest_in, number_in_slot, greatest_in_slots, window, unordered_of, unordered, may_order, ahead_limit, commit_enabled, prepare_enabled}
+use Rattle.mb_model.specs.EnabledRules.{Rule, Commit, Prepare, rule_where, with_batch, next_position, number_of, greatest, greatest_in, number_in_slot, greatest_in_slots, window, unordered_of, unordered, may_order, commit_enabled, prepare_enabled}
 use Rattle.mb_model.proofs.Options.{option_cases, if_some}
 use Rattle.mb_model.specs.Members.{In}
 use Rattle.mb_model.proofs.Members.{contained}

@@ -2,8 +2,9 @@
 use Rattle.std.proofs.Common.{◌≡◌, ◌+◌, ◌-◌, ◌^◌, ℕ, true, ◌&&◌, not, refl, arith}
 use Rattle.std.specs.Prelude.{nat_lt, nat_le, count_by}
 use Rattle.std.proofs.lemmas.Bool.{and_parts, ltb-true, lt-ltb, leb-true, le-leb}
+use Rattle.mb_base.specs.Limits.{other_limit}
 use Rattle.mb_base.specs.Shapes.{span}
-use Rattle.mb_model.specs.UsableLogs.{normal_limit, other_limit}
+use Rattle.mb_model.specs.UsableLogs.{normal_limit}
 use Rattle.mb_model.specs.Histories.{History, Identity, counter_of}
 use Rattle.mb_model.specs.Stable.{low_of}
 use Rattle.mb_model.specs.OwnLog.{own_log, is_normal, has_room, has_other_room}

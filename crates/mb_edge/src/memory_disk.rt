@@ -115,10 +115,9 @@ impl Disk for MemoryDisk {
     ghost use Rattle.mb_edge.specs.Disks.{WhereTold, Writes, Syncs, ReadsAt};
     ghost use Rattle.mb_edge.specs.MemoryDisks.{moments_of};
     ghost use Rattle.mb_edge.specs.DiskLaws.{image_told};
+    ghost use Rattle.mb_edge.specs.Seen.{disk_state};
 
-    ghost moments = { λ d. Some (moments_of d) };
-
-    ghost faults = { λ d. d.calls.faults };
+    ghost seen = { λ d. disk_state (Some (moments_of d)) d.calls.faults };
 
     ghost never_fails = { λ d. d.calls.failing ≡ [] };
 

@@ -5,8 +5,8 @@ use Rattle.std.specs.List.{filter, AllByRecursion}
 use Rattle.std.proofs.lemmas.Bool.{cases_Bool, eq-eqb, eqb-true, or_left, or_right}
 use Rattle.std.proofs.lemmas.List.{length-append, drop_more, map-append}
 use Rattle.std.proofs.lemmas.List.Concat.{flat_map-append}
+use Rattle.mb_base.specs.Limits.{part_count}
 use Rattle.mb_base.specs.Shapes.{Bytes}
-use Rattle.mb_model.specs.States.{part_count}
 use Rattle.mb_fetch.specs.declared.shelved.Keyed.{Keyed}
 use Rattle.mb_fetch.specs.Snapshots.{Snapshot, snapshot, all_parts}
 use Rattle.mb_fetch.specs.Shelves.{has_key, all_keys, bytes_under, seen_one, seen, Extends}
@@ -60,7 +60,7 @@ first_used l i key k lt is =
     ∙ (ap (λ (x : Keyed). has_key key (all_keys (x ∷ drop (i + 1) l))) (sym is)
     ∙ has_key-append key k.keys.items (all_keys (drop (i + 1) l)))
 
-pub length_all_keys : (keyed : List Keyed) → AllByRecursion (λ k. length k.keys.items ≡ part_count) keyed → length (all_keys keyed) ≡ length keyed * 65
+pub length_all_keys : (keyed : List Keyed) → AllByRecursion (λ k. length k.keys.items ≡ part_count) keyed → length (all_keys keyed) ≡ length keyed * part_count
 length_all_keys [] all = refl
 length_all_keys (k ∷ ks) all =
     let here = all.0 in

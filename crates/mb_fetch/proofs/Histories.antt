@@ -7,10 +7,10 @@ use Rattle.std.specs.List.{range_with_len, list_all}
 use Rattle.std.specs.Option.{option_or}
 use Rattle.std.proofs.lemmas.Bool.{cases_lt, and_parts, eqb-true, leb-true, ne_eqb, eq-eqb}
 use Rattle.std.proofs.Math.Nat.{div-add-mod, mul-le-mul_left, mul-suc}
+use Rattle.mb_base.specs.Limits.{part_count}
 use Rattle.mb_base.specs.Shapes.{Bytes, interval, span}
 use Rattle.mb_usig.specs.Tags.{same_bytes}
 use Rattle.mb_msg.specs.declared.event.Outcome.TheVariants as outcome
-use Rattle.mb_model.specs.States.{part_count}
 use Rattle.mb_model.specs.Histories.{History, Identity}
 use Rattle.mb_model.specs.Stable.{low_of}
 use Rattle.mb_model.specs.Execution.{parts_after, snapshot_of, part_held}
@@ -35,7 +35,7 @@ next_multiple k a b ea eb lt = elim (cases_lt (a / k) (b / k)) [
 
 -- ---- a test and its outcome
 
-refusal : (b : Bool) (o : Option ℕ) → wrong_digest (if b then o else Some part_count) ≡ option_or (then_some (not b) (outcome.WrongDigest 65)) (wrong_digest o)
+refusal : (b : Bool) (o : Option ℕ) → wrong_digest (if b then o else Some part_count) ≡ option_or (then_some (not b) (outcome.WrongDigest part_count)) (wrong_digest o)
 refusal true o = refl
 refusal false o = refl
 
@@ -46,7 +46,7 @@ module _ {S : Type 0} (self : Identity S) where
     found_are = ap (λ (f : ℕ → Option Bytes). filter_map f (range_with_len 0 part_count)) same;
     all_held = λ m. ap (λ (f : ℕ → Option Bytes). list_all (λ i. is_some (f i)) (range_with_len m.first (length m.parts))) (sym same);
     refused = λ m. refusal (same_bytes (list_digest m) t.digest) (wrong_part m.digests m.first m.parts)
-        ∙ ap (λ (digest : Bytes). option_or (then_some (not (same_bytes (list_digest m) digest)) (outcome.WrongDigest 65)) (wrong_digest (wrong_part m.digests m.first m.parts))) st.digest_is;
+        ∙ ap (λ (digest : Bytes). option_or (then_some (not (same_bytes (list_digest m) digest)) (outcome.WrongDigest part_count)) (wrong_digest (wrong_part m.digests m.first m.parts))) st.digest_is;
   } where
     same : part_at t ≡ part_held self d
     same = fun_ext st.finds

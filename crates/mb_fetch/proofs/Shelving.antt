@@ -5,8 +5,8 @@ use Rattle.std.specs.Prelude.{if◌then◌else◌}
 use Rattle.std.specs.List.{filter, AllByRecursion}
 use Rattle.std.proofs.lemmas.Bool.{cases_Bool, or_left, or_right, false_from_ne_true}
 use Rattle.std.proofs.lemmas.List.{length_push, length-map, map_push}
+use Rattle.mb_base.specs.Limits.{part_count}
 use Rattle.mb_base.specs.Shapes.{Bytes}
-use Rattle.mb_model.specs.States.{part_count}
 use Rattle.mb_fetch.specs.declared.shelved.Keyed.{Keyed}
 use Rattle.mb_fetch.specs.Snapshots.{Snapshot, snapshot}
 use Rattle.mb_fetch.specs.Shelves.{has_key, all_keys, bytes_under, seen, seen_one, HoldsOnce, Extends, AddsOnly, IsShelf}

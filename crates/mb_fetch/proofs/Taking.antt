@@ -3,8 +3,8 @@ use Rattle.std.proofs.Common.{◌≡◌, ◌≢◌, ℕ, zero, suc, replicate, �
 use Rattle.std.specs.Option.{option_or}
 use Rattle.std.proofs.lemmas.Bool.{cases_eq}
 use Rattle.std.proofs.lemmas.List.{get_or-set_same, get_or-set_other}
+use Rattle.mb_base.specs.Limits.{part_count}
 use Rattle.mb_base.specs.Shapes.{Bytes}
-use Rattle.mb_model.specs.States.{part_count}
 use Rattle.mb_model.specs.PlainChecks.{string_at}
 use Rattle.mb_fetch.specs.Fetched.{Fetched, IsFetched, IsCertified, part_at}
 use Rattle.mb_fetch.specs.Parts.{part_from}

@@ -3,8 +3,8 @@ use Rattle.std.proofs.Common.{◌≡◌, ℕ, suc, ◌+◌, ◌-◌, ◌<◌, �
 use Rattle.std.specs.Prelude.{find, map, filter_map}
 use Rattle.std.specs.List.{range_with_len}
 use Rattle.std.proofs.lemmas.Bool.{cases_Bool}
+use Rattle.mb_base.specs.Limits.{part_count}
 use Rattle.mb_base.specs.Shapes.{Bytes}
-use Rattle.mb_model.specs.States.{part_count}
 use Rattle.mb_fetch.specs.Fetched.{Fetched, IsFetched, part_at}
 use Rattle.mb_fetch.specs.Parts.{Represents, first_missing, in_places}
 use Rattle.mb_fetch.specs.Assembled.{IsWhole}

@@ -7,8 +7,8 @@ use Rattle.mb_usig.specs.Tags.{same_bytes}
 use Rattle.mb_msg.specs.declared.transfer.StateMsg.{StateMsg}
 use Rattle.std.specs.Prelude.{◌==◌, if◌then◌else◌}
 use Rattle.std.proofs.lemmas.Bool.{ne_eqb}
+use Rattle.mb_base.specs.Limits.{part_count}
 use Rattle.mb_base.specs.Shapes.{Bytes}
-use Rattle.mb_model.specs.States.{part_count}
 use Rattle.mb_model.specs.PlainChecks.{string_at, wrong_part}
 use Rattle.mb_fetch.specs.Checks.{HasParts, list_digest, found_at}
 

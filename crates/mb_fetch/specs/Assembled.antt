@@ -1,8 +1,8 @@
 -- What putting fetched parts together answers.
 use Rattle.std.specs.Prelude.{ℕ, ◌≡◌, List, length, Option, Some, None, Result, Ok, Err, slice_get}
 use Rattle.std.specs.Global.{Vec}
+use Rattle.mb_base.specs.Limits.{part_count}
 use Rattle.mb_base.specs.Shapes.{Bytes}
-use Rattle.mb_model.specs.States.{part_count}
 use Rattle.mb_fetch.specs.Fetched.{Fetched, part_at, IsCertified}
 use Rattle.mb_fetch.specs.Parts.{Represents, first_missing, all_found}
 use Rattle.mb_fetch.specs.declared.parts.Missing.{Missing}

@@ -1,10 +1,11 @@
 -- What keeping the parts of a STATE answers.
 use Rattle.std.specs.Prelude.{ℕ, ◌≡◌, ◌+◌, ◌-◌, ◌≤◌, ◌==◌, length, Option, Some, None, Result, Ok, Err, if◌then◌else◌}
 use Rattle.sha2.specs.Sha256.{sha256}
+use Rattle.mb_base.specs.Limits.{part_count}
 use Rattle.mb_base.specs.Shapes.{Bytes}
 use Rattle.mb_usig.specs.Tags.{same_bytes}
 use Rattle.mb_msg.specs.declared.transfer.StateMsg.{StateMsg}
-use Rattle.mb_model.specs.States.{part_count, digest_string}
+use Rattle.mb_model.specs.States.{digest_string}
 use Rattle.mb_model.specs.PlainChecks.{string_at, wrong_part}
 use Rattle.mb_fetch.specs.declared.parts.Kept.{Kept}
 use Rattle.mb_fetch.specs.declared.parts.Kept.TheVariants.{WrongDigest, NoMemory}

@@ -1,8 +1,9 @@
 -- The parts of a state that is fetched, as far as they came.
 use Rattle.std.specs.Prelude.{ℕ, ◌≡◌, Bool, false, List, [], length, Option, Some, None, slice_get, slice_index_or, if◌then◌else◌}
 use Rattle.sha2.specs.Sha256.{sha256}
+use Rattle.mb_base.specs.Limits.{part_count}
 use Rattle.mb_base.specs.Shapes.{Bytes}
-use Rattle.mb_model.specs.States.{part_count, digest_string}
+use Rattle.mb_model.specs.States.{digest_string}
 use Rattle.mb_model.specs.PlainChecks.{string_at}
 
 -- The position of the state and its certified digest. Of each part its bytes and whether it is held.

@@ -3,6 +3,7 @@ use Rattle.std.specs.Prelude.{ℕ, ◌≡◌, ◌+◌, ◌<◌, ◌≤◌, not, 
 use Rattle.std.specs.Bool.{then_some}
 use Rattle.std.specs.List.{range_with_len, list_all}
 use Rattle.std.specs.Option.{option_or, is_some}
+use Rattle.mb_base.specs.Limits.{part_count}
 use Rattle.mb_base.specs.Shapes.{Bytes, span}
 use Rattle.mb_msg.specs.declared.event.Outcome.TheVariants as outcome
 use Rattle.mb_msg.specs.declared.transfer.StateMsg.{StateMsg}
@@ -30,7 +31,7 @@ module _ {S : Type 0} (self : Identity S) where
     pub found_are : all_found (part_at t) ≡ parts_held self d
     -- whether all parts of a STATE are held, and whether one or the list of digests is wrong
     pub all_held : (m : StateMsg) → are_all_held self d m ≡ list_all (λ i. is_some (part_at t i)) (range_with_len m.first (length m.parts))
-    pub refused : (m : StateMsg) → wrong_digest (first_wrong t.digest m) ≡ option_or (then_some (not (is_list_right self d m)) (outcome.WrongDigest 65)) (wrong_digest (wrong_part m.digests m.first m.parts))
+    pub refused : (m : StateMsg) → wrong_digest (first_wrong t.digest m) ≡ option_or (then_some (not (is_list_right self d m)) (outcome.WrongDigest part_count)) (wrong_digest (wrong_part m.digests m.first m.parts))
 
   -- Where nothing is executed yet at a position of the window or above, its snapshot can be kept.
   pub record SnapshotsAnswerFor (shelf : List Snapshot) (d : History) : Type 0 where

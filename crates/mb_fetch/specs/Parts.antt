@@ -3,9 +3,9 @@
 use Rattle.std.specs.Prelude.{ℕ, ◌≡◌, ◌-◌, nat_le, slice_get, if◌then◌else◌, List, Option, None, map, find, filter_map, is_none, unwrap_or, []}
 use Rattle.std.specs.List.{range_with_len}
 use Rattle.std.specs.Option.{option_or}
+use Rattle.mb_base.specs.Limits.{part_count}
 use Rattle.mb_base.specs.Shapes.{Bytes}
 use Rattle.mb_msg.specs.declared.transfer.StateMsg.{StateMsg}
-use Rattle.mb_model.specs.States.{part_count}
 use Rattle.mb_model.specs.Execution.{part_in}
 use Rattle.mb_fetch.specs.Fetched.{Fetched, part_at}
 

@@ -10,10 +10,11 @@ ghost use Rattle.mb_fetch.specs.Checks.{HasParts, Keeps, first_wrong};
 use crate::parts::Kept;
 use mb_base::{Digest, Pos};
 use mb_msg::StateMsg;
+use mb_parts::PART_COUNT;
 use sha2::{Digest as Hasher, Sha256};
 
 /// The number that stands for the list of digests, behind those of the parts.
-const LIST: u8 = 65;
+const LIST: u8 = PART_COUNT;
 
 /// Whether the list of digests gives the certified state digest, and then each part in order has the SHA-256 that the list has.
 pub(crate) fn check(digest: &Digest, state: &StateMsg) -> Result<(), Kept>

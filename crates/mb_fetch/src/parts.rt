@@ -1,17 +1,18 @@
 //! The parts of the state that is fetched.
 
 ghost use Rattle.std.specs.Prelude.{◌≡◌, ◌+◌, ◌<◌, ◌≤◌, ℕ, [], length, replicate, IfOk};
+ghost use Rattle.mb_base.specs.Limits.{part_count};
 ghost use Rattle.mb_base.specs.Shapes.{Bytes};
-ghost use Rattle.mb_model.specs.States.{part_count};
 
 use crate::checking::check;
 use mb_base::{Digest, Duplicate, Items, NoMemory, Pos};
 use mb_msg::StateMsg;
+use mb_parts::PART_COUNT;
 use std::alloc::Global;
 use std::marker::Model;
 
 /// How many parts a state has.
-const COUNT: u8 = 65;
+const COUNT: u8 = PART_COUNT;
 
 /// Why the parts of a STATE were not kept.
 #[derive(Clone, Copy, Debug, PartialEq, Eq)]
@@ -66,8 +67,8 @@ impl Model for Parts {
 impl Parts {
     ghost use Rattle.std.specs.Prelude.{◌≡◌, ◌+◌, ◌<◌, ◌≤◌, ◌∷◌, [], ℕ, Option, Some, None, is_some, length, slice_get, IfOk, OnOk, OnErr};
     ghost use Rattle.std.specs.Option.{option_or};
+    ghost use Rattle.mb_base.specs.Limits.{part_count};
     ghost use Rattle.mb_base.specs.Shapes.{Bytes};
-    ghost use Rattle.mb_model.specs.States.{part_count};
     ghost use Rattle.mb_fetch.specs.Fetched.{part_at, IsCertified};
     ghost use Rattle.mb_fetch.specs.Checks.{HasParts, Keeps, first_wrong};
     ghost use Rattle.mb_fetch.specs.Parts.{Represents, StandsWith, part_from, first_missing, in_places};

@@ -5,6 +5,7 @@ ghost use Rattle.std.specs.Prelude.{◌≡◌, ◌==◌, find, option_map};
 use crate::keys::{drop_unused, shelve};
 use crate::shelved::{Keyed, Shelved};
 use mb_base::{Digest, Items, NoMemory, Pos};
+use mb_parts::PART_COUNT;
 use slab::Slab;
 use std::alloc::Global;
 use std::marker::Model;
@@ -13,7 +14,7 @@ use std::marker::Model;
 const MAX_SNAPSHOTS: usize = 3;
 
 /// The most parts that these have, 65 each.
-const MAX_PARTS: usize = 65 * MAX_SNAPSHOTS;
+const MAX_PARTS: usize = PART_COUNT as usize * MAX_SNAPSHOTS;
 
 /// For each executed position that is a multiple of the interval, from the stable position on, the parts of the state behind it: what
 /// `snapshot_of` finds in a host's history.
@@ -42,8 +43,8 @@ impl Shelf {
     ghost use Rattle.std.specs.Prelude.{◌≡◌, ◌<◌, ◌≤◌, ◌++◌, ◌∷◌, [], List, ℕ, Option, None, nat_le, is_some, length, option_map, IfOk, OnOk, OnErr};
     ghost use Rattle.std.specs.List.{filter};
     ghost use Rattle.sha2.specs.Sha256.{sha256};
+    ghost use Rattle.mb_base.specs.Limits.{part_count};
     ghost use Rattle.mb_base.specs.Shapes.{Bytes};
-    ghost use Rattle.mb_model.specs.States.{part_count};
     ghost use Rattle.mb_fetch.specs.Snapshots.{snapshot, parts_at, part_in, all_parts, different, Represents, StandsWith, StandsFrom};
 
     /// No snapshot is kept.

@@ -5,13 +5,14 @@ use Rattle.std.specs.Int.{w64}
 use Rattle.std.specs.List.{AllByRecursion, range_with_len}
 use Rattle.std.specs.Prelude.{map, ◌==◌, nat_lt, slice_get, slice_set}
 use Rattle.std.proofs.lemmas.Bool.{eq-eqb, eqb-true, ltb-true}
+use Rattle.mb_base.specs.Limits.{service_parts}
 use Rattle.mb_base.specs.Shapes.{Bytes}
 use Rattle.mb_base.specs.Spelling.{number, text16}
 use Rattle.mb_base.specs.Shapes.{IsShape, host_count}
 use Rattle.mb_parts.specs.declared.request.Request.{Request}
 use Rattle.mb_parts.specs.Fits.{IsCounter, IsPlace, FitsText, FitsRequest}
 use Rattle.mb_msg.specs.Fits.{Fits}
-use Rattle.mb_model.specs.States.{service_parts, table_bytes, parts_of}
+use Rattle.mb_model.specs.States.{table_bytes, parts_of}
 use Rattle.mb_steps.proofs.StepPlanBases.{all_append}
 use Rattle.mb_model.specs.declared.known.LastReply.{LastReply}
 use Rattle.mb_model.specs.Service.{Served as ServedState, reply_of, is_fresh, served}

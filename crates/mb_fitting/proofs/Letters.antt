@@ -7,6 +7,7 @@ use Rattle.std.specs.List.{AllByRecursion, flat_map}
 use Rattle.std.proofs.lemmas.Bool.{cases_Bool, leb-true}
 use Rattle.std.proofs.lemmas.List.{length-append}
 use Rattle.std.proofs.lemmas.List.Concat.{flat_map-cons}
+use Rattle.mb_base.specs.Limits.{part_count, part_bytes_limit, entry_bytes_limit, entry_limit, table_part}
 use Rattle.mb_base.specs.Shapes.{Bytes, IsShape, host_count, client_count}
 use Rattle.mb_base.specs.Spelling.{number, text, optional}
 use Rattle.mb_base.specs.declared.shape.Shape.{Shape}
@@ -28,11 +29,10 @@ use Rattle.mb_msg.proofs.AsStamped.{spelled_as_stamped}
 use Rattle.mb_msg.proofs.Messages.{as_message_fits}
 use Rattle.mb_msg.proofs.Sizes.{small_reply}
 use Rattle.mb_model.specs.declared.known.LastReply.{LastReply}
-use Rattle.mb_model.specs.States.{part_count}
 use Rattle.mb_model.specs.Held.{wish_of}
 use Rattle.mb_model.specs.Histories.{Stamped, History, Identity, stamped as all_stamped}
-use Rattle.mb_model.specs.Making.{fitting, first_fitting, part_bytes_limit, reply, wish, resend, expected, log_for, fetch, state_message}
-use Rattle.mb_model.specs.OwnLog.{kept_forms, entry_bytes_limit, packed, first_packed, log_kept, log_start, count_from, since}
+use Rattle.mb_model.specs.Making.{fitting, first_fitting, reply, wish, resend, expected, log_for, fetch, state_message}
+use Rattle.mb_model.specs.OwnLog.{kept_forms, packed, first_packed, log_kept, log_start, count_from, since}
 use Rattle.mb_model.specs.Stable.{low_of}
 use Rattle.mb_host_laws.proofs.Cases.{all_more, all_reverse, all_taken}
 use Rattle.mb_host_laws.specs.Rests.{Each}
@@ -67,7 +67,7 @@ packed_short (suc most) used (m ∷ l) le = elim (cases_Bool (nat_le (used + len
 
 first_short : (l : List StampedMessage) → AllByRecursion (λ (m : StampedMessage). length (stamped_bytes m) ≤ stamped_limit) l → length (flat_map stamped_bytes (first_packed l)) ≤ stamped_limit
 first_short [] a = omega arith
-first_short (m ∷ l) a = let rest = packed_short 63 (length (stamped_bytes m)) l a.0 in omega (arith, rest, joined stamped_bytes m (packed 63 (length (stamped_bytes m)) l))
+first_short (m ∷ l) a = let rest = packed_short (entry_limit - 1) (length (stamped_bytes m)) l a.0 in omega (arith, rest, joined stamped_bytes m (packed (entry_limit - 1) (length (stamped_bytes m)) l))
 
 -- ---- as many parts as go into a STATE
 
@@ -155,7 +155,7 @@ module _ {S : Type 0} (self : Identity S) (shape : IsShape self.shape) (there : 
   dropped (suc n) [] a = tt
   dropped (suc n) (x ∷ l) a = dropped n l a.1
 
-  pub state_sent : (pos first : ℕ) (parts : List Bytes) → (1 ≤ pos) × IsBase self.shape pos → first ≤ 64 → length parts ≡ part_count → AllByRecursion (λ (p : Bytes). length p ≤ part_limit) parts → Fits self.shape (state_message self pos first parts)
+  pub state_sent : (pos first : ℕ) (parts : List Bytes) → (1 ≤ pos) × IsBase self.shape pos → first ≤ table_part → length parts ≡ part_count → AllByRecursion (λ (p : Bytes). length p ≤ part_limit) parts → Fits self.shape (state_message self pos first parts)
   state_sent pos first parts p le many a =
       state_parts self.shape shape _ (state_message_fits self there pos first parts p le many (all_more (λ (p : Bytes). length p ≤ part_limit) FitsStatePart (λ x le. omega (arith, le)) parts a)) (first_parts_short (drop first parts) (dropped first parts a))
 

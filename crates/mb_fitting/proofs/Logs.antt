@@ -6,6 +6,7 @@ use Rattle.std.specs.List.{AllByRecursion}
 use Rattle.std.proofs.lemmas.Bool.{cases_Bool}
 use Rattle.std.proofs.lemmas.List.{length-map, length-reverse}
 use Rattle.std.proofs.lemmas.List.Sums.{sum_by-cons}
+use Rattle.mb_base.specs.Limits.{entry_bytes_limit, entry_limit}
 use Rattle.mb_base.specs.declared.shape.Shape.{Shape}
 use Rattle.mb_parts.specs.declared.certificates.FloorCert.{FloorCert}
 use Rattle.mb_parts.specs.Fits.{FitsFloorCert}
@@ -13,7 +14,7 @@ use Rattle.mb_msg.specs.declared.stamped.Stamped.{Stamped as StampedMessage}
 use Rattle.mb_msg.specs.Fits.{shown_limit, FitsShown, FitsChangeBody, FitsStamped}
 use Rattle.mb_msg.specs.Spelling.{stamped_bytes}
 use Rattle.mb_model.specs.Histories.{Stamped, History, Identity, counter_of, stamped as all_stamped}
-use Rattle.mb_model.specs.OwnLog.{is_normal, kept_forms, as_shown, entry_bytes_limit, packed, first_packed, log_start, own_log, log_kept, proof_of, count_from, since}
+use Rattle.mb_model.specs.OwnLog.{is_normal, kept_forms, as_shown, packed, first_packed, log_start, own_log, log_kept, proof_of, count_from, since}
 use Rattle.mb_model.specs.Stable.{log_floor}
 use Rattle.mb_host_laws.proofs.KeptForms.{mapped_keep, first_keep, opening_fits, change_fits, shown_fits}
 use Rattle.mb_host_laws.proofs.Cases.{all_map, all_reverse, all_taken}
@@ -45,9 +46,9 @@ module _ (s : Shape) where
     | inr none ↦ rw none (omega arith)
   ]
 
-  first_fit : (l : List StampedMessage) → AllByRecursion (FitsStamped s) l → (length (first_packed l) ≤ 64) × AllByRecursion (FitsStamped s) (first_packed l)
+  first_fit : (l : List StampedMessage) → AllByRecursion (FitsStamped s) l → (length (first_packed l) ≤ entry_limit) × AllByRecursion (FitsStamped s) (first_packed l)
   first_fit [] a = (omega arith, tt)
-  first_fit (m ∷ l) a = (let few = packed_few 63 (length (stamped_bytes m)) l in omega (arith, few), first_keep (FitsStamped s) (m ∷ l) a)
+  first_fit (m ∷ l) a = (let few = packed_few (entry_limit - 1) (length (stamped_bytes m)) l in omega (arith, few), first_keep (FitsStamped s) (m ∷ l) a)
 
 -- ---- the own log
 
@@ -62,7 +63,7 @@ module _ {S : Type 0} (self : Identity S) where
   log_kept_fits d a = all_taken (FitsStamped self.shape) (counter_of d - log_start self d) (kept_forms (all_stamped d)) (forms_fit d a)
 
   -- what a LOG shows of it
-  pub since_fits : (d : History) → Each (HasValues self) d → (from : ℕ) → (length (since self d from) ≤ 64) × AllByRecursion (FitsStamped self.shape) (since self d from)
+  pub since_fits : (d : History) → Each (HasValues self) d → (from : ℕ) → (length (since self d from) ≤ entry_limit) × AllByRecursion (FitsStamped self.shape) (since self d from)
   since_fits d a from =
       let l : List StampedMessage = take (count_from self d from) (log_kept self d) in
       first_fit self.shape (reverse l) (all_reverse (FitsStamped self.shape) l (all_taken (FitsStamped self.shape) (count_from self d from) (log_kept self d) (log_kept_fits d a)))

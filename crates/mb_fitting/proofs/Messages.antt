@@ -9,6 +9,7 @@ use Rattle.std.proofs.lemmas.List.FromFn.{length-range_with_len}
 use Rattle.std.proofs.lemmas.Nat.{mod_below}
 use Rattle.sha2.specs.Sha256.{sha256}
 use Rattle.sha2.proofs.Facts256.{length-sha256}
+use Rattle.mb_base.specs.Limits.{service_parts, part_count, part_bytes_limit, table_part}
 use Rattle.mb_base.specs.Shapes.{Bytes, host_count, client_count}
 use Rattle.mb_usig.specs.Tags.{reply_tag, reply_text}
 use Rattle.mb_usig.proofs.Laws.{length-signed_reply, length-wish_tag}
@@ -18,11 +19,11 @@ use Rattle.mb_msg.specs.declared.transfer.Resend.{Resend}
 use Rattle.mb_msg.specs.Fits.{FitsFields, FitsReply}
 use Rattle.mb_model.specs.declared.known.LastReply.{LastReply}
 use Rattle.mb_model.specs.Service.{Served as ServedState}
-use Rattle.mb_model.specs.States.{parts_of, service_parts, part_count, part_digests, table_bytes}
+use Rattle.mb_model.specs.States.{parts_of, part_digests, table_bytes}
 use Rattle.mb_model.specs.Execution.{asked_host, next_host, part_held, parts_after, snapshot_of, state_of}
 use Rattle.mb_model.specs.Held.{wish_of, evidence_of, evidence_in}
 use Rattle.mb_model.specs.Histories.{Executed, Nudged, History, Identity, view_of}
-use Rattle.mb_model.specs.Making.{fitting, first_fitting, part_bytes_limit, wish_for, wish, resend, expected, log_for, fetch, state_message}
+use Rattle.mb_model.specs.Making.{fitting, first_fitting, wish_for, wish, resend, expected, log_for, fetch, state_message}
 use Rattle.mb_model.specs.OwnLog.{log_start}
 use Rattle.mb_model.specs.Positions.{is_behind}
 use Rattle.mb_model.specs.Sending.{next_of}
@@ -124,7 +125,7 @@ module _ {S : Type 0} (self : Identity S) (there : self.host < host_count self.s
   snapshot_many d pos parts e = after_many d pos parts (if_some _ (parts_after self d pos) parts e).1
 
   -- a STATE of parts that have room in one
-  pub state_message_fits : (pos first : ℕ) (parts : List Bytes) → (1 ≤ pos) × IsBase self.shape pos → first ≤ 64 → length parts ≡ part_count → AllByRecursion FitsStatePart parts → FitsFields self.shape (state_message self pos first parts)
+  pub state_message_fits : (pos first : ℕ) (parts : List Bytes) → (1 ≤ pos) × IsBase self.shape pos → first ≤ table_part → length parts ≡ part_count → AllByRecursion FitsStatePart parts → FitsFields self.shape (state_message self pos first parts)
   state_message_fits pos first parts p le many a =
       let left : length (drop first parts) ≡ length parts - first = drop_many first parts in
       let some = first_some (drop first parts) (omega (arith, left, many, le)) in

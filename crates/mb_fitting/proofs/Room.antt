@@ -4,9 +4,10 @@ use Rattle.std.proofs.Common.{◌≡◌, ℕ, zero, suc, ◌+◌, ◌-◌, ◌^�
 use Rattle.std.specs.Prelude.{count_by, nat_lt}
 use Rattle.std.proofs.lemmas.Bool.{and_parts, ltb-true}
 use Rattle.std.proofs.lemmas.List.Sums.{sum_by-cons}
+use Rattle.mb_base.specs.Limits.{other_limit}
 use Rattle.mb_msg.specs.declared.message.Message.TheVariants as message
 use Rattle.mb_msg.specs.declared.stamped.Stamped.{Stamped as StampedMessage}
-use Rattle.mb_model.specs.UsableLogs.{normal_limit, other_limit}
+use Rattle.mb_model.specs.UsableLogs.{normal_limit}
 use Rattle.mb_model.specs.Histories.{Entry, Accepted, Stamped, Served, Executed, History, Identity, stamped as all_stamped, counter_of}
 use Rattle.mb_model.specs.OwnLog.{own_log, log_start, is_normal, is_unspent, has_room, has_other_room}
 use Rattle.mb_steps.proofs.StepPotential.{start_bounded}

@@ -10,6 +10,7 @@ use Rattle.std.proofs.lemmas.Bool.{cases_Bool, ltb-false}
 use Rattle.std.proofs.lemmas.List.{length-append}
 use Rattle.std.proofs.lemmas.List.Concat.{flat_map-cons}
 use Rattle.std.proofs.lemmas.List.Sums.{sum_by-cons}
+use Rattle.mb_base.specs.Limits.{other_limit}
 use Rattle.mb_base.specs.Shapes.{Bytes, IsShape, span}
 use Rattle.mb_base.specs.Spelling.{number, optional}
 use Rattle.mb_base.specs.declared.shape.Shape.{Shape}
@@ -31,7 +32,7 @@ use Rattle.mb_msg.specs.Bodies.{FitsBody, body_bytes}
 use Rattle.mb_msg.specs.Fits.{FitsOpenBody, FitsShown, FitsChangeBody}
 use Rattle.mb_msg.specs.Spelling.{open_body_bytes, open_bytes, shown_bytes, change_body_bytes}
 use Rattle.mb_msg.specs.Stamps.{bare_of_shown, ui_of_shown}
-use Rattle.mb_model.specs.UsableLogs.{is_opening_entry, is_whole, shows_body, has_body, is_normal_kind, normal_limit, other_limit, same_truth, height, is_sound_body, entry_claim, bares, entry_fault, entries_fault, is_ill_founded, is_too_long, fault_from, floor_of, log_fault}
+use Rattle.mb_model.specs.UsableLogs.{is_opening_entry, is_whole, shows_body, has_body, is_normal_kind, normal_limit, same_truth, height, is_sound_body, entry_claim, bares, entry_fault, entries_fault, is_ill_founded, is_too_long, fault_from, floor_of, log_fault}
 use Rattle.mb_model.proofs.Options.{or_none, then_none}
 use Rattle.mb_model.proofs.UsableLaws.{not_refused, map_none}
 use Rattle.mb_host_laws.proofs.Cases.{or_false}

@@ -6,6 +6,7 @@ use Rattle.std.specs.Int.{w16, w64}
 use Rattle.std.proofs.lemmas.Bool.{cases_Bool, and_parts, eqb-true, leb-true}
 use Rattle.std.proofs.lemmas.List.{length-replicate, length-set, length-take-le}
 use Rattle.std.proofs.lemmas.List.FromFn.{length-range_with_len}
+use Rattle.mb_base.specs.Limits.{service_parts, table_part, part_count, text_limit}
 use Rattle.mb_base.specs.Shapes.{Bytes, client_count}
 use Rattle.mb_base.specs.Spelling.{IsBytes}
 use Rattle.mb_base.specs.Reading.{Cursor, cursor, number_at, bytes_at, checked_at, repeat_at}
@@ -17,7 +18,7 @@ use Rattle.mb_msg.specs.declared.message.Message.TheVariants as message
 use Rattle.mb_msg.specs.declared.transfer.StateMsg.{StateMsg}
 use Rattle.mb_model.specs.declared.known.LastReply.{LastReply}
 use Rattle.mb_model.specs.Service.{Served as ServedState, no_reply, start, served, is_fresh}
-use Rattle.mb_model.specs.States.{is_place_of, is_size_of, last_reply_at, ended, table_of, joined_state, restored, service_parts, table_part, part_count}
+use Rattle.mb_model.specs.States.{is_place_of, is_size_of, last_reply_at, ended, table_of, joined_state, restored}
 use Rattle.mb_model.specs.Histories.{Entry, Accepted, Stamped, Jumped, Closed, Executed, Installed, DroppedParts, LostPatience, Nudged, History, Identity}
 use Rattle.mb_model.specs.Histories as entry
 use Rattle.mb_model.specs.Execution.{part_in, if_restored, state_from, state_of, part_of, part_held, missing, parts_held}
@@ -38,10 +39,10 @@ place_fits seq pos e = elim (cases_Bool (seq == 0)) [
   | inr some ↦ let low = leb-true pos MAX_PLACE (and_parts (nat_lt 0 pos) (nat_le pos MAX_PLACE) (rw some at e)).1 in omega (arith, low)
 ]
 
-size_fits : (seq size : ℕ) → is_size_of seq size ≡ true → size ≤ 1024
+size_fits : (seq size : ℕ) → is_size_of seq size ≡ true → size ≤ text_limit
 size_fits seq size e = elim (cases_Bool (seq == 0)) [
   | inl none ↦ let zero_size = eqb-true size 0 (rw none at e) in omega (arith, zero_size)
-  | inr some ↦ leb-true size 1024 (rw some at e)
+  | inr some ↦ leb-true size text_limit (rw some at e)
 ]
 
 last_yield : IsYield last_reply_at FitsLast

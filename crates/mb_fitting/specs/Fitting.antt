@@ -1,6 +1,7 @@
 -- What a host keeps has the values of the grammar: each entry of its history has them, and what it counts stays below the greatest number.
 use Rattle.std.specs.Prelude.{◌≡◌, ◌≤◌, ◌<◌, ◌^◌, ◌==◌, false, not, List, ◌∷◌, length, count_by, Ok}
 use Rattle.std.specs.List.{AllByRecursion}
+use Rattle.mb_base.specs.Limits.{service_parts, other_limit}
 use Rattle.mb_base.specs.Shapes.{Bytes, client_count}
 use Rattle.mb_base.specs.Spelling.{IsBytes}
 use Rattle.mb_base.specs.declared.shape.Shape.{Shape}
@@ -10,12 +11,11 @@ use Rattle.mb_msg.specs.declared.message.Message.{Message}
 use Rattle.mb_msg.specs.declared.message.Message.TheVariants as message
 use Rattle.mb_msg.specs.Fits.{FitsFields, FitsStamped}
 use Rattle.mb_model.specs.declared.known.LastReply.{LastReply}
-use Rattle.mb_model.specs.States.{service_parts}
 use Rattle.mb_model.specs.Service.{batch_of}
 use Rattle.mb_model.specs.Histories.{Entry, Accepted, Stamped, Jumped, Served, Executed, LostPatience, History, Identity, view_of, counter_of}
 use Rattle.mb_model.specs.Held.{view_limit}
 use Rattle.mb_model.specs.OwnLog.{own_log, is_normal}
-use Rattle.mb_model.specs.UsableLogs.{normal_limit, other_limit}
+use Rattle.mb_model.specs.UsableLogs.{normal_limit}
 use Rattle.mb_host_laws.specs.Placed.{IsPlaced}
 use Rattle.mb_host_laws.specs.Rests.{Each, Rests}
 

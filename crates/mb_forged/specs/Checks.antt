@@ -2,6 +2,7 @@
 use Rattle.std.specs.Prelude.{◌≡◌, ℕ, ◌<◌, ◌++◌, ◌∷◌, List, [], map, Option, Some, option_map, find, slice_get}
 use Rattle.sha2.specs.Sha256.{sha256}
 use Rattle.mb_base.specs.declared.shape.Shape.{Shape}
+use Rattle.mb_base.specs.declared.names.Ui.{Ui}
 use Rattle.mb_base.specs.Shapes.{Bytes, host_count, client_count}
 use Rattle.mb_usig.specs.Trusted.{Signer}
 use Rattle.mb_parts.specs.declared.request.Request.{Request}
@@ -13,6 +14,7 @@ use Rattle.mb_parts.specs.declared.certificates.Evidence.{Evidence}
 use Rattle.mb_parts.specs.declared.certificates.EvidenceMember.{EvidenceMember}
 use Rattle.mb_parts.specs.Fits.{IsCounter, IsDigest, FitsBare}
 use Rattle.mb_parts.specs.Spelling.{floors_bytes}
+use Rattle.mb_parts.specs.Bares.{Bare, bare_bytes}
 use Rattle.mb_parts.specs.Bares as bare
 use Rattle.mb_parts.specs.Claims.{Claim}
 use Rattle.mb_msg.specs.declared.message.Message.{Message}
@@ -88,3 +90,8 @@ pub record MadeMore (s : Schedule) (w v : World) : Type 0 where
   pub stamps : (h : ℕ) → (more : List Bytes) × (stamps s v h ≡ more ++ stamps s w h)
   pub asked : (more : List Request) × (v.asked ≡ more ++ w.asked)
   pub tagged : (more : List Message) × (v.tagged ≡ more ++ w.tagged)
+
+-- A certificate's claim is looked for in what hosts stamped, whatever its bare bytes say.
+abbrev pub TellsForged : Checker → Ui → Bytes → Option ForgedClaim → Type 0
+TellsForged c ui bytes found = (s : Schedule) (w : World) (says : Bare) → AsksIn s w c → FitsBare s.shape says → bytes ≡ bare_bytes says
+    → found ≡ first_forged s w (record { host = ui.host; counter = ui.counter; says = says; cert = ui.cert } ∷ [])

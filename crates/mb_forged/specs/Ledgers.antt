@@ -11,7 +11,9 @@ use Rattle.mb_base.specs.declared.shape.Shape.{Shape}
 use Rattle.mb_base.specs.Spelling.{IsBytes}
 use Rattle.mb_usig.specs.Tags.{same_bytes}
 use Rattle.mb_parts.specs.declared.request.Request.{Request}
-use Rattle.mb_parts.specs.Fits.{FitsRequest}
+use Rattle.mb_parts.specs.Bares.{Bare, bare_bytes}
+use Rattle.mb_parts.specs.Fits.{FitsRequest, FitsBare}
+use Rattle.mb_parts.specs.Issued.{is_issued}
 use Rattle.mb_msg.specs.declared.message.Message.{Message}
 use Rattle.mb_msg.specs.Spelling.{spelling}
 use Rattle.mb_forged.specs.declared.ledger.Ledger.{Ledger}
@@ -31,6 +33,23 @@ pub record Keeps (s : Shape) (l : Ledger) (by_host : ℕ → List Bytes) (reques
   pub fits : AllByRecursion (FitsRequest s) requests
   pub asked : HoldsAsked l.asked requests
   pub tagged : (bytes : Bytes) → has_bytes l.tagged bytes ≡ list_any (λ m. same_bytes (spelling m) bytes) messages
+
+-- So it is whatever the ledger keeps,
+abbrev pub FromKept : Ledger → ((ℕ → List Bytes) → List Request → List Message → Type 0) → Type 0
+FromKept l P = (by_host : ℕ → List Bytes) (requests : List Request) (messages : List Message) → Keeps l.shape l by_host requests messages → P by_host requests messages
+
+-- and whatever something else is;
+abbrev pub FromKeptWith : (A : Type 0) → Ledger → ((ℕ → List Bytes) → List Request → List Message → A → Type 0) → Type 0
+FromKeptWith A l P = (by_host : ℕ → List Bytes) (requests : List Request) (messages : List Message) (a : A) → Keeps l.shape l by_host requests messages → P by_host requests messages a
+
+-- and in a system of any size that it keeps it of.
+abbrev pub OfKept : Ledger → ((ℕ → List Bytes) → List Request → List Message → Type 0) → Type 0
+OfKept l P = (s : Shape) (by_host : ℕ → List Bytes) (requests : List Request) (messages : List Message) → Keeps s l by_host requests messages → P by_host requests messages
+
+-- Whether a host stamped the bare bytes of a message at a counter is told.
+abbrev pub TellsIssued : Ledger → ℕ → ℕ → Bytes → Bool → Type 0
+TellsIssued l host counter bytes told = (s : Shape) (by_host : ℕ → List Bytes) (requests : List Request) (messages : List Message) (says : Bare) (cert : Bytes)
+    → Keeps s l by_host requests messages → FitsBare s says → bytes ≡ bare_bytes says → told ≡ is_issued s by_host (record { host = host; counter = counter; says = says; cert = cert })
 
 -- all that was made in a world
 abbrev pub KeepsWorld : Schedule → Ledger → World → Type 0

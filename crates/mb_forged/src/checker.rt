@@ -32,19 +32,14 @@ pub struct Checker<'a> {
 }
 
 impl<'a> Checker<'a> {
-    ghost use Rattle.std.specs.Prelude.{◌≡◌, ◌<◌, ◌∷◌, []};
+    ghost use Rattle.std.specs.Prelude.{◌<◌};
     ghost use Rattle.mb_base.specs.Shapes.{Bytes, host_count};
-    ghost use Rattle.mb_parts.specs.Bares.{Bare, bare_bytes};
-    ghost use Rattle.mb_parts.specs.Fits.{FitsBare};
-    ghost use Rattle.mb_schedule.specs.declared.schedule.Schedule.{Schedule};
-    ghost use Rattle.mb_world_model.specs.World.{World};
-    ghost use Rattle.mb_forged.specs.Checks.{AsksIn, first_forged};
+    ghost use Rattle.mb_forged.specs.Checks.{TellsForged};
 
     /// A claim that verifies and is not issued. What is issued needs no verifying.
     pub(crate) fn forged(&self, ui: &Ui, bare: &[u8]) -> Option<ForgedClaim>
         requires { ui.now.host < host_count self.now.shape.now }
-        ensures { (s : Schedule) (w : World) (says : Bare) → AsksIn s w self.now → FitsBare s.shape says → bare.now ≡ bare_bytes says
-            → result ≡ first_forged s w (record { host = ui.now.host; counter = ui.now.counter; says = says; cert = ui.now.cert } ∷ []) }
+        ensures { TellsForged self.now ui.now bare.now result }
     {
         if self.ledger.is_issued(ui.host, ui.counter, bare) {
             return None;

@@ -34,23 +34,20 @@ pub struct Ledger {
 }
 
 impl Ledger {
-    ghost use Rattle.std.specs.Prelude.{◌≡◌, ◌<◌, ◌∷◌, [], ℕ, List, nat_eq, IfOk, OnOk};
+    ghost use Rattle.std.specs.Prelude.{◌≡◌, ◌<◌, ◌∷◌, [], nat_eq, IfOk, OnOk};
     ghost use Rattle.std.specs.List.{list_any};
     ghost use Rattle.std.specs.Cmp.Lexicographic.{pointwise};
-    ghost use Rattle.mb_base.specs.Shapes.{Bytes, host_count};
-    ghost use Rattle.mb_base.specs.declared.shape.Shape.{Shape as ShapeRecord};
+    ghost use Rattle.mb_base.specs.Shapes.{host_count};
     ghost use Rattle.mb_usig.specs.Tags.{same_bytes};
-    ghost use Rattle.mb_parts.specs.declared.request.Request.{Request as RequestRecord};
-    ghost use Rattle.mb_parts.specs.Fits.{FitsRequest, FitsBare};
+    ghost use Rattle.mb_parts.specs.Fits.{FitsRequest};
     ghost use Rattle.mb_parts.specs.Spelling.{request_bytes};
-    ghost use Rattle.mb_parts.specs.Bares.{Bare, bare_bytes};
     ghost use Rattle.mb_parts.specs.Issued.{is_issued};
     ghost use Rattle.mb_msg.specs.declared.message.Message.{Message as MessageData};
     ghost use Rattle.mb_msg.specs.Fits.{Fits};
     ghost use Rattle.mb_msg.specs.Spelling.{spelling};
     ghost use Rattle.mb_model.specs.Sending.{Letter};
     ghost use Rattle.mb_world_model.specs.World.{update, with_tagged};
-    ghost use Rattle.mb_forged.specs.Ledgers.{Keeps};
+    ghost use Rattle.mb_forged.specs.Ledgers.{Keeps, FromKept, FromKeptWith, OfKept, TellsIssued};
 
     /// Nothing was made.
     pub fn make(alloc: Global, shape: Shape) -> Result<Ledger, NoMemory>
@@ -76,8 +73,7 @@ impl Ledger {
     /// A host stamped these bytes at the next counter.
     pub fn note_stamp(&mut self, host: Host, bare: Items<u8>) -> Result<(), NoMemory>
         requires { host < host_count self.old.shape }
-        ensures keeps { (stamps : ℕ → List Bytes) (asked : List RequestRecord) (tagged : List MessageData) → Keeps self.old.shape self.old stamps asked tagged
-            → OnOk result (Keeps self.old.shape self.new (update stamps host (bare ∷ stamps host)) asked tagged) }
+        ensures keeps { FromKept self.old (λ stamps asked tagged. OnOk result (Keeps self.old.shape self.new (update stamps host (bare ∷ stamps host)) asked tagged)) }
         ensures shape { self.new.shape ≡ self.old.shape }
     {
         are_bytes(bare.as_slice());
@@ -88,8 +84,7 @@ impl Ledger {
     /// Whether a host stamped these bytes at this counter. They are those of a bare message of the grammar.
     pub(crate) fn is_issued(&self, host: Host, counter: Counter, bare: &[u8]) -> bool
         requires { host < host_count self.now.shape }
-        ensures { (s : ShapeRecord) (stamps : ℕ → List Bytes) (asked : List RequestRecord) (tagged : List MessageData) (says : Bare) (cert : Bytes) → Keeps s self.now stamps asked tagged
-            → FitsBare s says → bare.now ≡ bare_bytes says → result ≡ is_issued s stamps (record { host = host; counter = counter; says = says; cert = cert }) }
+        ensures { TellsIssued self.now host counter bare.now result }
     {
         if counter == 0 {
             return false;
@@ -102,8 +97,7 @@ impl Ledger {
     /// A client asked for this.
     pub fn note_asked(&mut self, alloc: Global, request: &Request) -> Result<(), NoMemory>
         requires { FitsRequest self.old.shape request.now }
-        ensures keeps { (stamps : ℕ → List Bytes) (asked : List RequestRecord) (tagged : List MessageData) → Keeps self.old.shape self.old stamps asked tagged
-            → OnOk result (Keeps self.old.shape self.new stamps (request.now ∷ asked) tagged) }
+        ensures keeps { FromKept self.old (λ stamps asked tagged. OnOk result (Keeps self.old.shape self.new stamps (request.now ∷ asked) tagged)) }
         ensures shape { self.new.shape ≡ self.old.shape }
     {
         self.asked.note(alloc, request.duplicate(alloc)?)?;
@@ -113,16 +107,14 @@ impl Ledger {
     /// Whether a client asked for this.
     pub(crate) fn was_asked(&self, request: &Request) -> bool
         requires { FitsRequest self.now.shape request.now }
-        ensures { (s : ShapeRecord) (stamps : ℕ → List Bytes) (asked : List RequestRecord) (tagged : List MessageData) → Keeps s self.now stamps asked tagged
-            → result ≡ list_any (λ q. same_bytes (request_bytes q) (request_bytes request.now)) asked }
+        ensures { OfKept self.now (λ stamps asked tagged. result ≡ list_any (λ q. same_bytes (request_bytes q) (request_bytes request.now)) asked) }
     {
         self.asked.has(request)
     }
 
     /// A correct host sent this. Of a REPLY and of a wish it is kept.
     pub fn note_sent(&mut self, alloc: Global, bytes: &[u8]) -> Result<(), NoMemory>
-        ensures keeps { (stamps : ℕ → List Bytes) (asked : List RequestRecord) (tagged : List MessageData) (letter : Letter) → Keeps self.old.shape self.old stamps asked tagged
-            → bytes.now ≡ spelling letter.says → OnOk result (Keeps self.old.shape self.new stamps asked (with_tagged tagged letter)) }
+        ensures keeps { FromKeptWith Letter self.old (λ stamps asked tagged letter. bytes.now ≡ spelling letter.says → OnOk result (Keeps self.old.shape self.new stamps asked (with_tagged tagged letter))) }
         ensures shape { self.new.shape ≡ self.old.shape }
     {
         if !is_tagged(bytes) {
@@ -132,8 +124,7 @@ impl Ledger {
     }
 
     fn note_tag(&mut self, alloc: Global, bytes: &[u8]) -> Result<(), NoMemory>
-        ensures keeps { (stamps : ℕ → List Bytes) (asked : List RequestRecord) (tagged : List MessageData) (m : MessageData) → Keeps self.old.shape self.old stamps asked tagged
-            → bytes.now ≡ spelling m → OnOk result (Keeps self.old.shape self.new stamps asked (m ∷ tagged)) }
+        ensures keeps { FromKeptWith MessageData self.old (λ stamps asked tagged m. bytes.now ≡ spelling m → OnOk result (Keeps self.old.shape self.new stamps asked (m ∷ tagged))) }
         ensures shape { self.new.shape ≡ self.old.shape }
     {
         let _new = self.tagged.insert(Vec::from_slice(alloc, bytes)?)?;
@@ -143,8 +134,7 @@ impl Ledger {
     /// Whether a correct host made this REPLY or wish.
     pub(crate) fn was_tagged(&self, alloc: Global, message: &Message) -> Result<bool, NoMemory>
         requires { Fits self.now.shape message.now }
-        ensures { (s : ShapeRecord) (stamps : ℕ → List Bytes) (asked : List RequestRecord) (tagged : List MessageData) → Keeps s self.now stamps asked tagged
-            → IfOk result (λ b. b ≡ list_any (λ x. same_bytes (spelling x) (spelling message.now)) tagged) }
+        ensures { OfKept self.now (λ stamps asked tagged. IfOk result (λ b. b ≡ list_any (λ x. same_bytes (spelling x) (spelling message.now)) tagged)) }
     {
         let bytes = encode(alloc, &self.shape, message)?;
         Ok(self.tagged.contains(bytes.as_slice()))

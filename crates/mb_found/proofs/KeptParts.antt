@@ -3,13 +3,14 @@ use Rattle.std.proofs.Common.{◌≡◌, ℕ, ◌+◌, ◌-◌, Bool, true, fals
 use Rattle.std.specs.Prelude.{is_none, find, slice_get}
 use Rattle.std.specs.List.{range_with_len}
 use Rattle.std.proofs.lemmas.Bool.{cases_Bool, eq-eqb, le-leb}
+use Rattle.mb_base.specs.Limits.{part_count}
 use Rattle.mb_base.specs.Shapes.{Bytes}
 use Rattle.mb_msg.specs.declared.event.Slot.{Slot}
 use Rattle.mb_msg.specs.declared.message.Message.TheVariants as message
 use Rattle.mb_msg.specs.declared.transfer.StateMsg.{StateMsg}
 use Rattle.mb_model.specs.Histories.{Accepted, Executed, Installed, DroppedParts, History, Identity}
 use Rattle.mb_model.specs.Stable.{low_of}
-use Rattle.mb_model.specs.States.{parts_of, part_count}
+use Rattle.mb_model.specs.States.{parts_of}
 use Rattle.mb_model.specs.Execution.{state_of, part_of, part_in, part_held, missing, parts_after}
 use Rattle.mb_promise.specs.KeepsTables.{NoneIs, empties, is_execution_of, KeepsParts, KeepsSnapshots}
 

@@ -27,12 +27,12 @@ pub struct Gate {
 }
 
 impl Gate {
-    ghost use Rattle.std.specs.Prelude.{◌≡◌, ◌+◌, ◌-◌, ◌^◌, ◌<◌, Bool, ◌∷◌, min, Some, IsTrue};
+    ghost use Rattle.std.specs.Prelude.{◌≡◌, ◌+◌, ◌-◌, ◌^◌, ◌<◌, min, Some, IsTrue};
     ghost use Rattle.mb_base.specs.Shapes.{host_count};
     ghost use Rattle.mb_parts.specs.Bares.{Bare};
     ghost use Rattle.mb_parts.specs.Ordered.{initial_floor};
     ghost use Rattle.mb_parts.specs.Rules.{shut_before};
-    ghost use Rattle.mb_gate.specs.Answers.{answer, log_after, may_jump, log_after_jump};
+    ghost use Rattle.mb_gate.specs.Answers.{answer, log_after, may_jump, log_after_jump, TakesNext};
     ghost use Rattle.mb_gate.specs.Marks.{IsMarkOf, is_stamped_kind};
     ghost use Rattle.mb_gate.specs.Represents.{Represents};
     ghost use Rattle.mb_gate.specs.SenderLogs.{SenderLog, log_from, standing, floor_below};
@@ -113,8 +113,7 @@ impl Gate {
     /// Takes a message that is next: one that was judged so before, or one of the gate's own host. It is not judged again.
     pub fn follow(&mut self, mark: &Mark)
         requires { IsTrue (is_stamped_kind mark.now.kind) }
-        ensures { (log : SenderLog) (m : Bare) (inner : Bool) → Represents self.old log → IsMarkOf mark.now m
-            → answer log m mark.now.counter inner ≡ Offer.Next → Represents self.new (record log { taken = m ∷ log.taken }) }
+        ensures { TakesNext self.old mark.now self.new }
     {
         let kind = Kind::of(mark);
         self.at = rules::behind(&self.at, kind, mark);

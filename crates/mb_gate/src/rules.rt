@@ -1,10 +1,9 @@
 //! The rules of a gate, by kinds: what each needs to let a message stand where its sender stands, and where the sender stands then.
 
-ghost use Rattle.std.specs.Prelude.{◌≡◌, ◌+◌, true, [], ◌∷◌, ℕ, max, IsTrue};
-ghost use Rattle.mb_base.specs.declared.shape.Shape.{Shape as TheShape};
+ghost use Rattle.std.specs.Prelude.{◌≡◌, [], max, IsTrue};
 ghost use Rattle.mb_parts.specs.declared.floor.Phase.TheVariants as phase;
-ghost use Rattle.mb_parts.specs.Ordered.{permits, floor_after, phase_is_open, phase_is_entered};
-ghost use Rattle.mb_gate.specs.Kinds.{message_with};
+ghost use Rattle.mb_parts.specs.Ordered.{permits, phase_is_open, phase_is_entered};
+ghost use Rattle.mb_gate.specs.Kinds.{message_with, StandsBehind};
 
 use crate::kind::Kind;
 use mb_base::{Host, Pos, Shape};
@@ -47,8 +46,7 @@ pub(crate) fn permits(
 
 /// Where the sender stands behind a message that may stand here.
 pub(crate) fn behind(at: &Floor, kind: Kind, mark: &Mark) -> Floor
-    ensures { (shape : TheShape) (sender : ℕ) → permits at.now shape sender (λ b. true) [] (message_with kind mark.now) ≡ true
-        → mark.now.counter ≡ at.now.counter + 1 → result ≡ floor_after at.now (message_with kind mark.now ∷ []) }
+    ensures { StandsBehind at.now kind mark.now result }
 {
     let at = Floor {
         counter: mark.counter,

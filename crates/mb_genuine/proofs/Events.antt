@@ -2,6 +2,7 @@
 use Rattle.std.proofs.Common.{◌≡◌, ℕ, ◌+◌, ◌^◌, ◌<◌, ◌≤◌, ◌⊎◌, Bool, true, false, List, [], ◌∷◌, ◌++◌, length, refl, sym, ap, subst, inl, inr, eqb, arith, Option, Some, None, Ok, Err}
 use Rattle.std.specs.Prelude.{map, fold, Result}
 use Rattle.std.proofs.lemmas.Bool.{cases_Bool, eqb-true, eq-eqb}
+use Rattle.mb_base.specs.Limits.{batch_limit}
 use Rattle.mb_base.specs.Shapes.{Bytes, IsShape, host_count}
 use Rattle.mb_usig.proofs.Laws.{length-signed_request, length-signed_reply, length-wish_tag, true-same_bytes}
 use Rattle.mb_parts.specs.declared.request.Request.{Request}
@@ -187,7 +188,7 @@ module _ {S : Type 0} (system : System S) (w : World) where
       some_adds h None there c faulty = nothing
       some_adds h (Some x) there c faulty = content_adds h x there (c x refl) faulty
 
-      prepare_is : (view pos : ℕ) (ns : List ℕ) → IsPlace view → IsPosition pos → (1 ≤ length ns) × (length ns ≤ 16) → (x : StampedMessage) → prepare_of s w view pos ns ≡ Some x → IsContent s shape w x
+      prepare_is : (view pos : ℕ) (ns : List ℕ) → IsPlace view → IsPosition pos → (1 ≤ length ns) × (length ns ≤ batch_limit) → (x : StampedMessage) → prepare_of s w view pos ns ≡ Some x → IsContent s shape w x
       prepare_is view pos ns in_view in_window few x e = go (misfit s w 0 ns) refl where
         go : (o : Option ℕ) → misfit s w 0 ns ≡ o → IsContent s shape w x
         go (Some n) is = absurd (none_some (rw is at e)) where

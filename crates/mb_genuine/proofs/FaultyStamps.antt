@@ -7,6 +7,7 @@ use Rattle.std.specs.List.{AllByRecursion, flat_map}
 use Rattle.std.proofs.lemmas.Bool.{cases_Bool, leb-true, eq-eqb}
 use Rattle.std.proofs.lemmas.List.{length-map, length-replicate}
 use Rattle.std.proofs.lemmas.List.Concat.{flat_map-cons}
+use Rattle.mb_base.specs.Limits.{batch_bytes_limit, batch_limit}
 use Rattle.mb_base.specs.Shapes.{Bytes, IsShape, host_count}
 use Rattle.mb_base.specs.declared.names.Ui.{Ui}
 use Rattle.mb_usig.proofs.Laws.{length-certificate}
@@ -30,7 +31,7 @@ use Rattle.mb_msg.specs.Spelling.{spelling}
 use Rattle.mb_msg.specs.Stamps.{as_stamped, as_message, bare_of, ui_of, with_ui}
 use Rattle.mb_msg.proofs.Injective.{bare_fits}
 use Rattle.mb_msg.proofs.Messages.{as_message_fits}
-use Rattle.mb_model.specs.Batches.{batch_bytes_limit, has_place}
+use Rattle.mb_model.specs.Batches.{has_place}
 use Rattle.mb_model.specs.Members.{In}
 use Rattle.mb_steps.proofs.StepPlanBases.{all_append}
 use Rattle.mb_steps.proofs.StepRounds.{ui_under, bare_under}
@@ -117,7 +118,7 @@ module _ (s : Schedule) (shape : IsShape s.shape) (w : World) where
   each_asked [] a = tt
   each_asked (r ∷ rs) a = (a.0.1, each_asked rs a.1)
 
-  batch_fits : PoolIsGenuine → (ns : List ℕ) → (1 ≤ length ns) × (length ns ≤ 16) → misfit s w 0 ns ≡ None → FitsBatch s.shape (batch_from s w ns)
+  batch_fits : PoolIsGenuine → (ns : List ℕ) → (1 ≤ length ns) × (length ns ≤ batch_limit) → misfit s w 0 ns ≡ None → FitsBatch s.shape (batch_from s w ns)
   batch_fits pool ns few e =
       let a = all_good pool 0 ns (omega arith) e in
       record { count = (omega (arith, a.many, few.0), omega (arith, a.many, few.1)); requests = each_fits (filter_map (request_at s w) ns) a.each; size = omega (arith, a.short) }
@@ -158,7 +159,7 @@ module _ (s : Schedule) (shape : IsShape s.shape) (w : World) where
   requests_under u (stamped.Join m) = refl
 
   -- that of a PREPARE
-  pub prepare_content : PoolIsGenuine → (view pos : ℕ) (ns : List ℕ) → IsPlace view → IsPosition pos → (1 ≤ length ns) × (length ns ≤ 16) → misfit s w 0 ns ≡ None → IsContent (prepare_with view pos (batch_from s w ns))
+  pub prepare_content : PoolIsGenuine → (view pos : ℕ) (ns : List ℕ) → IsPlace view → IsPosition pos → (1 ≤ length ns) × (length ns ≤ batch_limit) → misfit s w 0 ns ≡ None → IsContent (prepare_with view pos (batch_from s w ns))
   prepare_content pool view pos ns in_view in_window few fit = record {
     fits = λ u f. record { view = in_view; pos = in_window; body = batch_fits pool ns few fit; ui = f };
     claims = tt;

@@ -6,6 +6,7 @@ use Rattle.std.specs.Int.{Width, w8, w16, w64, byte_len, from_be_bytes, to_be_by
 use Rattle.std.specs.Prelude.{nat_lt}
 use Rattle.std.proofs.lemmas.Bool.{cases_Bool, eqb-true, le-ltb, ltb-false}
 use Rattle.std.proofs.lemmas.List.{take_at, drop_at, take-append-drop, append-nil, nil_from_length, length-take}
+use Rattle.mb_base.specs.Limits.{text_limit}
 use Rattle.mb_base.specs.Shapes.{Bytes, IsShape, host_count, client_count}
 use Rattle.mb_base.specs.Spelling.{IsBytes, number, text16}
 use Rattle.mb_base.specs.Reading.{Cursor, cursor, Reads, bytes_at, number_at, number_in, pair_at, text16_at, text_in, map_at}
@@ -201,11 +202,11 @@ module _ (s : Shape) where
   reply_whole : (m : Reply) → IsWhole (reply_at s) reply_bytes (reply_bytes m)
   unfolding reply_at reply_bytes
   reply_whole m =
-      let texts_at : Cursor → Reads (Bytes × Bytes) = pair_at (text16_at 1024) digest_at in
+      let texts_at : Cursor → Reads (Bytes × Bytes) = pair_at (text16_at text_limit) digest_at in
       let pos_at : Cursor → Reads (ℕ × (Bytes × Bytes)) = pair_at place_at texts_at in
       let seq_at : Cursor → Reads (ℕ × (ℕ × (Bytes × Bytes))) = pair_at counter_at pos_at in
       let named_at : Cursor → Reads (ℕ × (ℕ × (ℕ × (Bytes × Bytes)))) = pair_at (client_at s) seq_at in
-      let texts = texts_whole 1024 32 m.result m.tag in
+      let texts = texts_whole text_limit 32 m.result m.tag in
       let pos = pair_whole place_at (number w64) (number w64 m.pos) texts_at _ _ (number_back w64 spelled64 0 MAX_PLACE m.pos) texts in
       let seq = pair_whole counter_at (number w64) (number w64 m.seq) pos_at _ _ (number_back w64 spelled64 1 (2 ^ 64 - 1) m.seq) pos in
       let client = pair_whole (client_at s) (number w8) (number w8 m.client) seq_at _ _ (number_back w8 spelled8 0 (client_count s - 1) m.client) seq in
@@ -238,9 +239,9 @@ module _ (s : Shape) where
   request_whole : (m : Request) → IsWhole (request_at s) request_bytes (request_bytes m)
   unfolding request_at request_bytes
   request_whole m =
-      let texts_at : Cursor → Reads (Bytes × Bytes) = pair_at (text16_at 1024) digest_at in
+      let texts_at : Cursor → Reads (Bytes × Bytes) = pair_at (text16_at text_limit) digest_at in
       let seq_at : Cursor → Reads (ℕ × (Bytes × Bytes)) = pair_at counter_at texts_at in
-      let texts = texts_whole 1024 32 m.op m.tag in
+      let texts = texts_whole text_limit 32 m.op m.tag in
       let seq = pair_whole counter_at (number w64) (number w64 m.seq) texts_at _ _ (number_back w64 spelled64 1 (2 ^ 64 - 1) m.seq) texts in
       let client = pair_whole (client_at s) (number w8) (number w8 m.client) seq_at _ _ (number_back w8 spelled8 0 (client_count s - 1) m.client) seq in
       map_whole request_of_fields (pair_at (client_at s) seq_at) _ request_bytes _ (λ a. refl) client

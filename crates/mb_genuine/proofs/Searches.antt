@@ -4,6 +4,7 @@ use Rattle.std.proofs.Common.{◌≡◌, ℕ, zero, suc, ◌+◌, ◌-◌, ◌&&
 use Rattle.std.specs.Prelude.{◌==◌, not, filter, find, nat_lt, nat_le, is_none, slice_get, option_map, option_and_then}
 use Rattle.std.specs.List.{AllByRecursion, range_with_len, flat_map}
 use Rattle.std.proofs.lemmas.Bool.{cases_Bool}
+use Rattle.mb_base.specs.Limits.{batch_limit}
 use Rattle.mb_base.specs.Shapes.{quorum, host_count, client_count}
 use Rattle.mb_parts.specs.declared.request.Request.{Request}
 use Rattle.mb_parts.specs.declared.batch.Batch.{Batch}
@@ -27,7 +28,7 @@ use Rattle.mb_msg.specs.declared.stamped.Shown.TheVariants as shown
 use Rattle.mb_msg.specs.declared.stamped.Stamped.TheVariants as stamped
 use Rattle.mb_msg.specs.Bodies.{body_digest, whole_body}
 use Rattle.mb_model.specs.declared.known.KnownSlot.{KnownSlot}
-use Rattle.mb_model.specs.Batches.{batch_limit, has_place, fitting, first_batch}
+use Rattle.mb_model.specs.Batches.{has_place, fitting, first_batch}
 use Rattle.mb_model.specs.Service.{Served as ServedState, is_fresh}
 use Rattle.mb_model.specs.Histories.{Entry, Accepted, Stamped, Served, Installed, History, Identity}
 use Rattle.mb_model.specs.Held.{is_current, change_fault, change_in, arrived, changes_of, by_rising_host, chosen, shown_log, logs_of, plan_from, plan_in_new_view, plan_in_open, gives_plan, plan_in, plan_held, plan_of_view}

@@ -8,6 +8,7 @@ use Rattle.std.proofs.lemmas.Bool.{cases_lt, le-leb}
 use Rattle.std.proofs.lemmas.Option.{slice_get_within}
 use Rattle.std.proofs.lemmas.List.{append-nil}
 use Rattle.std.specs.Int.{w8, w16}
+use Rattle.mb_base.specs.Limits.{batch_bytes_limit}
 use Rattle.mb_base.specs.Spelling.{number}
 use Rattle.mb_base.specs.Shapes.{Bytes, IsShape, host_count, client_count, max_faults, tally}
 use Rattle.mb_usig.proofs.Laws.{length-signed_request}
@@ -22,7 +23,7 @@ use Rattle.mb_msg.specs.Reading.{message_of}
 use Rattle.mb_msg.specs.Spelling.{spelling}
 use Rattle.mb_msg.proofs.Messages.{message_again}
 use Rattle.mb_msg.proofs.Sizes.{request_short, small_request}
-use Rattle.mb_model.specs.Batches.{batch_bytes_limit, has_place}
+use Rattle.mb_model.specs.Batches.{has_place}
 use Rattle.mb_model.proofs.ShapesFit.{shape_fits}
 use Rattle.mb_model.specs.Members.{In}
 use Rattle.mb_model.proofs.Members.{contained}

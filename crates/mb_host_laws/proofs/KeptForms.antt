@@ -3,6 +3,7 @@ use Rattle.std.proofs.Common.{ℕ, zero, suc, ◌+◌, List, [], ◌∷◌, leng
 use Rattle.std.specs.Prelude.{map, nat_le}
 use Rattle.std.proofs.lemmas.Bool.{cases_Bool}
 use Rattle.std.specs.List.{AllByRecursion}
+use Rattle.mb_base.specs.Limits.{entry_bytes_limit, entry_limit}
 use Rattle.mb_base.specs.declared.shape.Shape.{Shape}
 use Rattle.mb_parts.specs.Spelling.{batch_bytes}
 use Rattle.mb_msg.specs.declared.stamped.Stamped.{Stamped as StampedMessage}
@@ -10,7 +11,7 @@ use Rattle.mb_msg.specs.declared.stamped.Stamped.TheVariants as stamped
 use Rattle.mb_msg.specs.Fits.{FitsShown, FitsStamped}
 use Rattle.mb_msg.specs.Spelling.{floors_body_bytes, change_body_bytes, new_view_body_bytes, open_body_bytes, stamped_bytes}
 use Rattle.mb_msg.proofs.Injective.{digest_fits}
-use Rattle.mb_model.specs.OwnLog.{behind, behind_opening, behind_change, kept_forms, as_shown, entry_bytes_limit, packed, first_packed}
+use Rattle.mb_model.specs.OwnLog.{behind, behind_opening, behind_change, kept_forms, as_shown, packed, first_packed}
 
 module _ (E : StampedMessage → Type 0) (opening : (x : StampedMessage) → E x → E (behind_opening x)) (change : (x : StampedMessage) → E x → E (behind_change x)) where
   pub behind_keeps : (m x : StampedMessage) → E x → E (behind m x)
@@ -42,7 +43,7 @@ module _ (E : StampedMessage → Type 0) where
 
   pub first_keep : (l : List StampedMessage) → AllByRecursion E l → AllByRecursion E (first_packed l)
   first_keep [] a = tt
-  first_keep (m ∷ l) a = (a.0, packed_keep 63 (length (stamped_bytes m)) l a.1)
+  first_keep (m ∷ l) a = (a.0, packed_keep (entry_limit - 1) (length (stamped_bytes m)) l a.1)
 
 -- ---- values of the grammar
 

@@ -5,6 +5,7 @@ use Rattle.std.specs.List.{range_with_len}
 use Rattle.std.specs.Option.{option_or}
 use Rattle.std.proofs.Math.Path.{fun_ext}
 use Rattle.std.proofs.lemmas.Bool.{cases_Bool, eqb-true, eqb-false}
+use Rattle.mb_base.specs.Limits.{part_count, table_part}
 use Rattle.mb_base.specs.Shapes.{Bytes}
 use Rattle.mb_msg.specs.declared.event.Slot.{Slot}
 use Rattle.mb_msg.specs.declared.message.Message.{Message}
@@ -15,7 +16,6 @@ use Rattle.mb_msg.specs.declared.event.Outcome.{Outcome}
 use Rattle.mb_msg.specs.declared.event.Outcome.TheVariants as outcome
 use Rattle.mb_model.specs.Histories.{Entry, Accepted, Stamped, Jumped, Closed, Served, Executed, Installed, DroppedParts, LostPatience, Nudged, History, Identity}
 use Rattle.mb_model.specs.Stable.{low_of}
-use Rattle.mb_model.specs.States.{part_count}
 use Rattle.mb_model.specs.Execution.{part_of, missing, parts_held}
 use Rattle.mb_model.specs.Sending.{Progress, write}
 use Rattle.mb_model.specs.PlainChecks.{state_refusal, is_wanted}
@@ -99,7 +99,7 @@ module _ {S : Type 0} (self : Identity S) where
 
   -- Where the first part is not held, one is missing.
   first_missing : (d : History) → part_of self d (low_of self d) 0 ≡ None → missing self d ≡ None → ⊥
-  first_missing d none is = found_first (λ i. part_of self d (low_of self d) i) 64 none is
+  first_missing d none is = found_first (λ i. part_of self d (low_of self d) i) table_part none is
 
   same_missing : (e : Entry) (d : History) → ((pos i : ℕ) → part_of self (e ∷ d) pos i ≡ part_of self d pos i) → IsIncomplete d → (missing self (e ∷ d) ≡ None → ⊥)
   same_missing e d same x is = elim (cases_Bool (eqb (low_of self (e ∷ d)) (low_of self d))) [

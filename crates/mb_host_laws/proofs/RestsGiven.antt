@@ -9,6 +9,7 @@ use Rattle.std.specs.Bool.{then_some}
 use Rattle.std.specs.Option.{option_or}
 use Rattle.std.specs.List.{AllByRecursion}
 use Rattle.std.proofs.lemmas.Bool.{cases_Bool, and_parts, leb-false, ltb-false}
+use Rattle.mb_base.specs.Limits.{part_count}
 use Rattle.mb_base.specs.Shapes.{Bytes}
 use Rattle.mb_base.specs.declared.names.Ui.{Ui}
 use Rattle.mb_parts.specs.declared.floor.Floor.{Floor}
@@ -283,7 +284,7 @@ module _ {S : Type 0} (self : Identity S) (given : Message → Type 0) (old : By
   state_rests : (m : StateMsg) (x : Progress) → given (message.State m) → Rested x → Rested (give_state self m x).left
   unfolding give_state state_refusal
   state_rests m x g a = elim (option_cases (state_refusal self x.history m)) [
-    | inl none ↦ rw none (install_rests m x g (last_test (then_some (not (is_wanted self x.history m.pos)) outcome.Idle) (then_some (not (is_list_right self x.history m)) (outcome.WrongDigest 65)) (wrong_digest (wrong_part m.digests m.first m.parts))
+    | inl none ↦ rw none (install_rests m x g (last_test (then_some (not (is_wanted self x.history m.pos)) outcome.Idle) (then_some (not (is_list_right self x.history m)) (outcome.WrongDigest part_count)) (wrong_digest (wrong_part m.digests m.first m.parts))
         (then_some (are_all_held self x.history m) outcome.Idle) (bad_state self (Accepted (message.State m) ∷ x.history)) none) a)
     | inr (o, some) ↦ go o some
   ] where

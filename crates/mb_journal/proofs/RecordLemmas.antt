@@ -4,6 +4,7 @@ use Rattle.std.proofs.lemmas.Bool.{cases_eq, cases_Bool, cases_lt, cond-true, co
 use Rattle.std.proofs.lemmas.List.{take_at, drop_more}
 use Rattle.std.proofs.Math.Seq.{take-add}
 use Rattle.std.specs.Int.{w32, to_be_bytes}
+use Rattle.mb_base.specs.Limits.{message_limit}
 use Rattle.mb_base.specs.Shapes.{Bytes, is_within}
 use Rattle.mb_base.specs.Spelling.{IsBytes}
 use Rattle.mb_base.proofs.Laws.{wide32, IsBytes-take}
@@ -18,7 +19,7 @@ length-record_text event =
 pub length-entry : (event : Event) → length (entry event) ≡ record_size event
 length-entry event = omega (arith, length-record_text event)
 
-pub size_in_range : (event : Event) → EventFits event → length (bytes_of event) ≤ 4194304
+pub size_in_range : (event : Event) → EventFits event → length (bytes_of event) ≤ message_limit
 size_in_range (Given bytes) fits = fits.1
 size_in_range Patience fits = omega arith
 size_in_range Nudge fits = omega arith
@@ -27,7 +28,7 @@ size_in_range Nudge fits = omega arith
 
 pub event_of-kind : (event : Event) → EventFits event → event_of (kind_of event) (bytes_of event) ≡ Some event
 event_of-kind (Given bytes) fits =
-    cond-true (is_within 1 4194304 (length bytes)) (Some (Given bytes)) None (and_from _ _ (le-leb 1 (length bytes) fits.0) (le-leb (length bytes) 4194304 fits.1))
+    cond-true (is_within 1 message_limit (length bytes)) (Some (Given bytes)) None (and_from _ _ (le-leb 1 (length bytes) fits.0) (le-leb (length bytes) message_limit fits.1))
 event_of-kind Patience fits = refl
 event_of-kind Nudge fits = refl
 
@@ -55,10 +56,10 @@ pub record HasParts (event : Event) (kind : ℕ) (body : Bytes) : Type 0 where
   pub body_is : body ≡ bytes_of event
   pub fits : EventFits event
 
-given_parts : (kind : ℕ) (body : Bytes) (event : Event) → kind ≡ 1 → (1 ≤ length body) × (length body ≤ 4194304) → Some (Given body) ≡ Some event → HasParts event kind body
+given_parts : (kind : ℕ) (body : Bytes) (event : Event) → kind ≡ 1 → (1 ≤ length body) × (length body ≤ message_limit) → Some (Given body) ≡ Some event → HasParts event kind body
 given_parts kind body (Given bytes) one within is =
     let same : body ≡ bytes = cc in
-    record { kind_is = one; body_is = same; fits = subst (λ (l : Bytes). (1 ≤ length l) × (length l ≤ 4194304)) same within }
+    record { kind_is = one; body_is = same; fits = subst (λ (l : Bytes). (1 ≤ length l) × (length l ≤ message_limit)) same within }
 given_parts kind body Patience one within is = absurd cc
 given_parts kind body Nudge one within is = absurd cc
 
@@ -69,15 +70,15 @@ no_bytes (x ∷ body) none = absurd (omega arith)
 pub parts_of_event : (kind : ℕ) (body : Bytes) (event : Event) → event_of kind body ≡ Some event → HasParts event kind body
 parts_of_event kind body event is =
     let small = cond (kind == 2) (Some Patience) (cond (kind == 3) (Some Nudge) None) in
-    let given = cond (is_within 1 4194304 (length body)) (Some (Given body)) None in
+    let given = cond (is_within 1 message_limit (length body)) (Some (Given body)) None in
     elim (cases_eq kind 1) [
       | inl one ↦
           let here : given ≡ Some event = sym (cond-true (kind == 1) given (cond (length body == 0) small None) (eq-eqb kind 1 one)) ∙ is in
-          elim (cases_Bool (is_within 1 4194304 (length body))) [
+          elim (cases_Bool (is_within 1 message_limit (length body))) [
             | inl within ↦
-                let both = and_parts (nat_le 1 (length body)) (nat_le (length body) 4194304) within in
-                given_parts kind body event one (leb-true 1 (length body) both.0, leb-true (length body) 4194304 both.1) (sym (cond-true (is_within 1 4194304 (length body)) (Some (Given body)) None within) ∙ here)
-            | inr outside ↦ let none : None ≡ Some event = sym (cond-false (is_within 1 4194304 (length body)) (Some (Given body)) None outside) ∙ here in absurd cc
+                let both = and_parts (nat_le 1 (length body)) (nat_le (length body) message_limit) within in
+                given_parts kind body event one (leb-true 1 (length body) both.0, leb-true (length body) message_limit both.1) (sym (cond-true (is_within 1 message_limit (length body)) (Some (Given body)) None within) ∙ here)
+            | inr outside ↦ let none : None ≡ Some event = sym (cond-false (is_within 1 message_limit (length body)) (Some (Given body)) None outside) ∙ here in absurd cc
           ]
       | inr other ↦
           let there : cond (length body == 0) small None ≡ Some event = sym (cond-false (kind == 1) given (cond (length body == 0) small None) (ne_eqb kind 1 other)) ∙ is in

@@ -1,10 +1,10 @@
 -- A journal at rest, and what a crash makes of it while an event is appended.
-use Rattle.std.specs.Prelude.{◌≡◌, ◌⊎◌, ℕ, ◌+◌, Bool, true, List, [], ◌∷◌, ◌++◌, length, Result, Ok, Err}
+use Rattle.std.specs.Prelude.{◌≡◌, ◌⊎◌, ℕ, ◌+◌, Bool, true, List, [], ◌∷◌, ◌++◌, length, Option, Result, Ok, Err}
 use Rattle.std.specs.List.{AllByRecursion}
 use Rattle.mb_base.specs.Shapes.{Bytes}
 use Rattle.mb_edge.specs.declared.outside.Failed.{Failed}
 use Rattle.mb_edge.specs.declared.outside.Failed.TheVariants as causes
-use Rattle.mb_edge.specs.Disks.{Content, settled, overwritten, IsTorn}
+use Rattle.mb_edge.specs.Disks.{Content, Moments, WhereTold, settled, overwritten, IsTorn}
 use Rattle.mb_msg.specs.declared.event.Event.{Event}
 use Rattle.mb_journal.specs.Files.{record_text, record_size, entries, EventFits, Holds}
 use Rattle.mb_journal.specs.declared.journal.AppendStop.{AppendStop}
@@ -76,3 +76,13 @@ IsFull DiskFault = ⊥
 abbrev pub append_stop : Failed → AppendStop
 append_stop causes.Device = DiskFault
 append_stop causes.NoMemory = NoMemory
+
+-- Whatever events rest in the file, once the device has told of a write, this one rests behind them too.
+abbrev pub RestsWithMore : ℕ → Event → Option Moments → Option Moments → Type 0
+RestsWithMore end event old new = WhereTold old (λ before. (header : Bytes) (events : List Event) → RestsAt header end events before.now
+    → WhereTold new (λ after. RestsAt header (end + record_size event) (events ++ event ∷ []) after.now))
+
+-- So it is of the journal that the file belongs to.
+abbrev pub IsAtRestWithMore : JournalState → JournalState → Event → Option Moments → Option Moments → Type 0
+IsAtRestWithMore journal journal' event old new = WhereTold old (λ before. (events : List Event) → IsAtRest journal events before.now
+    → WhereTold new (λ after. IsAtRest journal' (events ++ event ∷ []) after.now))

@@ -74,18 +74,18 @@ impl Journal {
         id: Host,
     ) -> Result<(), MakeStop>
         requires { id < host_count config.now.shape }
-        ensures exists { (len : ℕ) → IsErrOf result (MakeStop.Exists len) → (len ≢ 0) × WhereTold (D.moments disk.old) (λ old. len ≡ length old.now.reads) }
-        ensures kept { (len : ℕ) → IsErrOf result (MakeStop.Exists len) → D.moments disk.new ≡ D.moments disk.old }
-        ensures empty { OnOk result (WhereTold (D.moments disk.old) (λ old. old.now.reads ≡ [])) }
-        ensures rests { OnOk result (WhereTold (D.moments disk.old) (λ old. WhereTold (D.moments disk.new) (λ new. RestsAt (header_text config.now id) 45 [] new.now))) }
+        ensures exists { (len : ℕ) → IsErrOf result (MakeStop.Exists len) → (len ≢ 0) × WhereTold (D.seen disk.old).moments (λ old. len ≡ length old.now.reads) }
+        ensures kept { (len : ℕ) → IsErrOf result (MakeStop.Exists len) → (D.seen disk.new).moments ≡ (D.seen disk.old).moments }
+        ensures empty { OnOk result (WhereTold (D.seen disk.old).moments (λ old. old.now.reads ≡ [])) }
+        ensures rests { OnOk result (WhereTold (D.seen disk.old).moments (λ old. WhereTold (D.seen disk.new).moments (λ new. RestsAt (header_text config.now id) 45 [] new.now))) }
 
         // A file with bytes stays as it is, whatever the answer.
-        ensures there { WhereTold (D.moments disk.old) (λ old. old.now.reads ≢ [] → D.moments disk.new ≡ D.moments disk.old) }
+        ensures there { WhereTold (D.seen disk.old).moments (λ old. old.now.reads ≢ [] → (D.seen disk.new).moments ≡ (D.seen disk.old).moments) }
 
         // Over a file without bytes, a crash at any moment leaves no journal, or one without events.
-        ensures any_moment { WhereTold (D.moments disk.old) (λ old. old.now ≡ settled [] → LeavesOnly (SaysNothing (header_text config.now id)) old (D.moments disk.new)) }
+        ensures any_moment { WhereTold (D.seen disk.old).moments (λ old. old.now ≡ settled [] → LeavesOnly (SaysNothing (header_text config.now id)) old (D.seen disk.new).moments) }
 
-        ensures faults { TellsFaults (D.never_fails disk.old) (D.never_fails disk.new) (D.faults disk.old) (D.faults disk.new) (IsErrOf result MakeStop.DiskFault) }
+        ensures faults { TellsFaults (D.never_fails disk.old) (D.never_fails disk.new) (D.seen disk.old).faults (D.seen disk.new).faults (IsErrOf result MakeStop.DiskFault) }
     {
         let length = disk.len()?;
         if length != 0 {
@@ -110,15 +110,15 @@ impl Journal {
     ) -> Result<Opened, OpenStop>
         requires { id < host_count config.now.shape }
         ensures journal { IfOk result (λ opened. opened.journal ≡ record { header = header_text config.now id; end = opened.journal.end; limit = limit; halted = false }) }
-        ensures events { IfOk result (λ opened. WhereTold (D.moments disk.old) (λ old. Holds (header_text config.now id) opened.events.items old.now.reads)) }
-        ensures bad { (at : ℕ) → IsErrOf result (OpenStop.BadJournal at) → WhereTold (D.moments disk.old) (λ old. contents_of (header_text config.now id) old.now.reads ≡ Err at) }
-        ensures rests { IfOk result (λ opened. WhereTold (D.moments disk.old) (λ old. WhereTold (D.moments disk.new) (λ new. IsAtRest opened.journal opened.events.items new.now))) }
+        ensures events { IfOk result (λ opened. WhereTold (D.seen disk.old).moments (λ old. Holds (header_text config.now id) opened.events.items old.now.reads)) }
+        ensures bad { (at : ℕ) → IsErrOf result (OpenStop.BadJournal at) → WhereTold (D.seen disk.old).moments (λ old. contents_of (header_text config.now id) old.now.reads ≡ Err at) }
+        ensures rests { IfOk result (λ opened. WhereTold (D.seen disk.old).moments (λ old. WhereTold (D.seen disk.new).moments (λ new. IsAtRest opened.journal opened.events.items new.now))) }
 
         // A crash at any moment leaves what one before might have left, or a file that is whole: one that is no journal of this host as it reads, and of one
         // that is its events.
-        ensures any_moment { WhereTold (D.moments disk.old) (λ old. LeavesOnly (λ image. IsImage old.now image ⊎ StaysWhole (header_text config.now id) old.now.reads image) old (D.moments disk.new)) }
+        ensures any_moment { WhereTold (D.seen disk.old).moments (λ old. LeavesOnly (λ image. IsImage old.now image ⊎ StaysWhole (header_text config.now id) old.now.reads image) old (D.seen disk.new).moments) }
 
-        ensures faults { TellsFaults (D.never_fails disk.old) (D.never_fails disk.new) (D.faults disk.old) (D.faults disk.new) (IsErrOf result OpenStop.DiskFault) }
+        ensures faults { TellsFaults (D.never_fails disk.old) (D.never_fails disk.new) (D.seen disk.old).faults (D.seen disk.new).faults (IsErrOf result OpenStop.DiskFault) }
     {
         let header = header_of(alloc, config, id)?;
         let found = open_file(alloc, disk, &header)?;

@@ -23,9 +23,10 @@ use Rattle.mb_msg.specs.declared.stamped.Shown.{Shown}
 use Rattle.mb_msg.specs.declared.stamped.Stamped.{Stamped as StampedMessage}
 use Rattle.mb_msg.specs.declared.stamped.Stamped.TheVariants as stamped
 use Rattle.mb_msg.specs.Stamps.{bare_of}
+use Rattle.mb_base.specs.Limits.{other_limit}
 use Rattle.mb_base.specs.declared.names.Ui.{Ui}
 use Rattle.mb_model.specs.Verified.{verifies}
-use Rattle.mb_model.specs.UsableLogs.{bares, newest_first, floor_position, is_normal_kind, normal_limit, other_limit, is_too_long, is_ill_founded, entries_fault, fault_from, log_fault}
+use Rattle.mb_model.specs.UsableLogs.{bares, newest_first, floor_position, is_normal_kind, normal_limit, is_too_long, is_ill_founded, entries_fault, fault_from, log_fault}
 use Rattle.mb_model.specs.Histories.{Stamped, History, Identity, said, view_of, counter_of, stamped as all_stamped}
 use Rattle.mb_model.specs.GateChecks.{valid}
 use Rattle.mb_model.specs.Stable.{low_of, log_floor}

@@ -1,12 +1,13 @@
 -- The state of all parts takes the place of the present one.
 use Rattle.std.proofs.Common.{◌≡◌, ℕ, List, [], length, take, Option, None, Result, Ok, Err, refl, sym, ap, ◌∙◌, slice_get, unwrap_or}
+use Rattle.mb_base.specs.Limits.{table_part, service_parts}
 use Rattle.mb_base.specs.Shapes.{Bytes}
 use Rattle.mb_base.specs.declared.writing.NoMemory.{NoMemory}
 use Rattle.mb_service.specs.declared.restore.Restore.{Restore}
 use Rattle.mb_service.specs.declared.restore.Restore.TheVariants as restore
 use Rattle.mb_service.specs.Parts as service
 use Rattle.mb_model.specs.declared.known.LastReply.{LastReply}
-use Rattle.mb_model.specs.States.{Snapshots, table_of, table_part, restored}
+use Rattle.mb_model.specs.States.{Snapshots, table_of, restored}
 use Rattle.mb_fetch.specs.Fetched.{Fetched as FetchedParts, part_at}
 use Rattle.mb_fetch.specs.Parts.{Represents, first_missing, all_found}
 use Rattle.mb_fetch.specs.Snapshots.{Snapshot}
@@ -32,13 +33,13 @@ module _ {S : Type 0} (snapshots : Snapshots S) (parts : List Bytes) (old : Keep
   table_refused table left bytes restore.NoMemory clients is h = refl
 
   module _ (t : List LastReply) (read : table_of (length old.served.table) (table_in parts) ≡ Ok t) where
-    pub state_refused : (x y : S) (new : Keeping S) (first : List Bytes) (e : Restore) → first ≡ take 64 parts → service.Restores {U = Unit {0}} snapshots.restored first (Err e) x y → (y ≡ x → new ≡ old)
+    pub state_refused : (x y : S) (new : Keeping S) (first : List Bytes) (e : Restore) → first ≡ take service_parts parts → service.Restores {U = Unit {0}} snapshots.restored first (Err e) x y → (y ≡ x → new ≡ old)
         → Installs snapshots {U = Unit {0}} parts old new (Err e)
     unfolding restored
     state_refused x y new first (restore.BadSnapshot part at) is h same = (rw (read, ← is, h.0) refl, same h.1)
     state_refused x y new first restore.NoMemory is h same = same h
 
-    pub state_taken : (y : S) (first : List Bytes) → first ≡ take 64 parts → snapshots.restored first ≡ Ok y → state_from snapshots old parts ≡ Ok (record { state = y; table = t })
+    pub state_taken : (y : S) (first : List Bytes) → first ≡ take service_parts parts → snapshots.restored first ≡ Ok y → state_from snapshots old parts ≡ Ok (record { state = y; table = t })
     unfolding restored
     state_taken y first is h = rw (read, ← is, h) refl
 

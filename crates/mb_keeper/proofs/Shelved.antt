@@ -5,9 +5,10 @@ use Rattle.std.specs.List.{AllByRecursion, range_with_len}
 use Rattle.std.proofs.lemmas.Bool.{cases_Bool, le-leb, lt-leb}
 use Rattle.std.proofs.lemmas.List.FromFn.{length-map-range_with_len, map-range_with_len_more}
 use Rattle.sha2.specs.Sha256.{sha256}
+use Rattle.mb_base.specs.Limits.{part_count, service_parts, part_bytes_limit}
 use Rattle.mb_base.specs.Shapes.{Bytes}
 use Rattle.mb_model.specs.Service.{Served}
-use Rattle.mb_model.specs.States.{Snapshots, table_bytes, parts_of, part_count}
+use Rattle.mb_model.specs.States.{Snapshots, table_bytes, parts_of}
 use Rattle.mb_model.specs.Making.{fitting, first_fitting}
 use Rattle.mb_fetch.specs.Snapshots.{Snapshot, part_in}
 use Rattle.mb_keeper.specs.Keeping.{AreShort}
@@ -16,7 +17,7 @@ use Rattle.mb_keeper.specs.Sent.{kept_at}
 -- A state has all parts.
 pub as_many : {S : Type 0} (snapshots : Snapshots S) (x : Served S) → length (parts_of snapshots x) ≡ part_count
 unfolding parts_of
-as_many snapshots x = omega (arith, length-append (map (snapshots.part x.state) (range_with_len 0 64)) (table_bytes x.table ∷ []), length-map-range_with_len (snapshots.part x.state) 0 64)
+as_many snapshots x = omega (arith, length-append (map (snapshots.part x.state) (range_with_len 0 service_parts)) (table_bytes x.table ∷ []), length-map-range_with_len (snapshots.part x.state) 0 service_parts)
 
 pub kept_within : (shelf : List Snapshot) (pos : ℕ) → AllByRecursion (λ s. length s.parts ≡ part_count) shelf → length (kept_at shelf pos) ≤ part_count
 kept_within [] pos all = omega arith
@@ -41,7 +42,7 @@ part_more f l n x is x_is =
     let here : 0 + n ≡ n = omega arith in
     ap (λ (k : List Bytes). k ++ x ∷ []) is ∙ (ap (λ (y : Bytes). map f (range_with_len 0 n) ++ y ∷ []) x_is ∙ sym (map-range_with_len_more f 0 n n here))
 
-pub with_table : {S : Type 0} (snapshots : Snapshots S) (x : Served S) (l : List Bytes) (n : ℕ) (table : Bytes) → l ≡ map (snapshots.part x.state) (range_with_len 0 n) → n ≡ 64 → table ≡ table_bytes x.table → l ++ table ∷ [] ≡ parts_of snapshots x
+pub with_table : {S : Type 0} (snapshots : Snapshots S) (x : Served S) (l : List Bytes) (n : ℕ) (table : Bytes) → l ≡ map (snapshots.part x.state) (range_with_len 0 n) → n ≡ service_parts → table ≡ table_bytes x.table → l ++ table ∷ [] ≡ parts_of snapshots x
 unfolding parts_of
 with_table snapshots x l n table is all table_is = rw (is, all, table_is) refl
 
@@ -86,9 +87,9 @@ drop_whole (q ∷ parts) zero le = absurd (omega (arith, le))
 drop_whole (q ∷ parts) (suc n) le = drop_whole parts n (omega (arith, le))
 
 module _ (parts : List Bytes) (n used : ℕ) where
-  pub fits_more : (next : ℕ) (p : Bytes) → next ≡ suc n → Some p ≡ slice_get parts n → used + length p ≤ 65536 → fitting used (drop n parts) ≡ p ∷ fitting (used + length p) (drop next parts)
+  pub fits_more : (next : ℕ) (p : Bytes) → next ≡ suc n → Some p ≡ slice_get parts n → used + length p ≤ part_bytes_limit → fitting used (drop n parts) ≡ p ∷ fitting (used + length p) (drop next parts)
   unfolding fitting
-  fits_more next p up is fits = rw (drop_here parts n p is, le-leb (used + length p) 65536 fits, up) refl
+  fits_more next p up is fits = rw (drop_here parts n p is, le-leb (used + length p) part_bytes_limit fits, up) refl
 
   pub fits_none : None ≡ slice_get parts n → fitting used (drop n parts) ≡ []
   unfolding fitting
@@ -98,9 +99,9 @@ module _ (parts : List Bytes) (n used : ℕ) where
   unfolding fitting
   fits_whole le = rw (drop_whole parts n le) refl
 
-  pub fits_no_more : (p : Bytes) → Some p ≡ slice_get parts n → 65536 < used + length p → fitting used (drop n parts) ≡ []
+  pub fits_no_more : (p : Bytes) → Some p ≡ slice_get parts n → part_bytes_limit < used + length p → fitting used (drop n parts) ≡ []
   unfolding fitting
-  fits_no_more p is over = rw (drop_here parts n p is, lt-leb (used + length p) 65536 over) refl
+  fits_no_more p is over = rw (drop_here parts n p is, lt-leb (used + length p) part_bytes_limit over) refl
 
 -- one part more at the end
 pub pushed : (before after rest : List Bytes) (p x : Bytes) → after ≡ before ++ x ∷ [] → x ≡ p → after ++ rest ≡ before ++ p ∷ rest

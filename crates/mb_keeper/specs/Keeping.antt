@@ -2,12 +2,12 @@
 -- it fetched.
 use Rattle.std.specs.Prelude.{ℕ, ◌≡◌, ◌≤◌, ◌⊎◌, List, [], ◌∷◌, ◌++◌, length, Option, Some, None, nat_lt, nat_le, if◌then◌else◌}
 use Rattle.std.specs.List.{filter, AllByRecursion}
+use Rattle.mb_base.specs.Limits.{part_count}
 use Rattle.mb_base.specs.Shapes.{Bytes}
 use Rattle.mb_service.specs.declared.service.TheConstants.{MAX_PART}
 use Rattle.mb_parts.specs.declared.request.Request.{Request}
 use Rattle.mb_model.specs.declared.known.LastReply.{LastReply}
 use Rattle.mb_model.specs.Service.{Machine, Served, served}
-use Rattle.mb_model.specs.States.{part_count}
 use Rattle.mb_fetch.specs.Fetched.{Fetched, part_at}
 use Rattle.mb_fetch.specs.Snapshots.{Snapshot, snapshot}
 

@@ -31,10 +31,10 @@ pub enum Fetched {
 
 impl<V: Service + Drop> Keeper<V> {
     ghost use Rattle.std.specs.Prelude.{◌≡◌, ℕ, length, Option, None, IfOk};
+    ghost use Rattle.mb_base.specs.Limits.{part_count};
     ghost use Rattle.mb_base.specs.Shapes.{Bytes};
     ghost use Rattle.mb_model.specs.Histories.{Identity, History};
     ghost use Rattle.mb_model.specs.Execution.{missing};
-    ghost use Rattle.mb_model.specs.States.{part_count};
     ghost use Rattle.mb_fetch.specs.Checks.{HasParts};
     ghost use Rattle.mb_fetch.specs.Parts.{Represents, first_missing};
     ghost use Rattle.mb_cache.specs.Represents.{snapshots_of};
@@ -78,7 +78,7 @@ impl<V: Service + Drop> Keeper<V> {
     ) -> Result<Fetched, NoMemory>
         requires held { AreOf self.old.fetched m.now.pos certified.now }
         requires parts { HasParts m.now }
-        ensures { Takes (snapshots_of V.part_of V.restored) certified.now (found self.old.fetched) m.now self.old self.new result }
+        ensures { Takes (snapshots_of V.machine) certified.now (found self.old.fetched) m.now self.old self.new result }
     {
         let parts = self.take_parts(alloc, m.pos, certified)?;
         self.join(alloc, parts, m)
@@ -101,7 +101,7 @@ impl<V: Service + Drop> Keeper<V> {
         requires out { self.old.fetched ≡ None }
         requires position { m.now.pos ≡ parts.pos }
         requires parts { HasParts m.now }
-        ensures { (search : ℕ → Option Bytes) → Represents parts m.now.pos parts.digest search → Takes (snapshots_of V.part_of V.restored) parts.digest search m.now self.old self.new result }
+        ensures { (search : ℕ → Option Bytes) → Represents parts m.now.pos parts.digest search → Takes (snapshots_of V.machine) parts.digest search m.now self.old self.new result }
     {
         let mut parts = parts;
         let are_held = are_all_held(&parts, m);
@@ -122,7 +122,7 @@ impl<V: Service + Drop> Keeper<V> {
     /// With all parts their state is installed. Where they are no state, all are dropped.
     fn install_where_all(&mut self, alloc: Global, parts: Parts) -> Result<Fetched, NoMemory>
         requires out { self.old.fetched ≡ None }
-        ensures { (pos : ℕ) (digest : Bytes) (search : ℕ → Option Bytes) → Represents parts pos digest search → Completes (snapshots_of V.part_of V.restored) pos digest search self.old self.new result }
+        ensures { (pos : ℕ) (digest : Bytes) (search : ℕ → Option Bytes) → Represents parts pos digest search → Completes (snapshots_of V.machine) pos digest search self.old self.new result }
     {
         match parts.assemble() {
             Err(missing) => {
@@ -136,7 +136,7 @@ impl<V: Service + Drop> Keeper<V> {
     /// Takes the state of all parts, and tells whether they are one.
     fn install_all(&mut self, alloc: Global, parts: &[Items<u8>]) -> Result<Fetched, NoMemory>
         requires { length parts.now ≡ part_count }
-        ensures { InstallsAll (snapshots_of V.part_of V.restored) parts.now self.old self.new result }
+        ensures { InstallsAll (snapshots_of V.machine) parts.now self.old self.new result }
     {
         match self.install(alloc, parts) {
             Ok(()) => Ok(Fetched::State),
@@ -148,7 +148,7 @@ impl<V: Service + Drop> Keeper<V> {
     /// Takes the state of all parts. The table is read first. Where anything fails, state and table stay.
     fn install(&mut self, alloc: Global, parts: &[Items<u8>]) -> Result<(), Restore>
         requires { length parts.now ≡ part_count }
-        ensures { Installs (snapshots_of V.part_of V.restored) parts.now self.old self.new result }
+        ensures { Installs (snapshots_of V.machine) parts.now self.old self.new result }
     {
         let count = usize::from(PARTS);
         let mut table = Table::make(alloc, self.shape)?;

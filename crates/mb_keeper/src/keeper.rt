@@ -53,7 +53,7 @@ impl<V: Service + Drop> Keeper<V> {
 
     /// Nothing was executed yet, and nothing fetched.
     pub fn make(alloc: Global, shape: Shape, service: V) -> Result<Keeper<V>, NoMemory>
-        ensures { IfOk result (λ k. k ≡ record { served = start (machine_of V.after V.answer) service (client_count shape); snapshots = []; fetched = None }) }
+        ensures { IfOk result (λ k. k ≡ record { served = start (machine_of V.machine) service (client_count shape); snapshots = []; fetched = None }) }
     {
         Ok(Keeper {
             shape,
@@ -96,11 +96,11 @@ impl<V: Service + Drop> Keeper<V> {
     pub fn execute(&mut self, alloc: Global, pos: Pos, request: &Request) -> Result<bool, NoMemory>
         requires client { request.now.client < length self.old.served.table }
         requires position { IsPosition pos }
-        ensures served { OnOk result (self.new ≡ executed (machine_of V.after V.answer) self.old pos request.now) }
+        ensures served { OnOk result (self.new ≡ executed (machine_of V.machine) self.old pos request.now) }
         ensures fresh { IfOk result (λ is. is ≡ is_fresh self.old.served request.now) }
-        ensures stops { OnErr result (ExecutedOrNot (machine_of V.after V.answer) self.old pos request.now self.new) }
+        ensures stops { OnErr result (ExecutedOrNot (machine_of V.machine) self.old pos request.now self.new) }
         ensures clients { length self.new.served.table ≡ length self.old.served.table }
-        ensures stands { OnOk result (StandsServed (machine_of V.after V.answer) self.old.served pos request.now self.new.served) }
+        ensures stands { OnOk result (StandsServed (machine_of V.machine) self.old.served pos request.now self.new.served) }
     {
         let result = self.table.execute(alloc, &mut self.service, pos, request)?;
         Ok(result.is_some())
@@ -108,9 +108,9 @@ impl<V: Service + Drop> Keeper<V> {
 
     /// The digest of the present state at a position. The state stays as it is, also after `NoMemory`.
     pub fn digest(&mut self, alloc: Global, pos: Pos) -> Result<Digest, NoMemory>
-        ensures digest { IfOk result (λ d. d ≡ state_digest (parts_of (snapshots_of V.part_of V.restored) self.old.served) pos) }
+        ensures digest { IfOk result (λ d. d ≡ state_digest (parts_of (snapshots_of V.machine) self.old.served) pos) }
         ensures kept { self.new ≡ self.old }
-        ensures stands { (id : Identity V) (d : History) → id.snapshots ≡ snapshots_of V.part_of V.restored → self.old.served ≡ state_of id d → IfOk result (λ r. r ≡ state_digest (parts_of_state id d) pos) }
+        ensures stands { (id : Identity V) (d : History) → id.snapshots ≡ snapshots_of V.machine → self.old.served ≡ state_of id d → IfOk result (λ r. r ≡ state_digest (parts_of_state id d) pos) }
     {
         digest(alloc, &mut self.service, &self.table, pos)
     }
@@ -120,8 +120,8 @@ impl<V: Service + Drop> Keeper<V> {
     pub fn keep_snapshot(&mut self, alloc: Global, pos: Pos) -> Result<(), NoMemory>
         requires above { (other : ℕ) → pos ≤ other → parts_at self.old.snapshots other ≡ None }
         requires room { length self.old.snapshots < 3 }
-        ensures ok { OnOk result (self.new ≡ with_snapshot self.old pos (parts_of (snapshots_of V.part_of V.restored) self.old.served)) }
-        ensures stands { OnOk result (StandsWith self.old.snapshots pos (parts_of (snapshots_of V.part_of V.restored) self.old.served) self.new.snapshots) }
+        ensures ok { OnOk result (self.new ≡ with_snapshot self.old pos (parts_of (snapshots_of V.machine) self.old.served)) }
+        ensures stands { OnOk result (StandsWith self.old.snapshots pos (parts_of (snapshots_of V.machine) self.old.served) self.new.snapshots) }
         ensures err { OnErr result (self.new ≡ self.old) }
     {
         let parts = present_parts(alloc, &self.service, &self.table)?;

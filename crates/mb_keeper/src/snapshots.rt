@@ -1,7 +1,8 @@
 //! Snapshots of the state, and what is sent of them.
 
 ghost use Rattle.std.specs.Prelude.{◌≡◌, ◌≤◌, ◌<◌, ◌^◌, ◌++◌, length, drop, IfOk, OnOk};
-ghost use Rattle.mb_model.specs.States.{parts_of, part_count, part_digests};
+ghost use Rattle.mb_base.specs.Limits.{part_count};
+ghost use Rattle.mb_model.specs.States.{parts_of, part_digests};
 ghost use Rattle.mb_model.specs.Making.{fitting, first_fitting};
 ghost use Rattle.mb_cache.specs.Represents.{joined, snapshots_of};
 ghost use Rattle.mb_keeper.specs.Keeping.{AreShort};
@@ -60,7 +61,7 @@ pub(crate) fn present_parts<V: Service>(
     service: &V,
     table: &Table,
 ) -> Result<Vec<Items<u8>>, NoMemory>
-    ensures parts { IfOk result (λ v. v.items ≡ parts_of (snapshots_of V.part_of V.restored) (joined service.now table.now)) }
+    ensures parts { IfOk result (λ v. v.items ≡ parts_of (snapshots_of V.machine) (joined service.now table.now)) }
     ensures short { IfOk result (λ v. AreShort v.items) }
 {
     let mut parts = Vec::with_capacity(alloc, usize::from(PART_COUNT))?;

@@ -5,6 +5,7 @@ use Rattle.std.specs.Option.{option_or}
 use Rattle.std.proofs.lemmas.Bool.{cases_lt, lt-leb, ne_eqb, eq-eqb}
 use Rattle.std.proofs.lemmas.Bool.Decides.{eqb_tells}
 use Rattle.std.proofs.Math.Nat.{mul-div_cancel, mul-lt-mul_of_pos_right}
+use Rattle.mb_base.specs.Limits.{least_interval, most_interval}
 use Rattle.mb_base.specs.declared.shape.Shape.{Shape}
 use Rattle.mb_base.specs.Shapes.{interval, host_count}
 use Rattle.mb_msg.specs.declared.normal.Checkpoint.{Checkpoint}
@@ -17,10 +18,10 @@ use Rattle.mb_kept.specs.Kept.{place_of, kept_at, low_of, Keeps, KeepsAbove}
 
 -- ---- products
 
-product_less : (a b k : ℕ) → 4 ≤ k → a < b → a * k < b * k
+product_less : (a b k : ℕ) → least_interval ≤ k → a < b → a * k < b * k
 product_less a b k some lt = mul-lt-mul_of_pos_right lt (omega (arith, some))
 
-product_same : (a b k : ℕ) → 4 ≤ k → a * k ≡ b * k → a ≡ b
+product_same : (a b k : ℕ) → least_interval ≤ k → a * k ≡ b * k → a ≡ b
 product_same a b k some e = elim (cases_lt a b) [
   | inl lt ↦ let h = product_less a b k some lt in absurd (omega (arith, e))
   | inr le ↦ elim (cases_lt b a) [
@@ -29,14 +30,14 @@ product_same a b k some e = elim (cases_lt a b) [
   ]
 ]
 
-product_least : (a b k : ℕ) → 4 ≤ k → a * k ≤ b * k → a ≤ b
+product_least : (a b k : ℕ) → least_interval ≤ k → a * k ≤ b * k → a ≤ b
 product_least a b k some le = elim (cases_lt b a) [
   | inl lt ↦ let h = product_less b a k some lt in absurd (omega (arith, le))
   | inr ge ↦ ge
 ]
 
 -- a multiple of the interval, at most two above one below 2 ^ 63
-pub product_fits : (number first k : ℕ) → 4 ≤ k → k ≤ 32 → number ≤ first + 2 → first * k < 2 ^ 63 → number * k < 2 ^ 64
+pub product_fits : (number first k : ℕ) → least_interval ≤ k → k ≤ most_interval → number ≤ first + 2 → first * k < 2 ^ 63 → number * k < 2 ^ 64
 product_fits number first k some most near low = elim (cases_lt number (first + 2)) [
   | inl lt ↦ let h = product_less number (first + 2) k some lt in let d = distribute first 2 k in omega (arith, h, d, low, most)
   | inr ge ↦ let same : number ≡ first + 2 = omega (arith, near, ge) in let d = ap (λ n. n * k) same ∙ distribute first 2 k in omega (arith, d, low, most)
@@ -44,13 +45,13 @@ product_fits number first k some most near low = elim (cases_lt number (first + 
   distribute : (a b c : ℕ) → (a + b) * c ≡ a * c + b * c
   distribute a b c = grind arith
 
-pub number_is : (k number : ℕ) → 4 ≤ k → (number * k) / k ≡ number
+pub number_is : (k number : ℕ) → least_interval ≤ k → (number * k) / k ≡ number
 number_is k number some = mul-div_cancel number (omega (arith, some))
 
 -- ---- one CHECKPOINT more
 
 module _ (old new : Checkpoints) (m : Checkpoint) (kept : KeptCheckpoint) (number : ℕ) where
-  pub keeps : kept.message ≡ m → m.pos ≡ number * interval old.shape → old.first ≤ number → m.ui.host < 7 → 4 ≤ interval old.shape → host_count old.shape ≤ 7
+  pub keeps : kept.message ≡ m → m.pos ≡ number * interval old.shape → old.first ≤ number → m.ui.host < 7 → least_interval ≤ interval old.shape → host_count old.shape ≤ 7
       → new.shape ≡ old.shape → new.first ≡ old.first → StandsWith old.window (place_of number m.ui.host) kept new.window → Keeps old m new
   keeps is pos from host some few shape first window s low search st = record {
     shape_is = shape ∙ st.shape_is;
@@ -97,7 +98,7 @@ module _ (old new : Checkpoints) (m : Checkpoint) (kept : KeptCheckpoint) (numbe
 -- ---- the stable position raised
 
 module _ (old new : Checkpoints) (number low : ℕ) (multiple : low ≡ number * interval old.shape) where
-  pub keeps_above : 4 ≤ interval old.shape → low_of old ≤ low → new.shape ≡ old.shape → new.first ≡ number → StandsAbove old.window (number * 7) new.window → KeepsAbove old low new
+  pub keeps_above : least_interval ≤ interval old.shape → low_of old ≤ low → new.shape ≡ old.shape → new.first ≡ number → StandsAbove old.window (number * 7) new.window → KeepsAbove old low new
   keeps_above some above_low shape first window s low0 search st = record {
     shape_is = shape ∙ st.shape_is;
     low_is = ap (λ k. k * interval new.shape) first ∙ ap (λ (x : Shape). number * interval x) shape ∙ sym multiple;

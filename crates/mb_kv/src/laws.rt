@@ -2,8 +2,7 @@
 
 ghost use Rattle.std.specs.Prelude.{[]};
 ghost use Rattle.mb_service.specs.Replicable.{IsReplicable};
-ghost use Rattle.mb_kv.specs.Operations.{after, answer};
-ghost use Rattle.mb_kv.specs.Snapshots.{part_of, restored};
+ghost use Rattle.mb_kv.specs.Machine.{kv_machine};
 
 use crate::kv::Kv;
 use mb_service::services_are_replicable;
@@ -11,7 +10,7 @@ use mb_service::services_are_replicable;
 /// The keys with their values, from no keys on, can be replicated: wherever operations lead, results fit into replies, and the parts of a
 /// state give that state back.
 pub fn kv_is_replicable()
-    ensures { IsReplicable after answer part_of restored [] }
+    ensures { IsReplicable kv_machine [] }
 {
     services_are_replicable::<Kv>();
 }

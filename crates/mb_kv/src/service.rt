@@ -9,21 +9,11 @@ use mb_service::{Restore, Service};
 use std::alloc::Global;
 
 impl Service for Kv {
-    ghost use Rattle.mb_kv.specs.Operations.{after, answer};
-    ghost use Rattle.mb_kv.specs.Snapshots.{part_of, restored};
-    ghost use Rattle.mb_kv.specs.States.{IsState};
+    ghost use Rattle.mb_kv.specs.Machine.{kv_machine};
     ghost use Rattle.mb_kv.specs.Laws.StateLaws.{states_stay, answers_are_short};
     ghost use Rattle.mb_kv.specs.Laws.SnapshotLaws.{parts_give_the_state, one_list_of_parts};
 
-    ghost is_state = { IsState };
-
-    ghost after = { after };
-
-    ghost answer = { answer };
-
-    ghost part_of = { part_of };
-
-    ghost restored = { restored };
+    ghost machine = { kv_machine };
 
     ghost states_stay = { states_stay };
 

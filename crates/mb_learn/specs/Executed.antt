@@ -3,13 +3,14 @@ use Rattle.std.specs.Prelude.{◌≡◌, ℕ, ◌+◌, ◌-◌, ◌*◌, ◌/◌
 use Rattle.std.specs.List.{range_with_len}
 use Rattle.mb_base.specs.Shapes.{Bytes, interval}
 use Rattle.mb_base.specs.declared.shape.Shape.{Shape}
+use Rattle.mb_service.specs.Machine.{ServiceMachine}
 use Rattle.mb_parts.specs.declared.request.Request.{Request}
 use Rattle.mb_parts.specs.declared.batch.Batch.{Batch}
 use Rattle.mb_msg.specs.declared.event.Placed.{Placed}
 use Rattle.mb_msg.specs.declared.event.Slot.{Slot}
 use Rattle.mb_model.specs.Service.{Machine, Served, is_fresh, served, batch_of}
 use Rattle.mb_model.specs.States.{Snapshots, parts_of, state_digest}
-use Rattle.mb_cache.specs.Represents.{joined}
+use Rattle.mb_cache.specs.Represents.{machine_of, snapshots_of, joined}
 use Rattle.mb_learn.specs.declared.line.Line.{Line}
 use Rattle.mb_learn.specs.Proved.{behind, AreMarked, digest_behind}
 
@@ -65,3 +66,7 @@ module _ {S : Type 0} (s : Shape) (m : Machine S) (initial : S) (snapshots : Sna
     pub slot : Slot
     pub batch_is : batch_of slot ≡ batch
     pub executes : Executes (slots ++ slot ∷ []) line
+
+-- So it is whatever a line of this service has executed.
+abbrev pub WhereExecutes : {S : Type 0} → ServiceMachine S → Line S → (Shape → S → List Slot → Type 0) → Type 0
+WhereExecutes {S} m line P = (s : Shape) (initial : S) (slots : List Slot) → Executes s (machine_of m) initial (snapshots_of m) slots line → P s initial slots

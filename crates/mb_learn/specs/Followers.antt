@@ -1,5 +1,5 @@
 -- What a follower of a host stands for: its list, and what waits behind it.
-use Rattle.std.specs.Prelude.{◌≡◌, ℕ, ◌+◌, ◌<◌, true, false, List, ◌∷◌, length, map, reverse, Option, Some, None, option_map, IfSome, if◌then◌else◌, ◌==◌}
+use Rattle.std.specs.Prelude.{◌≡◌, ℕ, ◌+◌, ◌<◌, Bool, true, false, List, ◌∷◌, length, map, reverse, Option, Some, None, option_map, IfSome, Result, IfOk, OnOk, IsTrue, if◌then◌else◌, ◌==◌}
 use Rattle.std.specs.Option.{option_or}
 use Rattle.std.specs.Ordering.{nat_cmp}
 use Rattle.std.specs.BTreeMap.{get}
@@ -56,3 +56,20 @@ module _ (s : Shape) (secret : Bytes) (host : ℕ) where
   abbrev pub Advances : (ℕ → Option Bare) → List Bare → Option Stamped → Follower → Type 0
   Advances first l None new = Follows first new l × IsList s secret host first l
   Advances first l (Some m) new = Follows first new (bare_of m ∷ l) × IsKeptAt host (length l + 1) m
+
+-- ---- whatever is followed
+
+-- What is shown at a counter that is not awaited changes nothing.
+abbrev pub StaysShown : Follower → ℕ → Bool → Type 0
+StaysShown f counter awaited = (s : Shape) (secret : Bytes) (host : ℕ) (first : ℕ → Option Bare) (l : List Bare) (m : Bare) → Follows s secret host first f l → awaited ≡ false
+    → Follows s secret host (shown_too first counter m) f l × (IsList s secret host first l → IsList s secret host (shown_too first counter m) l)
+
+-- A stamp at one that is awaited is kept.
+abbrev pub KeepsShown : {X E : Type 0} → Follower → Stamped → Result X E → Follower → Type 0
+KeepsShown old stamp result new = (s : Shape) (secret : Bytes) (host : ℕ) (first : ℕ → Option Bare) (l : List Bare) → Follows s secret host first old l
+    → IsAwaited s secret host first old l (ui_of stamp).counter → (ui_of stamp).host ≡ host → OnOk result (Follows s secret host (shown_too first (ui_of stamp).counter (bare_of stamp)) new l)
+
+-- The gate takes what may follow the list, and stands behind it then.
+abbrev pub OffersNext : {E : Type 0} → Follower → Bytes → Stamped → Result Bool E → Follower → Type 0
+OffersNext old secret stamp result new = (s : Shape) (host : ℕ) (l : List Bare) → s ≡ old.shape → Represents old.gate (log_of s host l) → (ui_of stamp).counter ≡ length l + 1
+    → IfOk result (λ taken. (taken ≡ may_follow s secret host l (bare_of stamp)) × (IsTrue taken → Represents new.gate (log_of s host (bare_of stamp ∷ l))))

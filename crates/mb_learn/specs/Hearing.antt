@@ -1,5 +1,5 @@
 -- What is heard of all hosts stands for what certificates and shown votes say.
-use Rattle.std.specs.Prelude.{◌≡◌, ℕ, ◌+◌, ◌<◌, ◌^◌, ◌⊎◌, Bool, false, ◌&&◌, if◌then◌else◌, List, [], ◌∷◌, ◌++◌, length, ◌==◌, Option, Some, None, option_map, slice_get, IfSome, IsSome, Contains}
+use Rattle.std.specs.Prelude.{◌≡◌, ℕ, ◌+◌, ◌<◌, ◌^◌, ◌⊎◌, Bool, false, ◌&&◌, if◌then◌else◌, List, [], ◌∷◌, ◌++◌, length, ◌==◌, Option, Some, None, option_map, slice_get, IfSome, IsSome, Result, OnOk, Contains}
 use Rattle.std.specs.List.{list_any, AllByRecursion}
 use Rattle.mb_base.specs.Shapes.{Bytes, host_count}
 use Rattle.mb_base.specs.declared.shape.Shape.{Shape}
@@ -187,3 +187,32 @@ pub record CountsOnly (old new : Heard) : Type 0 where
 abbrev pub CountsToo : ℕ → ℕ → Bare → Heard → Heard → Type 0
 CountsToo host counter m old new = (plans : Plans) (lists : ℕ → List Bare) → ((digest : Bytes) → option_map text_of (plan_at old.plans digest) ≡ plans digest)
     → Counts plans lists old.openings.items old.votes → counter ≡ length (lists host) + 1 → Counts plans (with_list lists host (m ∷ lists host)) new.openings.items new.votes
+
+-- ---- whatever was heard
+
+-- So it is whatever the tables stand for,
+abbrev pub WhereHears : Heard → (Shape → Bytes → List Claim → List Claim → List Shown → (ℕ → List Bare) → Type 0) → Type 0
+WhereHears t P = (s : Shape) (secret : Bytes) (claims said : List Claim) (shown : List Shown) (lists : ℕ → List Bare) → Hears s secret claims said shown lists t → P s secret claims said shown lists
+
+-- with lists that are as long as they can be,
+abbrev pub WhereHearsAll : Heard → (Shape → Bytes → List Claim → List Shown → (ℕ → List Bare) → Type 0) → Type 0
+WhereHearsAll t P = (s : Shape) (secret : Bytes) (claims : List Claim) (shown : List Shown) (lists : ℕ → List Bare) → HearsAll s secret claims shown lists t → P s secret claims shown lists
+
+-- and by some byte strings.
+abbrev pub WhereHearsOf : Heard → (Shape → Bytes → List Bytes → Type 0) → Type 0
+WhereHearsOf t P = (s : Shape) (secret : Bytes) (taken : List Bytes) (lists : ℕ → List Bare) → HearsOf s secret taken lists t → P s secret taken
+
+-- With one claim more they stand for longer lists, which are as long as they can be, where they were so before.
+abbrev pub KeepsWhole : {X E : Type 0} → Heard → Claim → Result X E → Heard → Type 0
+KeepsWhole old claim result new = (s : Shape) (secret : Bytes) (claims said : List Claim) (shown : List Shown) (lists : ℕ → List Bare) → Hears s secret claims said shown lists old
+    → AreWhole s secret claims lists → OnOk result ((longer : ℕ → List Bare) × Hears s secret (claims ++ claim ∷ []) said shown longer new × AreWhole s secret (claims ++ claim ∷ []) longer)
+
+-- They stand for a host's list that is as long as it can be.
+abbrev pub FollowsHost : {X E : Type 0} → Heard → ℕ → Result X E → Heard → Type 0
+FollowsHost old host result new = (s : Shape) (secret : Bytes) (claims said : List Claim) (shown : List Shown) (lists : ℕ → List Bare) → Hears s secret claims said shown lists old
+    → OnOk result ((l : List Bare) × Hears s secret claims said shown (with_list lists host l) new × IsList s secret host (first_of secret claims host) l)
+
+-- A stamp that brings nothing new leaves the followers where they are.
+abbrev pub StaysWhole : Heard → Claim → Type 0
+StaysWhole t claim = (s : Shape) (secret : Bytes) (claims : List Claim) (lists : ℕ → List Bare) → s ≡ t.shape
+    → FollowsWhole s secret claims lists t.followers.items → FollowsWhole s secret (claims ++ claim ∷ []) lists t.followers.items

@@ -1,11 +1,14 @@
 -- What a learner stands for, and what a call of it answers.
-use Rattle.std.specs.Prelude.{◌≡◌, ℕ, ◌+◌, ◌≤◌, true, false, List, [], ◌++◌, length, slice_get, Some, Result, Ok, Err, Contains}
+use Rattle.std.specs.Prelude.{◌≡◌, ℕ, ◌+◌, ◌≤◌, true, false, List, [], ◌++◌, length, slice_get, Some, Result, Ok, Err, OnOk, Contains}
 use Rattle.mb_base.specs.Shapes.{Bytes}
 use Rattle.mb_base.specs.declared.shape.Shape.{Shape}
+use Rattle.mb_service.specs.Machine.{ServiceMachine}
+use Rattle.mb_parts.specs.declared.batch.Batch.{Batch}
 use Rattle.mb_parts.specs.Bares.{Bare}
 use Rattle.mb_msg.specs.declared.event.Slot.{Slot}
 use Rattle.mb_model.specs.Service.{Machine, batch_of}
 use Rattle.mb_model.specs.States.{Snapshots}
+use Rattle.mb_cache.specs.Represents.{machine_of, snapshots_of}
 use Rattle.mb_learn.specs.declared.heard.Heard.{Heard}
 use Rattle.mb_learn.specs.declared.learner.Learner.{Learner}
 use Rattle.mb_learn.specs.declared.learner.LearnStop.{LearnStop}
@@ -85,3 +88,15 @@ pub record Compared {S : Type 0} (old : Learner S) (result : Result (Unit {0}) L
   pub line : new.line ≡ old.line
   pub heard : KeepsTables old.heard new.heard
   pub news : new.heard.newly_said.items ≡ []
+
+-- ---- whatever was learnt
+
+-- So it is whatever a learner of this service stands for.
+abbrev pub WhereLearnt : {S : Type 0} → ServiceMachine S → Learner S → (Shape → Bytes → S → List Bytes → List Slot → Type 0) → Type 0
+WhereLearnt {S} m x P = (s : Shape) (secret : Bytes) (initial : S) (taken : List Bytes) (slots : List Slot) → Represents s secret (machine_of m) (snapshots_of m) initial taken slots x → P s secret initial taken slots
+
+-- All that is proved behind its slots is executed, and no batch is proved behind that.
+abbrev pub ExecutesProved : {S X E : Type 0} → ServiceMachine S → Learner S → Result X E → Learner S → Type 0
+ExecutesProved {S} m old result new = (s : Shape) (secret : Bytes) (initial : S) (taken : List Bytes) (lists : ℕ → List Bare) (slots : List Slot)
+    → Executed s secret (machine_of m) (snapshots_of m) initial taken lists slots old.heard old.line
+    → OnOk result (ExecutedAll s secret (machine_of m) (snapshots_of m) initial taken lists slots new.heard new.line × ((b : Batch) → IsProved s secret taken (length new.line.slots.items + 1) b → ⊥))

@@ -26,18 +26,14 @@ pub(crate) struct Follower {
 }
 
 impl Follower {
-    ghost use Rattle.std.specs.Prelude.{◌≡◌, ◌+◌, ◌<◌, ◌∷◌, [], ℕ, List, Option, None, length, true, false, IfOk, IfSome, OnOk, IsTrue};
+    ghost use Rattle.std.specs.Prelude.{◌≡◌, ◌+◌, ◌<◌, [], ℕ, List, Option, None, true, false, IfOk, IfSome, OnOk, IsTrue};
     ghost use Rattle.std.specs.BTreeMap.{btree_map_len};
     ghost use Rattle.mb_base.specs.Shapes.{Bytes, host_count};
     ghost use Rattle.mb_base.specs.declared.shape.Shape.{Shape as TheShape};
     ghost use Rattle.mb_parts.specs.Bares.{Bare};
     ghost use Rattle.mb_parts.specs.Counters.{at_counter};
     ghost use Rattle.mb_model.specs.Committed.{leads};
-    ghost use Rattle.mb_msg.specs.Stamps.{bare_of, ui_of};
-    ghost use Rattle.mb_gate.specs.Represents.{Represents};
-    ghost use Rattle.mb_audit.specs.Walks.{log_of};
-    ghost use Rattle.mb_learn.specs.Lists.{may_follow, IsList};
-    ghost use Rattle.mb_learn.specs.Followers.{Follows, IsAwaited, Advances, IsFollowing, shown_too};
+    ghost use Rattle.mb_learn.specs.Followers.{Follows, IsAwaited, Advances, IsFollowing, StaysShown, KeepsShown, OffersNext};
     ghost use Rattle.mb_audit.specs.Certified.{IsBareStamp};
 
     /// Nothing was shown yet.
@@ -58,8 +54,7 @@ impl Follower {
     /// Whether what is shown at a counter is the first there, and may come into the list.
     pub(crate) fn awaits(&self, counter: Counter) -> bool
         ensures yes { (s : TheShape) (secret : Bytes) (host : ℕ) (first : ℕ → Option Bare) (l : List Bare) → Follows s secret host first self.now l → IsTrue result → IsAwaited s secret host first self.now l counter }
-        ensures no { (s : TheShape) (secret : Bytes) (host : ℕ) (first : ℕ → Option Bare) (l : List Bare) (m : Bare) → Follows s secret host first self.now l → result ≡ false
-            → Follows s secret host (shown_too first counter m) self.now l × (IsList s secret host first l → IsList s secret host (shown_too first counter m) l) }
+        ensures no { StaysShown self.now counter result }
     {
         if self.ended {
             return false;
@@ -75,8 +70,7 @@ impl Follower {
         requires bare { IsBareStamp self.old.shape stamp }
         requires ready { IsFollowing self.old.shape self.old }
         ensures ready { OnOk result (IsFollowing self.old.shape self.new) }
-        ensures follows { (s : TheShape) (secret : Bytes) (host : ℕ) (first : ℕ → Option Bare) (l : List Bare) → Follows s secret host first self.old l → IsAwaited s secret host first self.old l (ui_of stamp).counter
-            → (ui_of stamp).host ≡ host → OnOk result (Follows s secret host (shown_too first (ui_of stamp).counter (bare_of stamp)) self.new l) }
+        ensures follows { KeepsShown self.old stamp result self.new }
     {
         let _none = self.waiting.insert(stamp.ui().counter, stamp)?;
         Ok(())
@@ -113,8 +107,7 @@ impl Follower {
     /// Offers what stands at the next counter to the gate, and tells whether it takes it.
     fn offer(&mut self, alloc: Global, usig: &Usig, stamp: &Stamped) -> Result<bool, NoMemory>
         requires { IsBareStamp self.old.shape stamp.now }
-        ensures gate { (s : TheShape) (host : ℕ) (l : List Bare) → s ≡ self.old.shape → Represents self.old.gate (log_of s host l) → (ui_of stamp.now).counter ≡ length l + 1
-            → IfOk result (λ taken. (taken ≡ may_follow s usig.now.secret host l (bare_of stamp.now)) × (IsTrue taken → Represents self.new.gate (log_of s host (bare_of stamp.now ∷ l)))) }
+        ensures gate { OffersNext self.old usig.now.secret stamp.now result self.new }
         ensures rest { (self.new.shape ≡ self.old.shape) × (self.new.ended ≡ self.old.ended) × (self.new.waiting ≡ self.old.waiting) × (self.new.led ≡ self.old.led) }
     {
         let body = stamp.body_digest(alloc, &self.shape)?;

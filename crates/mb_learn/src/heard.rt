@@ -46,20 +46,16 @@ pub(crate) struct Heard {
 impl Heard {
     ghost use Rattle.std.specs.Prelude.{◌≡◌, ◌<◌, ◌∷◌, ◌++◌, [], ℕ, List, Option, map, length, true, false, OnOk, IfOk};
     ghost use Rattle.std.specs.List.{AllByRecursion};
-    ghost use Rattle.mb_base.specs.Shapes.{Bytes, host_count};
-    ghost use Rattle.mb_base.specs.declared.shape.Shape.{Shape as TheShape};
+    ghost use Rattle.mb_base.specs.Shapes.{host_count};
     ghost use Rattle.mb_parts.specs.Bares.{Bare};
-    ghost use Rattle.mb_parts.specs.Claims.{Claim};
-    ghost use Rattle.mb_msg.specs.declared.stamped.Shown.{Shown};
     ghost use Rattle.mb_msg.specs.Fits.{FitsFields};
     ghost use Rattle.mb_model.specs.Verified.{verifies};
     ghost use Rattle.mb_model.specs.GateChecks.{stamp_claim};
     ghost use Rattle.mb_model.specs.Inside.{claims_in};
     ghost use Rattle.mb_audit.specs.Certified.{IsBareStamp};
     ghost use Rattle.mb_learn.specs.Shown.{shown_in};
-    ghost use Rattle.mb_learn.specs.Lists.{first_of, IsList};
     ghost use Rattle.mb_learn.specs.Tables.{AddsSaid};
-    ghost use Rattle.mb_learn.specs.Hearing.{IsReady, FollowsWhole, Hears, AreWhole, HearsAll, HearsOf, KeepsPlace, Takes, SaysToo, SaysOnly, newly_said, with_list};
+    ghost use Rattle.mb_learn.specs.Hearing.{IsReady, HearsAll, HearsOf, KeepsPlace, Takes, SaysToo, SaysOnly, newly_said, WhereHearsAll, WhereHearsOf, KeepsWhole, FollowsHost, StaysWhole};
 
     /// Nothing was taken yet.
     pub(crate) fn make(alloc: Global, shape: Shape, secret: &Key) -> Result<Heard, NoMemory>
@@ -85,8 +81,7 @@ impl Heard {
     /// Takes a byte string. Bytes that are no message show nothing.
     pub(crate) fn take(&mut self, alloc: Global, bytes: &[u8]) -> Result<(), NoMemory>
         requires { IsReady self.old }
-        ensures takes { (s : TheShape) (secret : Bytes) (taken : List Bytes) (lists : ℕ → List Bare) → HearsOf s secret taken lists self.old
-            → OnOk result ((longer : ℕ → List Bare) × HearsOf s secret (taken ++ bytes.now ∷ []) longer self.new) }
+        ensures takes { WhereHearsOf self.old (λ s secret taken. OnOk result ((longer : ℕ → List Bare) × HearsOf s secret (taken ++ bytes.now ∷ []) longer self.new)) }
         ensures keeps { OnOk result (KeepsPlace self.old self.new) }
     {
         match decode(alloc, &self.shape, bytes) {
@@ -100,8 +95,7 @@ impl Heard {
     fn take_message(&mut self, alloc: Global, message: Message) -> Result<(), NoMemory>
         requires fits { FitsFields self.old.shape message }
         requires ready { IsReady self.old }
-        ensures takes { (s : TheShape) (secret : Bytes) (claims : List Claim) (shown : List Shown) (lists : ℕ → List Bare) → HearsAll s secret claims shown lists self.old
-            → OnOk result ((longer : ℕ → List Bare) × HearsAll s secret (claims ++ claims_in s message) (shown ++ shown_in message) longer self.new) }
+        ensures takes { WhereHearsAll self.old (λ s secret claims shown lists. OnOk result ((longer : ℕ → List Bare) × HearsAll s secret (claims ++ claims_in s message) (shown ++ shown_in message) longer self.new)) }
         ensures keeps { OnOk result (KeepsPlace self.old self.new) }
     {
         let message = self.hold_message(alloc, message)?;
@@ -141,8 +135,7 @@ impl Heard {
     fn is_known(&self, stamp: &Stamped) -> bool
         requires bare { IsBareStamp self.now.shape stamp.now }
         requires ready { IsReady self.now }
-        ensures { result ≡ true → (s : TheShape) (secret : Bytes) (claims : List Claim) (shown : List Shown) (lists : ℕ → List Bare) → HearsAll s secret claims shown lists self.now
-            → HearsAll s secret (claims ++ stamp_claim stamp.now ∷ []) shown lists self.now }
+        ensures { result ≡ true → WhereHearsAll self.now (λ s secret claims shown lists. HearsAll s secret (claims ++ stamp_claim stamp.now ∷ []) shown lists self.now) }
     {
         !self.awaits(stamp) && self.newly_said_by(stamp).is_none()
     }
@@ -151,8 +144,7 @@ impl Heard {
     fn awaits(&self, stamp: &Stamped) -> bool
         requires bare { IsBareStamp self.now.shape stamp.now }
         requires ready { IsReady self.now }
-        ensures { result ≡ false → (s : TheShape) (secret : Bytes) (claims : List Claim) (lists : ℕ → List Bare) → s ≡ self.now.shape → FollowsWhole s secret claims lists self.now.followers.items
-            → FollowsWhole s secret (claims ++ stamp_claim stamp.now ∷ []) lists self.now.followers.items }
+        ensures { result ≡ false → StaysWhole self.now (stamp_claim stamp.now) }
     {
         let ui = stamp.ui();
         self.followers[usize::from(ui.host)].awaits(ui.counter)
@@ -214,9 +206,7 @@ impl Heard {
     fn keep(&mut self, alloc: Global, stamp: &Stamped) -> Result<(), NoMemory>
         requires bare { IsBareStamp self.old.shape stamp.now }
         requires ready { IsReady self.old }
-        ensures follows { verifies self.old.usig.secret (stamp_claim stamp.now) ≡ true → (s : TheShape) (secret : Bytes) (claims said : List Claim) (shown : List Shown) (lists : ℕ → List Bare)
-            → Hears s secret claims said shown lists self.old → AreWhole s secret claims lists
-            → OnOk result ((longer : ℕ → List Bare) × Hears s secret (claims ++ stamp_claim stamp.now ∷ []) said shown longer self.new × AreWhole s secret (claims ++ stamp_claim stamp.now ∷ []) longer) }
+        ensures follows { verifies self.old.usig.secret (stamp_claim stamp.now) ≡ true → KeepsWhole self.old (stamp_claim stamp.now) result self.new }
         ensures keeps { OnOk result (KeepsPlace self.old self.new) }
     {
         let ui = stamp.ui();
@@ -231,8 +221,7 @@ impl Heard {
     fn follow(&mut self, alloc: Global, host: Host) -> Result<(), NoMemory>
         requires within { host < host_count self.old.shape }
         requires ready { IsReady self.old }
-        ensures follows { (s : TheShape) (secret : Bytes) (claims said : List Claim) (shown : List Shown) (lists : ℕ → List Bare) → Hears s secret claims said shown lists self.old
-            → OnOk result ((l : List Bare) × Hears s secret claims said shown (with_list lists host l) self.new × IsList s secret host (first_of secret claims host) l) }
+        ensures follows { FollowsHost self.old host result self.new }
         ensures keeps { OnOk result (KeepsPlace self.old self.new) }
     {
         while let Some(stamp) = self.followers[usize::from(host)].advance(alloc, &self.usig)? {

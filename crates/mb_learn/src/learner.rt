@@ -49,19 +49,14 @@ pub struct Learner<V> {
 }
 
 impl<V: Service + Drop> Learner<V> {
-    ghost use Rattle.std.specs.Prelude.{◌≡◌, ◌+◌, ◌≤◌, ◌++◌, ◌∷◌, [], ℕ, List, true, OnOk, IfOk, IfSome, IfNone, length};
-    ghost use Rattle.mb_base.specs.Shapes.{Bytes};
-    ghost use Rattle.mb_base.specs.declared.shape.Shape.{Shape as TheShape};
-    ghost use Rattle.mb_parts.specs.Bares.{Bare};
-    ghost use Rattle.mb_msg.specs.declared.event.Slot.{Slot as TheSlot};
+    ghost use Rattle.std.specs.Prelude.{◌≡◌, ◌+◌, ◌≤◌, ◌++◌, ◌∷◌, [], true, OnOk, IfOk, IfSome, IfNone, length};
     ghost use Rattle.mb_cache.specs.Represents.{machine_of, snapshots_of};
-    ghost use Rattle.mb_parts.specs.declared.batch.Batch.{Batch as TheBatch};
     ghost use Rattle.mb_learn.specs.declared.difference.Difference.{Difference as TheDifference};
     ghost use Rattle.mb_learn.specs.Differences.{IsDifference, IsLowest, IsNowhere};
     ghost use Rattle.mb_learn.specs.Halting.{Halts};
     ghost use Rattle.mb_learn.specs.Hearing.{AddsNews};
-    ghost use Rattle.mb_learn.specs.Proved.{digest_behind, IsProved};
-    ghost use Rattle.mb_learn.specs.Learners.{Represents, Answers, Executed, ExecutedAll, Compared};
+    ghost use Rattle.mb_learn.specs.Proved.{digest_behind};
+    ghost use Rattle.mb_learn.specs.Learners.{Represents, Answers, WhereLearnt, ExecutesProved, Compared};
 
     /// A learner that took nothing yet. The service is the one from which the hosts of the system start.
     pub fn make(
@@ -70,7 +65,7 @@ impl<V: Service + Drop> Learner<V> {
         secret: &Key,
         service: V,
     ) -> Result<Learner<V>, NoMemory>
-        ensures { IfOk result (Represents shape secret.now (machine_of V.after V.answer) (snapshots_of V.part_of V.restored) service [] []) }
+        ensures { IfOk result (Represents shape secret.now (machine_of V.machine) (snapshots_of V.machine) service [] []) }
     {
         Ok(Learner {
             heard: Heard::make(alloc, shape, secret)?,
@@ -83,9 +78,7 @@ impl<V: Service + Drop> Learner<V> {
     ///
     /// `Differs` comes exactly where f+1 hosts say another digest of the state at an executed multiple of the interval than the learner has there.
     pub fn learn(&mut self, alloc: Global, bytes: &[u8]) -> Result<u64, LearnStop>
-        ensures answers { (s : TheShape) (secret : Bytes) (initial : V) (taken : List Bytes) (slots : List TheSlot)
-            → Represents s secret (machine_of V.after V.answer) (snapshots_of V.part_of V.restored) initial taken slots self.old
-            → Answers s secret (machine_of V.after V.answer) (snapshots_of V.part_of V.restored) initial (taken ++ bytes.now ∷ []) slots result self.new }
+        ensures answers { WhereLearnt V.machine self.old (λ s secret initial taken slots. Answers s secret (machine_of V.machine) (snapshots_of V.machine) initial (taken ++ bytes.now ∷ []) slots result self.new) }
         ensures halts { Halts self.old result self.new }
     {
         if self.halted {
@@ -102,17 +95,14 @@ impl<V: Service + Drop> Learner<V> {
 
     /// The executed positions, from 1 on.
     pub fn line(&self) -> &[Slot]
-        ensures { (s : TheShape) (secret : Bytes) (initial : V) (taken : List Bytes) (slots : List TheSlot)
-            → Represents s secret (machine_of V.after V.answer) (snapshots_of V.part_of V.restored) initial taken slots self.now → result.now ≡ slots }
+        ensures { WhereLearnt V.machine self.now (λ s secret initial taken slots. result.now ≡ slots) }
     {
         self.line.slots()
     }
 
     /// The state digest at the last executed position. The state stays as it is.
     pub fn state(&mut self, alloc: Global) -> Result<Digest, NoMemory>
-        ensures digest { (s : TheShape) (secret : Bytes) (initial : V) (taken : List Bytes) (slots : List TheSlot)
-            → Represents s secret (machine_of V.after V.answer) (snapshots_of V.part_of V.restored) initial taken slots self.old
-            → IfOk result (λ d. d ≡ digest_behind s (machine_of V.after V.answer) initial (snapshots_of V.part_of V.restored) slots (length slots)) }
+        ensures digest { WhereLearnt V.machine self.old (λ s secret initial taken slots. IfOk result (λ d. d ≡ digest_behind s (machine_of V.machine) initial (snapshots_of V.machine) slots (length slots))) }
         ensures kept { self.new ≡ self.old }
     {
         self.line.state(alloc)
@@ -125,10 +115,7 @@ impl<V: Service + Drop> Learner<V> {
         ensures running { OnOk result (IsRunning self.new.heard self.new.line) }
         ensures halted { self.new.halted ≡ true }
         ensures longer { OnOk result (length self.old.line.slots.items ≤ length self.new.line.slots.items) }
-        ensures executed { (s : TheShape) (secret : Bytes) (initial : V) (taken : List Bytes) (lists : ℕ → List Bare) (slots : List TheSlot)
-            → Executed s secret (machine_of V.after V.answer) (snapshots_of V.part_of V.restored) initial taken lists slots self.old.heard self.old.line
-            → OnOk result (ExecutedAll s secret (machine_of V.after V.answer) (snapshots_of V.part_of V.restored) initial taken lists slots self.new.heard self.new.line
-            × ((b : TheBatch) → IsProved s secret taken (length self.new.line.slots.items + 1) b → ⊥)) }
+        ensures executed { ExecutesProved V.machine self.old result self.new }
         ensures news { OnOk result (AddsNews self.old.heard self.new.heard) }
     {
         while let Some(batch) = self.heard.proved() {

@@ -18,21 +18,19 @@ pub(crate) struct Line<V> {
 }
 
 impl<V: Service + Drop> Line<V> {
-    ghost use Rattle.std.specs.Prelude.{◌≡◌, ◌+◌, ◌<◌, ◌^◌, ◌∷◌, ◌++◌, [], ℕ, List, length, IfOk, OnOk};
+    ghost use Rattle.std.specs.Prelude.{◌≡◌, ◌+◌, ◌<◌, ◌^◌, ◌∷◌, ◌++◌, [], ℕ, length, IfOk, OnOk};
     ghost use Rattle.std.specs.List.{AllByRecursion};
     ghost use Rattle.std.specs.Option.{option_copied};
-    ghost use Rattle.mb_base.specs.declared.shape.Shape.{Shape as TheShape};
     ghost use Rattle.mb_base.specs.Shapes.{client_count};
     ghost use Rattle.mb_parts.specs.Fits.{IsPosition, FitsBatch, FitsRequest};
-    ghost use Rattle.mb_msg.specs.declared.event.Slot.{Slot as TheSlot};
     ghost use Rattle.mb_model.specs.Service.{served, served_each};
     ghost use Rattle.mb_cache.specs.Represents.{machine_of, snapshots_of, joined};
-    ghost use Rattle.mb_learn.specs.Executed.{Executes, ExecutesToo, KeepsSlots, NotesState, state_in, state_now, with_mark, placed_all};
+    ghost use Rattle.mb_learn.specs.Executed.{Executes, WhereExecutes, ExecutesToo, KeepsSlots, NotesState, state_in, state_now, with_mark, placed_all};
     ghost use Rattle.mb_learn.specs.Proved.{digest_behind};
 
     /// Nothing is executed.
     pub(crate) fn make(alloc: Global, shape: Shape, service: V) -> Result<Line<V>, NoMemory>
-        ensures executes { IfOk result (Executes shape (machine_of V.after V.answer) service (snapshots_of V.part_of V.restored) []) }
+        ensures executes { IfOk result (Executes shape (machine_of V.machine) service (snapshots_of V.machine) []) }
         ensures shape { IfOk result (λ line. (line.shape ≡ shape) × (length line.table ≡ client_count shape) × (line.slots.items ≡ [])) }
     {
         Ok(Line {
@@ -60,7 +58,7 @@ impl<V: Service + Drop> Line<V> {
 
     /// The state digest at the last executed position. The state stays as it is.
     pub(crate) fn state(&mut self, alloc: Global) -> Result<Digest, NoMemory>
-        ensures digest { IfOk result (λ d. d ≡ state_now (snapshots_of V.part_of V.restored) self.old) }
+        ensures digest { IfOk result (λ d. d ≡ state_now (snapshots_of V.machine) self.old) }
         ensures kept { self.new ≡ self.old }
     {
         let pos = self.executed();
@@ -72,8 +70,7 @@ impl<V: Service + Drop> Line<V> {
         requires fits { FitsBatch self.old.shape batch.now }
         requires clients { length self.old.table ≡ client_count self.old.shape }
         requires place { length self.old.slots.items + 1 < 2 ^ 63 }
-        ensures executes { (s : TheShape) (initial : V) (slots : List TheSlot) → Executes s (machine_of V.after V.answer) initial (snapshots_of V.part_of V.restored) slots self.old
-            → OnOk result (ExecutesToo s (machine_of V.after V.answer) initial (snapshots_of V.part_of V.restored) slots batch.now self.new) }
+        ensures executes { WhereExecutes V.machine self.old (λ s initial slots. OnOk result (ExecutesToo s (machine_of V.machine) initial (snapshots_of V.machine) slots batch.now self.new)) }
         ensures rest { OnOk result ((self.new.shape ≡ self.old.shape) × (length self.new.table ≡ length self.old.table) × (length self.new.slots.items ≡ length self.old.slots.items + 1)) }
     {
         let pos = self.executed() + 1;
@@ -84,7 +81,7 @@ impl<V: Service + Drop> Line<V> {
 
     /// Notes the state digest at the last executed position, where it is a multiple of the interval.
     fn note_state(&mut self, alloc: Global, pos: Pos) -> Result<(), NoMemory>
-        ensures { OnOk result (NotesState (snapshots_of V.part_of V.restored) pos self.old self.new) }
+        ensures { OnOk result (NotesState (snapshots_of V.machine) pos self.old self.new) }
     {
         if pos % u64::from(self.shape.k()) != 0 {
             return Ok(());
@@ -104,8 +101,8 @@ impl<V: Service + Drop> Line<V> {
         requires fit { AllByRecursion (FitsRequest self.old.shape) requests.now }
         requires clients { length self.old.table ≡ client_count self.old.shape }
         requires position { IsPosition pos }
-        ensures placed { IfOk result (λ l. l ≡ placed_all (machine_of V.after V.answer) (joined self.old.service self.old.table) pos requests.now) }
-        ensures served { IfOk result (λ l. joined self.new.service self.new.table ≡ served_each (machine_of V.after V.answer) (joined self.old.service self.old.table) pos l) }
+        ensures placed { IfOk result (λ l. l ≡ placed_all (machine_of V.machine) (joined self.old.service self.old.table) pos requests.now) }
+        ensures served { IfOk result (λ l. joined self.new.service self.new.table ≡ served_each (machine_of V.machine) (joined self.old.service self.old.table) pos l) }
         ensures rest { OnOk result (KeepsSlots self.old self.new) }
     {
         let mut placed = Items::new(alloc);
@@ -120,7 +117,7 @@ impl<V: Service + Drop> Line<V> {
         requires client { request.now.client < length self.old.table }
         requires position { IsPosition pos }
         ensures placed { IfOk result (λ p. p ≡ with_mark (joined self.old.service self.old.table) request.now) }
-        ensures served { OnOk result (joined self.new.service self.new.table ≡ served (machine_of V.after V.answer) (joined self.old.service self.old.table) pos request.now) }
+        ensures served { OnOk result (joined self.new.service self.new.table ≡ served (machine_of V.machine) (joined self.old.service self.old.table) pos request.now) }
         ensures rest { OnOk result (KeepsSlots self.old self.new) }
     {
         let result = self.table.execute(alloc, &mut self.service, pos, request)?;

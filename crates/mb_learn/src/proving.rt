@@ -5,25 +5,18 @@ use crate::votes::Cast;
 use mb_msg::Batch;
 
 impl Heard {
-    ghost use Rattle.std.specs.Prelude.{◌≡◌, ◌+◌, ℕ, List, false, IfSome, IfNone, IsTrue};
-    ghost use Rattle.mb_base.specs.Shapes.{Bytes};
-    ghost use Rattle.mb_base.specs.declared.shape.Shape.{Shape as TheShape};
+    ghost use Rattle.std.specs.Prelude.{◌≡◌, ◌+◌, false, IfSome, IfNone, IsTrue};
     ghost use Rattle.mb_parts.specs.declared.batch.Batch.{Batch as TheBatch};
-    ghost use Rattle.mb_parts.specs.Bares.{Bare};
-    ghost use Rattle.mb_parts.specs.Claims.{Claim};
     ghost use Rattle.mb_parts.specs.Fits.{FitsBatch};
-    ghost use Rattle.mb_msg.specs.declared.stamped.Shown.{Shown};
     ghost use Rattle.mb_learn.specs.Held.{known_plans};
-    ghost use Rattle.mb_learn.specs.Hearing.{IsReady, Hears};
+    ghost use Rattle.mb_learn.specs.Hearing.{IsReady, WhereHears};
     ghost use Rattle.mb_learn.specs.Next.{IsAgreed, IsNext, IsNextBy, HasNext};
 
     /// The batch of the next position, where one is proved there.
     pub(crate) fn proved(&self) -> Option<&Batch>
         requires { IsReady self.now }
-        ensures some { (s : TheShape) (secret : Bytes) (claims said : List Claim) (shown : List Shown) (lists : ℕ → List Bare) → Hears s secret claims said shown lists self.now
-            → IfSome result (λ b. IsNext s secret shown lists (self.now.votes.executed + 1) b.now) }
-        ensures none { (s : TheShape) (secret : Bytes) (claims said : List Claim) (shown : List Shown) (lists : ℕ → List Bare) → Hears s secret claims said shown lists self.now
-            → IfNone result ((b : TheBatch) → IsNext s secret shown lists (self.now.votes.executed + 1) b → ⊥) }
+        ensures some { WhereHears self.now (λ s secret claims said shown lists. IfSome result (λ b. IsNext s secret shown lists (self.now.votes.executed + 1) b.now)) }
+        ensures none { WhereHears self.now (λ s secret claims said shown lists. IfNone result ((b : TheBatch) → IsNext s secret shown lists (self.now.votes.executed + 1) b → ⊥)) }
         ensures fits { IfSome result (λ b. FitsBatch self.now.shape b.now) }
         ensures next { IfSome result (λ b. HasNext self.now.votes) }
     {
@@ -38,10 +31,8 @@ impl Heard {
     /// The batch that a vote for the next position is for, where it is proved.
     fn proved_by(&self, cast: &Cast) -> Option<&Batch>
         requires { IsReady self.now }
-        ensures some { (s : TheShape) (secret : Bytes) (claims said : List Claim) (shown : List Shown) (lists : ℕ → List Bare) → Hears s secret claims said shown lists self.now
-            → IfSome result (λ b. IsNextBy s secret shown lists (self.now.votes.executed + 1) cast.now.view cast.now.vote b.now) }
-        ensures none { (s : TheShape) (secret : Bytes) (claims said : List Claim) (shown : List Shown) (lists : ℕ → List Bare) → Hears s secret claims said shown lists self.now
-            → IfNone result ((b : TheBatch) → IsNextBy s secret shown lists (self.now.votes.executed + 1) cast.now.view cast.now.vote b → ⊥) }
+        ensures some { WhereHears self.now (λ s secret claims said shown lists. IfSome result (λ b. IsNextBy s secret shown lists (self.now.votes.executed + 1) cast.now.view cast.now.vote b.now)) }
+        ensures none { WhereHears self.now (λ s secret claims said shown lists. IfNone result ((b : TheBatch) → IsNextBy s secret shown lists (self.now.votes.executed + 1) cast.now.view cast.now.vote b → ⊥)) }
         ensures fits { IfSome result (λ b. FitsBatch self.now.shape b.now) }
     {
         if !self.is_agreed(cast) {
@@ -53,10 +44,8 @@ impl Heard {
     /// Whether f+1 hosts have this vote for the next position, and the primary ordered what it is for.
     fn is_agreed(&self, cast: &Cast) -> bool
         requires { IsReady self.now }
-        ensures yes { (s : TheShape) (secret : Bytes) (claims said : List Claim) (shown : List Shown) (lists : ℕ → List Bare) → Hears s secret claims said shown lists self.now
-            → IsTrue result → IsAgreed s (known_plans s secret shown) lists (self.now.votes.executed + 1) cast.now.view cast.now.vote }
-        ensures no { (s : TheShape) (secret : Bytes) (claims said : List Claim) (shown : List Shown) (lists : ℕ → List Bare) → Hears s secret claims said shown lists self.now
-            → result ≡ false → IsAgreed s (known_plans s secret shown) lists (self.now.votes.executed + 1) cast.now.view cast.now.vote → ⊥ }
+        ensures yes { WhereHears self.now (λ s secret claims said shown lists. IsTrue result → IsAgreed s (known_plans s secret shown) lists (self.now.votes.executed + 1) cast.now.view cast.now.vote) }
+        ensures no { WhereHears self.now (λ s secret claims said shown lists. result ≡ false → IsAgreed s (known_plans s secret shown) lists (self.now.votes.executed + 1) cast.now.view cast.now.vote → ⊥) }
     {
         let leader = self.shape.primary(cast.view);
         if !self.followers[usize::from(leader)].leads(cast.view, cast.vote.counter) {

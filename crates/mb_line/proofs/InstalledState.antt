@@ -8,6 +8,7 @@ use Rattle.std.specs.List.{AllByRecursion, list_all, range_with_len}
 use Rattle.std.proofs.lemmas.Bool.{and_parts, or_cases, eqb-true}
 use Rattle.std.proofs.lemmas.List.{length-map, length-append}
 use Rattle.sha2.specs.Sha256.{sha256}
+use Rattle.mb_base.specs.Limits.{part_count, service_parts}
 use Rattle.mb_base.specs.Shapes.{Bytes, quorum, host_count}
 use Rattle.mb_parts.specs.declared.certificates.StableMember.{StableMember}
 use Rattle.mb_parts.specs.declared.certificates.StableCert.{StableCert}
@@ -140,11 +141,11 @@ module _ {S : Type 0} (system : System S) (w : World) (f : Facts system w) (jump
     pub place : slot.pos ≡ pos
     pub parts_are : parts ≡ parts_of system.snapshots (state_of (self_of system host) (Executed slot ∷ before))
 
-  present_length : (h : ℕ) (d : History) → length (part_digests (present_parts (self_of system h) d)) ≡ 65
+  present_length : (h : ℕ) (d : History) → length (part_digests (present_parts (self_of system h) d)) ≡ part_count
   unfolding parts_of
   present_length h d =
       let x = state_of (self_of system h) d in
-      length-map (parts_of system.snapshots x) sha256 ∙ length-append (map (system.snapshots.part x.state) (range_with_len 0 64)) (table_bytes x.table ∷ []) ∙ ap (λ (n : ℕ). n + 1) (length-map (range_with_len 0 64) (system.snapshots.part x.state) ∙ range_length 0 64)
+      length-map (parts_of system.snapshots x) sha256 ∙ length-append (map (system.snapshots.part x.state) (range_with_len 0 service_parts)) (table_bytes x.table ∷ []) ∙ ap (λ (n : ℕ). n + 1) (length-map (range_with_len 0 service_parts) (system.snapshots.part x.state) ∙ range_length 0 service_parts)
 
   pub installed_state : (h pos : ℕ) (parts : List Bytes) (d : History) → IsCorrect system.schedule h → IsPast (Installed pos parts ∷ d) (w.histories h) → IsStateOf pos parts
   installed_state h pos parts d correct past =
@@ -157,7 +158,7 @@ module _ {S : Type 0} (system : System S) (w : World) (f : Facts system w) (jump
       let there : List Bytes = present_parts (self_of system once.host) (Executed once.slot ∷ once.before) in
       let one : digest_string (part_digests parts) pos ≡ digest_string (part_digests there) pos =
       f.apart _ _ (contained w.hashed _ c.string) (contained w.hashed _ once.string) (c.state ∙ sym once.digest) in
-      let digests : part_digests parts ≡ part_digests there = digests_apart 65 pos (part_digests parts) (part_digests there) c.short (c.many, digests_of parts) (present_length once.host (Executed once.slot ∷ once.before), digests_of there) one in
+      let digests : part_digests parts ≡ part_digests there = digests_apart part_count pos (part_digests parts) (part_digests there) c.short (c.many, digests_of parts) (present_length once.host (Executed once.slot ∷ once.before), digests_of there) one in
       record {
         host = once.host;
         correct = once.correct;

@@ -6,6 +6,7 @@ use Rattle.std.proofs.lemmas.Bool.{and_parts, cases_Bool, cases_lt, cases_eq, eq
 use Rattle.std.proofs.lemmas.List.{get_or-set_same, get_or-set_other}
 use Rattle.std.proofs.lemmas.Option.{unwrap_or-slice_get}
 use Rattle.std.proofs.Math.Seq.{take-length, take-append_seam}
+use Rattle.mb_base.specs.Limits.{text_limit}
 use Rattle.mb_base.specs.Shapes.{Bytes, client_count}
 use Rattle.mb_base.specs.Spelling.{number}
 use Rattle.mb_usig.specs.Tags.{same_bytes, reply_tag}
@@ -60,10 +61,10 @@ fits_found [] c a = fits_none
 fits_found (x ∷ t) zero a = a.0
 fits_found (x ∷ t) (suc c) a = fits_found t c a.1
 
-short_result : (seq n : ℕ) → is_size_of seq n ≡ true → n ≤ 1024
+short_result : (seq n : ℕ) → is_size_of seq n ≡ true → n ≤ text_limit
 short_result seq n e = elim (cases_Bool (eqb seq 0)) [
   | inl none ↦ let z : n ≡ 0 = eqb-true n 0 (rw none at e) in omega (arith, z)
-  | inr some ↦ leb-true n 1024 (rw some at e)
+  | inr some ↦ leb-true n text_limit (rw some at e)
 ]
 
 -- a served request writes the reply of its client, where it is fresh, and no other

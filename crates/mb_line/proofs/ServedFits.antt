@@ -8,6 +8,7 @@ use Rattle.std.specs.Int.{w16, w64}
 use Rattle.std.proofs.lemmas.Bool.{cases_Bool, and_from, lt-ltb, le-leb, ne_eqb}
 use Rattle.std.proofs.lemmas.List.{append_assoc, length-map, length-replicate, length-set}
 use Rattle.std.proofs.lemmas.List.Concat.{flat_map-cons}
+use Rattle.mb_base.specs.Limits.{service_parts, table_part, text_limit}
 use Rattle.mb_base.specs.Shapes.{Bytes}
 use Rattle.mb_base.specs.declared.shape.Shape.{Shape}
 use Rattle.mb_base.specs.Spelling.{number, text16}
@@ -19,7 +20,7 @@ use Rattle.mb_parts.specs.declared.limits.TheConstants.{MAX_PLACE}
 use Rattle.mb_parts.specs.Fits.{FitsText, FitsRequest}
 use Rattle.mb_model.specs.declared.known.LastReply.{LastReply}
 use Rattle.mb_model.specs.Service.{Machine, Served, no_reply, start, served, served_each, is_fresh}
-use Rattle.mb_model.specs.States.{Snapshots, is_place_of, is_size_of, last_reply_at, table_bytes, table_of, parts_of, restored, service_parts, table_part}
+use Rattle.mb_model.specs.States.{Snapshots, is_place_of, is_size_of, last_reply_at, table_bytes, table_of, parts_of, restored}
 use Rattle.mb_promise.specs.Headline.{state_after, IsService}
 use Rattle.mb_model.proofs.Lists.{get_push}
 use Rattle.mb_line.proofs.Marks.{requests_of}
@@ -137,8 +138,8 @@ module _ {S : Type 0} (machine : Machine S) (snapshots : Snapshots S) (initial :
     place : (seq : ℕ) → 1 ≤ seq → is_place_of seq pos ≡ true
     place seq le = rw (ne_eqb seq 0 (λ e. omega (arith, le, e))) (and_from (nat_lt 0 pos) (nat_le pos MAX_PLACE) (lt-ltb 0 pos above) (le-leb pos MAX_PLACE (omega (arith, below))))
 
-    size : (seq n : ℕ) → 1 ≤ seq → n ≤ 1024 → is_size_of seq n ≡ true
-    size seq n le short = rw (ne_eqb seq 0 (λ e. omega (arith, le, e))) (le-leb n 1024 short)
+    size : (seq n : ℕ) → 1 ≤ seq → n ≤ text_limit → is_size_of seq n ≡ true
+    size seq n le short = rw (ne_eqb seq 0 (λ e. omega (arith, le, e))) (le-leb n text_limit short)
 
   -- so do the requests of a batch
   pub each_fits : (s : Shape) (x : Served S) (pos : ℕ) (ps : List Placed) → 0 < pos → pos < 2 ^ 63 → AllByRecursion (FitsRequest s) (requests_of ps) → Fitting x → Fitting (served_each machine x pos ps)
@@ -167,8 +168,8 @@ module _ {S : Type 0} (machine : Machine S) (snapshots : Snapshots S) (initial :
   pub parts_back : (x : Served S) → Fitting x → restored snapshots clients (parts_of snapshots x) ≡ Ok x
   unfolding parts_of
   parts_back x f =
-      let l : List Bytes = map (snapshots.part x.state) (range_with_len 0 64) in
-      let many : length l ≡ 64 = length-map (range_with_len 0 64) (snapshots.part x.state) ∙ range_length 0 64 in
-      let state : snapshots.restored l ≡ Ok x.state = subst (λ (y : S). snapshots.restored (map (snapshots.part y) (range_with_len 0 64)) ≡ Ok y) (sym f.state) (service.whole f.ops f.texts) in
+      let l : List Bytes = map (snapshots.part x.state) (range_with_len 0 service_parts) in
+      let many : length l ≡ service_parts = length-map (range_with_len 0 service_parts) (snapshots.part x.state) ∙ range_length 0 service_parts in
+      let state : snapshots.restored l ≡ Ok x.state = subst (λ (y : S). snapshots.restored (map (snapshots.part y) (range_with_len 0 service_parts)) ≡ Ok y) (sym f.state) (service.whole f.ops f.texts) in
       let table : table_of clients (table_bytes x.table) ≡ Ok x.table = subst (λ (n : ℕ). table_of n (table_bytes x.table) ≡ Ok x.table) f.many (table_back x.table f.table) in
-      joined_back l x 64 64 refl refl many many state table
+      joined_back l x service_parts service_parts refl refl many many state table

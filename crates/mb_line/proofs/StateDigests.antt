@@ -8,6 +8,7 @@ use Rattle.std.specs.List.{AllByRecursion, range_with_len, flat_map}
 use Rattle.std.specs.Int.{w64}
 use Rattle.sha2.specs.Sha256.{sha256}
 use Rattle.sha2.proofs.Facts256.{length-sha256}
+use Rattle.mb_base.specs.Limits.{part_count}
 use Rattle.mb_base.specs.Shapes.{Bytes}
 use Rattle.mb_base.specs.Spelling.{number}
 use Rattle.mb_base.specs.Reading.{bytes_at, number_at, pair_at, repeat_at}
@@ -99,7 +100,7 @@ module _ {S : Type 0} (system : System S) (w : World) (f : Facts system w) (h : 
   -- A part is listed at its number in a list of digests that the stable certificate gives.
   record IsListed (d : History) (i : ℕ) (b : Bytes) : Type 0 where
     digests : List Bytes
-    are : AreDigests 65 digests
+    are : AreDigests part_count digests
     string : In w.hashed (digest_string digests (low_of self d))
     state : sha256 (digest_string digests (low_of self d)) ≡ (stable_of self d).state
     listed : sha256 b ≡ string_at digests i
@@ -166,7 +167,7 @@ module _ {S : Type 0} (system : System S) (w : World) (f : Facts system w) (h : 
     pub place : pos ≡ low_of self d
     pub above : 0 < pos
     pub short : pos < 2 ^ 64
-    pub many : length (part_digests parts) ≡ 65
+    pub many : length (part_digests parts) ≡ part_count
     pub state : state_digest parts pos ≡ (stable_of self d).state
     pub string : In w.hashed (digest_string (part_digests parts) pos)
     pub hashed : AllByRecursion (In w.hashed) parts
@@ -184,7 +185,7 @@ module _ {S : Type 0} (system : System S) (w : World) (f : Facts system w) (h : 
       let b = held i (omega (arith, lt, first.are.0)) in
       let x = listed d before i b.0 b.1 in
       let one : digest_string x.digests (low_of self d) ≡ digest_string l (low_of self d) = f.apart _ _ (contained w.hashed _ x.string) (contained w.hashed _ first.string) (x.state ∙ sym first.state) in
-      let same : x.digests ≡ l = digests_apart 65 (low_of self d) x.digests l first.short x.are first.are one in
+      let same : x.digests ≡ l = digests_apart part_count (low_of self d) x.digests l first.short x.are first.are one in
       let s : i ≡ 0 + i = omega arith in
       (b.0, subst (λ (k : ℕ). part_held self d k ≡ Some b.0) s b.1, x.listed ∙ ap (λ (y : List Bytes). string_at y i) same, x.hashed) in
       let all : AreFound w.hashed l (filter_map (part_held self d) (range_with_len 0 (length l))) = found_all w.hashed (part_held self d) l 0 each in

@@ -4,6 +4,7 @@ use Rattle.std.specs.Prelude.{◌==◌, nat_lt, nat_le, find, slice_get, unwrap_
 use Rattle.std.specs.List.{range_with_len}
 use Rattle.std.proofs.lemmas.Bool.{and_parts, cases_Bool, eqb-true, ltb-true, leb-true}
 use Rattle.sha2.specs.Sha256.{sha256}
+use Rattle.mb_base.specs.Limits.{part_count}
 use Rattle.mb_base.specs.Shapes.{Bytes}
 use Rattle.mb_usig.specs.Tags.{same_bytes}
 use Rattle.mb_usig.proofs.Laws.{same_bytes-true}
@@ -104,5 +105,5 @@ module _ {S : Type 0} (self : Identity S) where
   some_there (Some b) e = (b, refl)
 
   -- Where none is missing, each part is held.
-  pub each_held : (d : History) → missing self d ≡ None → (i : ℕ) → i < 65 → (b : Bytes) × (part_held self d i ≡ Some b)
-  each_held d none i lt = some_there (part_held self d i) (let s : 0 + i ≡ i = omega arith in subst (λ (k : ℕ). is_none (part_held self d k) ≡ false) s (none_in_range (λ j. is_none (part_held self d j)) 0 65 none i lt))
+  pub each_held : (d : History) → missing self d ≡ None → (i : ℕ) → i < part_count → (b : Bytes) × (part_held self d i ≡ Some b)
+  each_held d none i lt = some_there (part_held self d i) (let s : 0 + i ≡ i = omega arith in subst (λ (k : ℕ). is_none (part_held self d k) ≡ false) s (none_in_range (λ j. is_none (part_held self d j)) 0 part_count none i lt))

@@ -4,6 +4,7 @@ use Rattle.std.specs.Prelude.{count_by, not, nat_lt}
 use Rattle.std.proofs.lemmas.Bool.{cases_lt}
 use Rattle.std.proofs.lemmas.List.Sums.{sum_by-cons, sum_by_push}
 use Rattle.std.proofs.lemmas.List.{reverse-append, take-map, length-map, length-reverse, append-nil}
+use Rattle.mb_base.specs.Limits.{other_limit}
 use Rattle.mb_base.specs.declared.shape.Shape.{Shape}
 use Rattle.mb_parts.specs.declared.floor.Floor.{Floor}
 use Rattle.mb_parts.specs.declared.certificates.FloorCert.{FloorCert}
@@ -12,7 +13,7 @@ use Rattle.mb_msg.specs.declared.stamped.Stamped.{Stamped as StampedMessage}
 use Rattle.mb_msg.specs.Spelling.{stamped_kind}
 use Rattle.mb_model.specs.Histories.{History, Identity, stamped as all_stamped, counter_of}
 use Rattle.mb_model.specs.Stable.{log_floor, floor_counter as model_counter, counter_in as model_counter_in}
-use Rattle.mb_model.specs.UsableLogs.{normal_limit, other_limit}
+use Rattle.mb_model.specs.UsableLogs.{normal_limit}
 use Rattle.mb_model.specs.OwnLog.{is_normal, behind, as_shown, first_packed, kept_forms, own_log, log_kept, log_start, log_longest, is_unspent, has_room, has_other_room, since}
 use Rattle.mb_log.specs.Logs.{Log, counter_in, floor_counter, start, is_normal_kind, has_room_for, appended, cut_at, given_from}
 use Rattle.mb_log.specs.Represents.{Represents, count_since, kept_since, count_from, StandsWith, StandsCut, Gives}

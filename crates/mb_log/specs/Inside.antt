@@ -1,8 +1,9 @@
 -- What a log's fields are.
 use Rattle.std.specs.Prelude.{◌≡◌, ◌+◌, ◌^◌, ◌<◌, ◌≤◌, not, count_by}
 use Rattle.std.specs.List.{AllByRecursion}
+use Rattle.mb_base.specs.Limits.{other_limit}
 use Rattle.mb_msg.specs.Fits.{FitsStamped}
-use Rattle.mb_model.specs.UsableLogs.{normal_limit, other_limit}
+use Rattle.mb_model.specs.UsableLogs.{normal_limit}
 use Rattle.mb_model.specs.OwnLog.{is_normal}
 use Rattle.mb_log.specs.declared.log.OwnLog.TheInside.{Inside}
 use Rattle.mb_log.specs.Logs.{Log, floor_counter}

@@ -1,12 +1,13 @@
 -- A log: what a host stamped since its floor, in the forms in which it is kept; and what each call makes of it.
 use Rattle.std.specs.Prelude.{ℕ, ◌+◌, ◌-◌, Bool, true, ◌||◌, not, List, [], ◌∷◌, ◌++◌, length, map, max, drop, nat_lt, ◌==◌, Option, Some, None, if◌then◌else◌, count_by}
+use Rattle.mb_base.specs.Limits.{other_limit}
 use Rattle.mb_base.specs.declared.shape.Shape.{Shape}
 use Rattle.mb_parts.specs.declared.floor.Floor.{Floor}
 use Rattle.mb_parts.specs.declared.certificates.FloorCert.{FloorCert}
 use Rattle.mb_parts.specs.Certificates.{first_floor}
 use Rattle.mb_parts.specs.declared.certificates.StableCert.{StableCert}
 use Rattle.mb_msg.specs.declared.stamped.Stamped.{Stamped as StampedMessage}
-use Rattle.mb_model.specs.UsableLogs.{normal_limit, other_limit}
+use Rattle.mb_model.specs.UsableLogs.{normal_limit}
 use Rattle.mb_log.specs.declared.proof.Proof.{Proof}
 use Rattle.mb_model.specs.OwnLog.{is_normal, behind, as_shown, first_packed}
 

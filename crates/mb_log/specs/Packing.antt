@@ -1,6 +1,6 @@
 -- When a LOG has no room for one more message.
 use Rattle.std.specs.Prelude.{ℕ, Bool, ◌&&◌, ◌||◌, nat_lt, nat_le}
-use Rattle.mb_model.specs.OwnLog.{entry_limit, entry_bytes_limit}
+use Rattle.mb_base.specs.Limits.{entry_limit, entry_bytes_limit}
 
 -- behind so many, where all have so many bytes: the first one always goes
 abbrev pub is_too_much : ℕ → ℕ → Bool

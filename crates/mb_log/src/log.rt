@@ -6,15 +6,9 @@ use crate::proof::Proof;
 use circular_buffer::HeapCircularBuffer;
 use mb_base::{Counter, Digest, Duplicate, Host, Items, NoMemory, Shape};
 use mb_msg::{Floor, FloorCert, FloorMember, Shown, StableCert, Stamped};
-use mb_parts::Part;
+use mb_parts::{LOG_INTERVALS, MAX_ENTRIES, OTHER_LIMIT, Part};
 use std::alloc::Global;
 use std::marker::Model;
-
-/// The most entries of the kinds other than PREPARE, COMMIT and CHECKPOINT.
-const OTHER_LIMIT: u32 = 768;
-
-/// The most entries of a LOG.
-const MAX_SENT: usize = 64;
 
 /// The most bytes that the entries of a LOG have together, where there are several.
 const MAX_SENT_BYTES: usize = 800_000;
@@ -65,7 +59,7 @@ impl OwnLog {
     pub fn make(alloc: Global, shape: Shape, host: Host) -> Result<OwnLog, NoMemory>
         ensures empty { IfOk result (λ log. log ≡ empty_log shape host) }
     {
-        let room = normal_limit(&shape) + OTHER_LIMIT;
+        let room = normal_limit(&shape) + OTHER_LIMIT as u32;
         Ok(OwnLog {
             shape,
             host,
@@ -85,7 +79,7 @@ impl OwnLog {
         if is_normal_kind(kind) {
             self.normal < normal_limit(&self.shape)
         } else {
-            self.others() < OTHER_LIMIT
+            self.others() < OTHER_LIMIT as u32
         }
     }
 
@@ -215,11 +209,11 @@ ghost use Rattle.mb_log.specs.Takers.{takes_bodies};
 ghost use Rattle.mb_parts.specs.Certificates.{floor_for};
 ghost use Rattle.std.specs.Prelude.{Some};
 
-/// The most PREPAREs, COMMITs and CHECKPOINTs: six times the checkpoint interval.
+/// The most PREPAREs, COMMITs and CHECKPOINTs.
 fn normal_limit(shape: &Shape) -> u32
     ensures { result ≡ normal_limit shape.now }
 {
-    6 * u32::from(shape.k())
+    LOG_INTERVALS as u32 * u32::from(shape.k())
 }
 
 /// The counter of a host's floor in the first member of a certificate, 0 where there is none.
@@ -282,7 +276,7 @@ fn sent_from(
 fn is_too_much(sent: usize, bytes: usize) -> bool
     ensures { result ≡ is_too_much sent bytes }
 {
-    sent >= MAX_SENT || (sent > 0 && bytes > MAX_SENT_BYTES)
+    sent >= MAX_ENTRIES as usize || (sent > 0 && bytes > MAX_SENT_BYTES)
 }
 
 /// 1 for a PREPARE, COMMIT or CHECKPOINT, 0 for another message.

@@ -3,6 +3,7 @@
 use Rattle.std.specs.Prelude.{◌≡◌, ℕ, ◌+◌, Bool, ◌&&◌, ◌||◌, not, List, [], ◌∷◌, map, filter_map, max, nat_lt, nat_le, ◌==◌, Option, Some, None, if◌then◌else◌, option_map, option_and_then}
 use Rattle.std.specs.List.{range_with_len}
 use Rattle.std.specs.Option.{option_or}
+use Rattle.mb_base.specs.Limits.{ahead_limit}
 use Rattle.mb_base.specs.Shapes.{span, quorum, host_count, client_count}
 use Rattle.mb_parts.specs.declared.request.Request.{Request}
 use Rattle.mb_parts.specs.declared.batch.Batch.{Batch}
@@ -65,10 +66,6 @@ greatest (n ∷ ns) = max n (greatest ns)
 abbrev pub greatest_in : ℕ → Option Batch → ℕ
 greatest_in c None = 0
 greatest_in c (Some b) = greatest (map (number_of c) b.requests)
-
--- how many positions a primary orders ahead of what it executed
-abbrev pub ahead_limit : ℕ
-ahead_limit = 4
 
 module _ {S : Type 0} (self : Identity S) where
   -- ---- a greater view is asked for by f+1 hosts, or announced, or f+1 hosts are known to take part in the change to it

@@ -2,6 +2,7 @@
 use Rattle.std.proofs.Common.{◌≡◌, ◌≢◌, ℕ, ◌+◌, ◌^◌, ◌≤◌, ◌++◌, Bool, true, false, eqb, cond, not, ◌&&◌, Option, None, Ok, length, refl, sym, ap, subst, ◌∙◌, arith, append_assoc, lit<, lit≤}
 use Rattle.std.proofs.lemmas.Bool.{eqb-true, eqb-false}
 use Rattle.std.specs.Int.{w8, w16, w64}
+use Rattle.mb_base.specs.Limits.{entry_limit}
 use Rattle.mb_base.specs.declared.shape.Shape.{Shape}
 use Rattle.mb_base.specs.Shapes.{Bytes, IsShape, quorum}
 use Rattle.mb_base.specs.Spelling.{number, IsBytes}
@@ -241,4 +242,4 @@ module _ (s : Shape) (h : IsShape s) where
       pair_field _ _ _ _ _ _ (optional_field _ _ _ (floor_cert_field s h)) (
       pair_field _ _ _ _ _ _ (any_stable_field s h) (
       pair_field _ _ _ _ _ _ (optional_field _ _ _ (any_evidence_field s h))
-      (list_field w16 (2 ^ 16) 0 64 (lit< tt) wide16 _ _ _ stamped_field)))))
+      (list_field w16 (2 ^ 16) 0 entry_limit (lit< tt) wide16 _ _ _ stamped_field)))))

@@ -2,6 +2,7 @@
 use Rattle.std.proofs.Common.{◌≡◌, ℕ, ◌+◌, ◌-◌, ◌^◌, ◌<◌, ◌≤◌, ◌++◌, List, length, refl, ap, subst, arith, append_assoc, lit<, lit≤}
 use Rattle.std.specs.Int.{w8, w32, w64}
 use Rattle.std.specs.List.{AllByRecursion}
+use Rattle.mb_base.specs.Limits.{text_limit, part_count, table_part}
 use Rattle.mb_base.specs.declared.shape.Shape.{Shape}
 use Rattle.mb_base.specs.Shapes.{Bytes, IsShape, host_count}
 use Rattle.mb_base.specs.Spelling.{number, text, listed}
@@ -58,7 +59,7 @@ module _ (s : Shape) (h : IsShape s) where
       pair_field _ _ _ _ _ _ (client_field s h) (
       pair_field _ _ _ _ _ _ counter_field (
       pair_field _ _ _ _ _ _ place_field (
-      pair_field _ _ _ _ _ _ (text16_field 1024 (lit< tt)) digest_field)))))
+      pair_field _ _ _ _ _ _ (text16_field text_limit (lit< tt)) digest_field)))))
 
   floors_body_field : IsField (floors_body_at s) floors_body_bytes (FitsFloorsBody s)
   unfolding floors_body_at
@@ -197,18 +198,18 @@ module _ (s : Shape) (h : IsShape s) where
       (λ m f. ((m.host, (m.of, (m.pos, m.first))), refl, (f.host, (f.asked, (f.pos, (omega arith, f.first)))))) (
       pair_field _ _ _ _ _ _ (host_field s h) (
       pair_field _ _ _ _ _ _ (host_field s h) (
-      pair_field _ _ _ _ _ _ (point_field s h) (ranged_field w8 (2 ^ 8) 0 64 (lit< tt) wide8))))
+      pair_field _ _ _ _ _ _ (point_field s h) (ranged_field w8 (2 ^ 8) 0 table_part (lit< tt) wide8))))
 
   state_part_field : IsField state_part_at (text w32) FitsStatePart
   state_part_field = iff_field _ _ _ _ (λ p f. omega (arith, f.1)) (λ p f. (omega arith, omega (arith, f))) (text_field w32 (2 ^ 32) 0 (2 ^ 32 - 1) (lit< tt) wide32)
 
   abbrev PartsFit : ℕ × List Bytes → Type 0
-  PartsFit p = ((0 ≤ p.0) × (p.0 ≤ 64)) × (((1 ≤ length p.1) × (length p.1 ≤ 65 - p.0)) × AllByRecursion FitsStatePart p.1)
+  PartsFit p = ((0 ≤ p.0) × (p.0 ≤ table_part)) × (((1 ≤ length p.1) × (length p.1 ≤ part_count - p.0)) × AllByRecursion FitsStatePart p.1)
 
   state_parts_field : IsField state_parts_at (λ p. number w8 p.0 ++ listed w8 (text w32) p.1) PartsFit
   state_parts_field =
-      then_field _ _ _ _ (λ first parts. listed w8 (text w32) parts) (λ first parts. ((1 ≤ length parts) × (length parts ≤ 65 - first)) × AllByRecursion FitsStatePart parts)
-      (ranged_field w8 (2 ^ 8) 0 64 (lit< tt) wide8) (λ first f. list_field w8 (2 ^ 8) 1 (65 - first) (omega arith) wide8 _ _ _ state_part_field)
+      then_field _ _ _ _ (λ first parts. listed w8 (text w32) parts) (λ first parts. ((1 ≤ length parts) × (length parts ≤ part_count - first)) × AllByRecursion FitsStatePart parts)
+      (ranged_field w8 (2 ^ 8) 0 table_part (lit< tt) wide8) (λ first f. list_field w8 (2 ^ 8) 1 (part_count - first) (omega arith) wide8 _ _ _ state_part_field)
 
   pub state_field : IsField (state_at s) state_bytes (FitsState s)
   unfolding state_at state_bytes
@@ -219,4 +220,4 @@ module _ (s : Shape) (h : IsShape s) where
       (λ m f. ((m.host, (m.pos, (m.digests, (m.first, m.parts)))), refl, (f.host, (f.pos, ((f.digest_count, f.digests), ((omega arith, f.first), (f.count, f.parts))))))) (
       pair_field _ _ _ _ _ _ (host_field s h) (
       pair_field _ _ _ _ _ _ (point_field s h) (
-      pair_field _ _ _ _ _ _ (repeat_field 65 _ _ _ digest_field) state_parts_field)))
+      pair_field _ _ _ _ _ _ (repeat_field part_count _ _ _ digest_field) state_parts_field)))

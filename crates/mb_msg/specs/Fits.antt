@@ -1,8 +1,8 @@
 -- The values that the grammar of messages has.
 use Rattle.std.specs.Prelude.{◌≡◌, ⊤, ℕ, ◌+◌, ◌*◌, ◌-◌, ◌≤◌, ◌<◌, length, IfSome}
 use Rattle.std.specs.List.{AllByRecursion}
+use Rattle.mb_base.specs.Limits.{message_limit, log_intervals, other_limit, entry_limit, part_count, table_part}
 use Rattle.mb_base.specs.Shapes.{host_count, client_count, quorum, interval}
-use Rattle.mb_base.specs.declared.limits.TheConstants.{MESSAGE_LIMIT}
 use Rattle.mb_base.specs.declared.shape.Shape.{Shape}
 use Rattle.mb_parts.specs.declared.certificates.Evidence.{Evidence}
 use Rattle.mb_parts.specs.Fits.{IsCounter, IsPlace, IsPosition, IsDigest, IsBase, IsEnd, FitsText, FitsStatePart, AreMembers, FitsRequest, FitsBatch, CanDigest, FitsUi, FitsFloors, FitsStable, FitsFloorCert, FitsEvidence, FitsJoined}
@@ -39,7 +39,7 @@ use Rattle.mb_msg.specs.Spelling.{spelling}
 
 -- the most entries that a VIEW_CHANGE shows
 abbrev pub shown_limit : Shape → ℕ
-shown_limit s = 6 * interval s + 768
+shown_limit s = log_intervals * interval s + other_limit
 
 -- ---- a view that goes its way
 
@@ -199,22 +199,22 @@ pub record FitsLog (s : Shape) (m : Log) : Type 0 where
   pub floor : IfSome m.floor (FitsFloorCert s)
   pub stable : FitsStable s m.stable
   pub evidence : IfSome m.evidence (FitsEvidence s)
-  pub count : length m.entries ≤ 64
+  pub count : length m.entries ≤ entry_limit
   pub entries : AllByRecursion (FitsStamped s) m.entries
 
 pub record FitsFetch (s : Shape) (m : Fetch) : Type 0 where
   pub host : m.host < host_count s
   pub asked : m.of < host_count s
   pub pos : (1 ≤ m.pos) × IsBase s m.pos
-  pub first : m.first ≤ 64
+  pub first : m.first ≤ table_part
 
 pub record FitsState (s : Shape) (m : StateMsg) : Type 0 where
   pub host : m.host < host_count s
   pub pos : (1 ≤ m.pos) × IsBase s m.pos
-  pub digest_count : length m.digests ≡ 65
+  pub digest_count : length m.digests ≡ part_count
   pub digests : AllByRecursion IsDigest m.digests
-  pub first : m.first ≤ 64
-  pub count : (1 ≤ length m.parts) × (length m.parts ≤ 65 - m.first)
+  pub first : m.first ≤ table_part
+  pub count : (1 ≤ length m.parts) × (length m.parts ≤ part_count - m.first)
   pub parts : AllByRecursion FitsStatePart m.parts
 
 abbrev pub FitsStop : Stop → Type 0
@@ -243,4 +243,4 @@ FitsFields s (message.Stop m) = FitsStop m
 
 pub record Fits (s : Shape) (m : Message) : Type 0 where
   pub fields : FitsFields s m
-  pub size : length (spelling m) ≤ MESSAGE_LIMIT
+  pub size : length (spelling m) ≤ message_limit

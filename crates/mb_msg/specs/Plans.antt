@@ -3,6 +3,7 @@ use Rattle.std.specs.Prelude.{ℕ, ◌+◌, ◌≤◌, ◌++◌, length, map, Li
 use Rattle.std.specs.List.{flat_map, AllByRecursion}
 use Rattle.std.specs.Int.{w8, w64}
 use Rattle.sha2.specs.Sha256.{sha256}
+use Rattle.mb_base.specs.Limits.{plan_limit}
 use Rattle.mb_base.specs.Shapes.{Bytes}
 use Rattle.mb_base.specs.Spelling.{number}
 use Rattle.mb_parts.specs.Fits.{IsPlace, CanDigest}
@@ -21,7 +22,7 @@ plan_digest p = sha256 (plan_text p)
 
 -- short enough to be hashed and counted
 abbrev pub CanHash : Plan → Type 0
-CanHash p = IsPlace p.base.pos × ((length p.batches ≤ 64) × AllByRecursion CanDigest p.batches)
+CanHash p = IsPlace p.base.pos × ((length p.batches ≤ plan_limit) × AllByRecursion CanDigest p.batches)
 
 -- the last position that it carries on
 abbrev pub plan_end : Plan → ℕ

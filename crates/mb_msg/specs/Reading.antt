@@ -1,9 +1,9 @@
 -- Reading a message from left to right, with the offset of the first field that is short or has a value that isn't allowed.
 use Rattle.std.specs.Prelude.{ℕ, ◌-◌, Bool, ◌&&◌, not, length, nat_lt, ◌==◌, if◌then◌else◌, List, Option, None, Result, Ok, Err}
 use Rattle.std.specs.Int.{w8, w16}
+use Rattle.mb_base.specs.Limits.{message_limit, text_limit, entry_limit, part_count, table_part}
 use Rattle.mb_base.specs.Shapes.{Bytes, host_count, quorum}
 use Rattle.mb_base.specs.Reading.{Cursor, cursor, Reads, ◌>>=◌, number_in, checked_at, text16_at, pair_at, then_at, map_at, optional_at, repeat_at, list_in, rising_at}
-use Rattle.mb_base.specs.declared.limits.TheConstants.{MESSAGE_LIMIT}
 use Rattle.mb_base.specs.declared.shape.Shape.{Shape}
 use Rattle.mb_base.specs.declared.names.Ui.{Ui}
 use Rattle.mb_parts.specs.declared.limits.TheConstants.{MAX_PLACE}
@@ -64,7 +64,7 @@ abbrev pub reply_of_fields : ℕ × (ℕ × (ℕ × (ℕ × (Bytes × Bytes)))) 
 reply_of_fields p = record { host = p.0; client = p.1.0; seq = p.1.1.0; pos = p.1.1.1.0; result = p.1.1.1.1.0; tag = p.1.1.1.1.1 }
 
 unfoldable pub reply_at : Shape → Cursor → Reads Reply
-reply_at s = map_at reply_of_fields (pair_at (host_at s) (pair_at (client_at s) (pair_at counter_at (pair_at place_at (pair_at (text16_at 1024) digest_at)))))
+reply_at s = map_at reply_of_fields (pair_at (host_at s) (pair_at (client_at s) (pair_at counter_at (pair_at place_at (pair_at (text16_at text_limit) digest_at)))))
 
 abbrev pub floors_body_of : List (Option Floor) → Floors
 floors_body_of floors = record { floors = floors }
@@ -216,23 +216,23 @@ abbrev pub log_of_fields : ℕ × (Option FloorCert × (StableCert × (Option Ev
 log_of_fields p = record { host = p.0; floor = p.1.0; stable = p.1.1.0; evidence = p.1.1.1.0; entries = p.1.1.1.1 }
 
 unfoldable pub log_at : Shape → Cursor → Reads Log
-log_at s = map_at log_of_fields (pair_at (host_at s) (pair_at (optional_at (floor_cert_at s)) (pair_at (stable_at s) (pair_at (optional_at (evidence_at s)) (list_in w16 0 64 (stamped_at s))))))
+log_at s = map_at log_of_fields (pair_at (host_at s) (pair_at (optional_at (floor_cert_at s)) (pair_at (stable_at s) (pair_at (optional_at (evidence_at s)) (list_in w16 0 entry_limit (stamped_at s))))))
 
 abbrev pub fetch_of_fields : ℕ × (ℕ × (ℕ × ℕ)) → Fetch
 fetch_of_fields p = record { host = p.0; of = p.1.0; pos = p.1.1.0; first = p.1.1.1 }
 
 unfoldable pub fetch_at : Shape → Cursor → Reads Fetch
-fetch_at s = map_at fetch_of_fields (pair_at (host_at s) (pair_at (host_at s) (pair_at (point_at s) (number_in w8 0 64))))
+fetch_at s = map_at fetch_of_fields (pair_at (host_at s) (pair_at (host_at s) (pair_at (point_at s) (number_in w8 0 table_part))))
 
 abbrev pub state_of_fields : ℕ × (ℕ × (List Bytes × (ℕ × List Bytes))) → StateMsg
 state_of_fields p = record { host = p.0; pos = p.1.0; digests = p.1.1.0; first = p.1.1.1.0; parts = p.1.1.1.1 }
 
 -- the first part's number, and at least one part
 abbrev pub state_parts_at : Cursor → Reads (ℕ × List Bytes)
-state_parts_at = then_at (number_in w8 0 64) (λ first. list_in w8 1 (65 - first) state_part_at)
+state_parts_at = then_at (number_in w8 0 table_part) (λ first. list_in w8 1 (part_count - first) state_part_at)
 
 unfoldable pub state_at : Shape → Cursor → Reads StateMsg
-state_at s = map_at state_of_fields (pair_at (host_at s) (pair_at (point_at s) (pair_at (repeat_at digest_at 65) state_parts_at)))
+state_at s = map_at state_of_fields (pair_at (host_at s) (pair_at (point_at s) (pair_at (repeat_at digest_at part_count) state_parts_at)))
 
 abbrev pub stop_of : Bytes → Stop
 stop_of tag = record { tag = tag }
@@ -254,7 +254,7 @@ behind_kind_at s kind =
 
 -- all of the bytes: the offset of the first surplus byte, or the limit where the input is longer
 unfoldable pub message_of : Shape → Bytes → Result Message ℕ
-message_of s bytes = if nat_lt MESSAGE_LIMIT (length bytes) then Err MESSAGE_LIMIT else whole (cursor 0 bytes) where
+message_of s bytes = if nat_lt message_limit (length bytes) then Err message_limit else whole (cursor 0 bytes) where
   ended : Message × Cursor → Result Message ℕ
   ended m = if length m.1.rest == 0 then Ok m.0 else Err m.1.at
 

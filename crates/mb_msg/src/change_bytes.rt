@@ -17,17 +17,17 @@ use crate::shown_bytes::{count_plan, put_plan};
 use crate::stamped::Shown;
 use mb_base::{Fields, Host, NoMemory, Shape, Ui, put_u8, put_u64};
 use mb_parts::{
-    Member, Part, Readable, StableCert, Undecoded, all_fit, count_listed, count_u8, count_u64,
-    is_base, is_end, is_position, put_listed, read_base, read_digest, read_end, read_listed,
-    read_members, read_position, read_ui_from, rise,
+    LOG_INTERVALS, Member, OTHER_LIMIT, Part, Readable, StableCert, Undecoded, all_fit,
+    count_listed, count_u8, count_u64, is_base, is_end, is_position, put_listed, read_base,
+    read_digest, read_end, read_listed, read_members, read_position, read_ui_from, rise,
 };
 use std::alloc::Global;
 
-/// The most entries that a VIEW_CHANGE shows: six intervals of votes and CHECKPOINTs, and 768 of the other kinds.
+/// The most entries that a VIEW_CHANGE shows, of votes and CHECKPOINTs and of the other kinds.
 fn most_shown(shape: &Shape) -> u16
     ensures { result ≡ shown_limit shape.now }
 {
-    6 * u16::from(shape.k()) + 768
+    LOG_INTERVALS as u16 * u16::from(shape.k()) + OTHER_LIMIT
 }
 
 impl Part for ChangeBody {

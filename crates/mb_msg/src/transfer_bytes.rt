@@ -2,6 +2,7 @@
 
 ghost use Rattle.std.specs.Prelude.{◌-◌, ◌≤◌, IfOk};
 ghost use Rattle.std.specs.Int.{w8};
+ghost use Rattle.mb_base.specs.Limits.{part_count, table_part};
 ghost use Rattle.mb_base.specs.Fields.{place_of};
 ghost use Rattle.mb_base.specs.Spelling.{number};
 ghost use Rattle.mb_base.specs.Reading.{number_in, list_in};
@@ -15,17 +16,11 @@ use crate::stamped::Stamped;
 use crate::transfer::{Fetch, Log, Resend, StateMsg};
 use mb_base::{Fields, Items, NoMemory, Shape, put_u8, put_u64};
 use mb_parts::{
-    Part, Readable, StableCert, Undecoded, all_fit, count_all, count_listed, count_u8, count_u64,
-    is_base, is_place, put_all, put_listed, read_host, read_listed, read_parts, read_place,
-    read_point,
+    MAX_ENTRIES, PART_COUNT, Part, Readable, StableCert, Undecoded, all_fit, count_all,
+    count_listed, count_u8, count_u64, is_base, is_place, put_all, put_listed, read_host,
+    read_listed, read_parts, read_place, read_point,
 };
 use std::alloc::Global;
-
-/// The most entries of a LOG.
-const MAX_ENTRIES: u16 = 64;
-
-/// How many parts a state has.
-const PARTS: u8 = 65;
 
 impl Part for Resend {
     ghost text = { resend_bytes };
@@ -129,7 +124,7 @@ impl Part for Fetch {
             && self.of < shape.n()
             && self.pos >= 1
             && is_base(shape, self.pos)
-            && self.first < PARTS
+            && self.first < PART_COUNT
     }
 
     #[tactic(auto, using(mb_parts::proofs::CountedBytes::counted_behind), unfolding(crate::specs::Spelling::fetch_bytes))]
@@ -175,20 +170,20 @@ fn read_parts_behind(
     first: u8,
     fields: &mut Fields<'_>,
 ) -> Result<Items<Items<u8>>, Undecoded>
-    requires { first ≤ 64 }
-    ensures { Decodes result fields.new (list_in w8 1 (65 - first) state_part_at (place_of fields.old)) }
+    requires { first ≤ table_part }
+    ensures { Decodes result fields.new (list_in w8 1 (part_count - first) state_part_at (place_of fields.old)) }
 {
-    let count = fields.u8_in(1, PARTS - first)?;
+    let count = fields.u8_in(1, PART_COUNT - first)?;
     read_parts(alloc, shape, u64::from(count), fields)
 }
 
 /// The number of the first part that is there.
 #[tactic(auto, unfolding(mb_base::specs::Reading::number_in))]
 fn read_first(fields: &mut Fields<'_>) -> Result<u8, Undecoded>
-    ensures below { IfOk result (λ n. n ≤ 64) }
-    ensures read { Decodes result fields.new (number_in w8 0 64 (place_of fields.old)) }
+    ensures below { IfOk result (λ n. n ≤ table_part) }
+    ensures read { Decodes result fields.new (number_in w8 0 table_part (place_of fields.old)) }
 {
-    Ok(fields.u8_in(0, PARTS - 1)?)
+    Ok(fields.u8_in(0, PART_COUNT - 1)?)
 }
 
 /// The number of the first part that is there, and at least one part.
@@ -213,11 +208,11 @@ impl Part for StateMsg {
         self.host < shape.n()
             && self.pos >= 1
             && is_base(shape, self.pos)
-            && self.digests.len() == PARTS as usize
+            && self.digests.len() == PART_COUNT as usize
             && all_fit(shape, self.digests.as_slice())
-            && self.first < PARTS
+            && self.first < PART_COUNT
             && self.parts.len() >= 1
-            && self.parts.len() <= (PARTS - self.first) as usize
+            && self.parts.len() <= (PART_COUNT - self.first) as usize
             && all_fit(shape, self.parts.as_slice())
     }
 
@@ -249,7 +244,7 @@ impl Readable for StateMsg {
     fn read(alloc: Global, shape: &Shape, fields: &mut Fields<'_>) -> Result<StateMsg, Undecoded> {
         let host = read_host(shape, fields)?;
         let pos = read_point(shape, fields)?;
-        let digests = read_parts(alloc, shape, u64::from(PARTS), fields)?;
+        let digests = read_parts(alloc, shape, u64::from(PART_COUNT), fields)?;
         let (first, parts) = read_some_parts(alloc, shape, fields)?;
         Ok(StateMsg {
             host,

@@ -1,7 +1,8 @@
 -- One receive of a node, and what follows.
 use Rattle.std.proofs.Common.{◌≡◌, ℕ, ◌+◌, Bool, true, false, List, [], ◌∷◌, length, sym, ap, ◌∙◌, Option, Some, None, subst, arith}
-use Rattle.std.specs.Prelude.{◌%◌, ◌^◌, if◌then◌else◌, Result}
-use Rattle.mb_base.specs.Shapes.{Bytes, host_count}
+use Rattle.std.specs.Prelude.{◌%◌, ◌^◌, if◌then◌else◌}
+use Rattle.mb_base.specs.Shapes.{host_count}
+use Rattle.mb_service.specs.Machine.{ServiceMachine}
 use Rattle.mb_msg.specs.declared.event.Event.{Event}
 use Rattle.mb_model.specs.Histories.{History, Identity, onto}
 use Rattle.mb_steps.specs.Arises.{IsWhole}
@@ -24,7 +25,7 @@ use Rattle.mb_node.specs.Turns.{HasTurned}
 use Rattle.mb_node.specs.Rounds.{quiets_of, event_of, IsServing, Goes, GoesOn, IsStopped}
 use Rattle.mb_node.proofs.Runs.{next_events, same_quiets, cut_lost, cut_more, serving_same, goes_to_stop, goes_on}
 
-module _ {V : Type 0} (is_state : V → Type 0) (after : V → Bytes → V) (result : V → Bytes → Bytes) (part : V → ℕ → Bytes) (restored : List Bytes → Result V (ℕ × ℕ)) (node : Node) (old : Replica V) (here mid : Outside) (told told_mid : Option Receives)
+module _ {V : Type 0} (machine : ServiceMachine V) (node : Node) (old : Replica V) (here mid : Outside) (told told_mid : Option Receives)
     (written : mid.written ≡ here.written) (sent : mid.sent ≡ here.sent) where
   pub done_moved : (me : Identity V) (start : History) (o : Outside) (es : List Event) → AreDone me start o here es → AreDone me start o mid es
   done_moved me start o es done = record { written = rw written done.written; sent = sent ∙ done.sent }
@@ -42,7 +43,7 @@ module _ {V : Type 0} (is_state : V → Type 0) (after : V → Bytes → V) (res
 
   -- ---- the receive failed
 
-  unfoldable pub round_lost : old.halted ≡ false → LosesOne told told_mid → IsStopped is_state after result part restored node old old told told_mid here mid
+  unfoldable pub round_lost : old.halted ≡ false → LosesOne told told_mid → IsStopped machine node old old told told_mid here mid
   round_lost runs lost = record {
     more = lost.more;
     told = lost.told;
@@ -64,7 +65,7 @@ module _ {V : Type 0} (is_state : V → Type 0) (after : V → Bytes → V) (res
         (sym (ev_is me d so_far.stands.represents ∙ ap (λ (n : ℕ). event_of (wants me d) n arrival) so_far.counted ∙ ap (event_of (wants me d) (quiets me start (events me start receives))) arrives))
 
     -- that is no event
-    unfoldable pub round_quietly : (now : Node) → ev ≡ None → now.receiver ≡ next → now.quiets ≡ node.quiets → now.outbox ≡ node.outbox → GoesOn is_state after result part restored node now old old told told_mid here mid false
+    unfoldable pub round_quietly : (now : Node) → ev ≡ None → now.receiver ≡ next → now.quiets ≡ node.quiets → now.outbox ≡ node.outbox → GoesOn machine node now old old told told_mid here mid false
     round_quietly now none receiver counted outbox = record {
       one = gives.one;
       told = gives.told;
@@ -84,8 +85,8 @@ module _ {V : Type 0} (is_state : V → Type 0) (after : V → Bytes → V) (res
       count_is me d rep = same_quiets (wants me d) node.quiets arrival e (sym (ev_is me d rep) ∙ some)
 
       -- where it stopped on the way
-      unfoldable pub round_cut : ((me : Identity V) (d : History) (n : ℕ) → Serves is_state after result part restored me → Represents me old d → IsWhole d → node.outbox.hosts ≡ host_count me.shape → node.outbox.host ≡ me.host → node.outbox.number ≡ n % 2 ^ 32 → IsCutOff me mid there later.halted n d e)
-          → IsStopped is_state after result part restored node old later told told_mid here there
+      unfoldable pub round_cut : ((me : Identity V) (d : History) (n : ℕ) → Serves machine me → Represents me old d → IsWhole d → node.outbox.hosts ≡ host_count me.shape → node.outbox.host ≡ me.host → node.outbox.number ≡ n % 2 ^ 32 → IsCutOff me mid there later.halted n d e)
+          → IsStopped machine node old later told told_mid here there
       round_cut cut = record {
         more = gives.one ∷ [];
         told = gives.told;
@@ -101,15 +102,15 @@ module _ {V : Type 0} (is_state : V → Type 0) (after : V → Bytes → V) (res
       -- where it is whole
       unfoldable pub round_turned : (now : Node) (t : Turn) (stopped : Bool) → t.stops ≡ stopped → later.halted ≡ false → now.receiver ≡ next → now.quiets ≡ (if t.settles then 0 else node.quiets + quiets_of arrival)
           → now.outbox.hosts ≡ node.outbox.hosts → now.outbox.host ≡ node.outbox.host
-          → ((me : Identity V) (d : History) (n : ℕ) → Serves is_state after result part restored me → Represents me old d → IsWhole d → node.outbox.hosts ≡ host_count me.shape → node.outbox.host ≡ me.host → node.outbox.number ≡ n % 2 ^ 32 → HasTurned me d n e mid there later now.outbox t)
-          → GoesOn is_state after result part restored node now old later told told_mid here there stopped
+          → ((me : Identity V) (d : History) (n : ℕ) → Serves machine me → Represents me old d → IsWhole d → node.outbox.hosts ≡ host_count me.shape → node.outbox.host ≡ me.host → node.outbox.number ≡ n % 2 ^ 32 → HasTurned me d n e mid there later now.outbox t)
+          → GoesOn machine node now old later told told_mid here there stopped
       round_turned now t stopped stopping runs receiver counted hosts host turned = record {
         one = gives.one;
         told = gives.told;
         of_bytes = gives.of_bytes;
         goes = λ me start o receives serves so_far unstopped. either me start o receives serves so_far unstopped stopped stopping;
       } where
-        either : (me : Identity V) (start : History) (o : Outside) (receives : Receives) → Serves is_state after result part restored me → IsServing me start o receives here node old → has_stop me start (events me start receives) ≡ false
+        either : (me : Identity V) (start : History) (o : Outside) (receives : Receives) → Serves machine me → IsServing me start o receives here node old → has_stop me start (events me start receives) ≡ false
             → (b : Bool) → t.stops ≡ b → Goes me start o (gives.one ∷ receives) there now later b
         either me start o receives serves so_far unstopped true is =
             let es : List Event = events me start receives in

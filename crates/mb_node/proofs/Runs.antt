@@ -7,6 +7,7 @@ use Rattle.std.specs.List.{flat_map, AllByRecursion}
 use Rattle.std.proofs.lemmas.List.{reverse-append}
 use Rattle.std.proofs.lemmas.List.Concat.{flat_map-append}
 use Rattle.mb_base.specs.Shapes.{Bytes, host_count}
+use Rattle.mb_service.specs.Machine.{ServiceMachine}
 use Rattle.mb_msg.specs.declared.event.Event.{Event}
 use Rattle.mb_msg.specs.declared.event.Event.TheVariants as event
 use Rattle.mb_model.specs.Histories.{History, Identity, onto}
@@ -254,14 +255,14 @@ module _ {V : Type 0} (me : Identity V) (start : History) where
 
 -- ---- all receives
 
-module _ {V : Type 0} (is_state : V → Type 0) (after : V → Bytes → V) (result : V → Bytes → Bytes) (part : V → ℕ → Bytes) (restored : List Bytes → Result V (ℕ × ℕ)) (old : Replica V) (told : Option Receives) (before : Outside) where
+module _ {V : Type 0} (machine : ServiceMachine V) (old : Replica V) (told : Option Receives) (before : Outside) where
   -- so many receives, and a node that stands behind them, whatever history the host stood for
   pub record SoFar (now : Replica V) (told_now : Option Receives) (here : Outside) (node : Node) (count : ℕ) : Type 0 where
     pub receives : Receives
     pub told_is : told_now ≡ with_more told (reverse receives)
     pub counted : length receives ≡ count
     pub of_bytes : AllByRecursion ReceiveFits receives
-    pub stands : (me : Identity V) (d : History) → Serves is_state after result part restored me → Represents me old d → IsWhole d → IsServing me d before receives here node now × (has_stop me d (events me d receives) ≡ false)
+    pub stands : (me : Identity V) (d : History) → Serves machine me → Represents me old d → IsWhole d → IsServing me d before receives here node now × (has_stop me d (events me d receives) ≡ false)
 
   unfoldable pub so_far_none : (node : Node) → old.halted ≡ false → ((me : Identity V) (d : History) → Represents me old d → HasReceived me.shape [] node.receiver.inbox)
       → ((me : Identity V) (d : History) → Represents me old d → node.outbox ≡ record { host = me.host; hosts = host_count me.shape; number = 0 }) → node.quiets ≡ 0 → SoFar old told before node 0
@@ -286,7 +287,7 @@ module _ {V : Type 0} (is_state : V → Type 0) (after : V → Bytes → V) (res
   }
 
   -- memory ran out before the first receive
-  unfoldable pub ends_unbegun : (budget : ℕ) → HasServed is_state after result part restored old old budget told told before before (Err stop.NoMemory)
+  unfoldable pub ends_unbegun : (budget : ℕ) → HasServed machine old old budget told told before before (Err stop.NoMemory)
   unfolding events
   ends_unbegun budget = record {
     receives = [];
@@ -296,7 +297,7 @@ module _ {V : Type 0} (is_state : V → Type 0) (after : V → Bytes → V) (res
   }
 
   module _ (mid now : Replica V) (told_mid told_now : Option Receives) (here there : Outside) (node later : Node) (count : ℕ) (so_far : SoFar mid told_mid here node count) where
-    unfoldable pub so_far_more : GoesOn is_state after result part restored node later mid now told_mid told_now here there false → SoFar now told_now there later (count + 1)
+    unfoldable pub so_far_more : GoesOn machine node later mid now told_mid told_now here there false → SoFar now told_now there later (count + 1)
     so_far_more on = record {
       receives = on.one ∷ so_far.receives;
       told_is = told_more told told_mid told_now so_far.receives (on.one ∷ []) so_far.told_is on.told;
@@ -305,7 +306,7 @@ module _ {V : Type 0} (is_state : V → Type 0) (after : V → Bytes → V) (res
       stands = λ me d serves rep whole. let x = so_far.stands me d serves rep whole in on.goes me d before so_far.receives serves x.0 x.1;
     }
 
-    unfoldable pub ends_by_stop : (budget : ℕ) → count + 1 ≤ budget → GoesOn is_state after result part restored node later mid now told_mid told_now here there true → HasServed is_state after result part restored old now budget told told_now before there (Ok tt)
+    unfoldable pub ends_by_stop : (budget : ℕ) → count + 1 ≤ budget → GoesOn machine node later mid now told_mid told_now here there true → HasServed machine old now budget told told_now before there (Ok tt)
     ends_by_stop budget within on = record {
       receives = on.one ∷ so_far.receives;
       told = told_more told told_mid told_now so_far.receives (on.one ∷ []) so_far.told_is on.told;
@@ -316,7 +317,7 @@ module _ {V : Type 0} (is_state : V → Type 0) (after : V → Bytes → V) (res
           (y.0, y.1, y.2, omega (arith, so_far.counted, within));
     }
 
-    unfoldable pub ends_cut : (budget : ℕ) (e : ServeStop) → ((n : ℕ) → e ≡ stop.Budget n → ⊥) → count + 1 ≤ budget → IsStopped is_state after result part restored node mid now told_mid told_now here there → HasServed is_state after result part restored old now budget told told_now before there (Err e)
+    unfoldable pub ends_cut : (budget : ℕ) (e : ServeStop) → ((n : ℕ) → e ≡ stop.Budget n → ⊥) → count + 1 ≤ budget → IsStopped machine node mid now told_mid told_now here there → HasServed machine old now budget told told_now before there (Err e)
     ends_cut budget e other within is = record {
       receives = is.more ++ so_far.receives;
       told = told_more told told_mid told_now so_far.receives is.more so_far.told_is (is.told ∙ ap (with_more told_mid) (few_reversed is.more is.few));
@@ -335,7 +336,7 @@ module _ {V : Type 0} (is_state : V → Type 0) (after : V → Bytes → V) (res
       by_error stop.DiskFault never me d cut = (cut, short)
       by_error (stop.Full length) never me d cut = (cut, short)
 
-  unfoldable pub ends_by_budget : (now : Replica V) (told_now : Option Receives) (here : Outside) (node : Node) (budget : ℕ) → SoFar now told_now here node budget → HasServed is_state after result part restored old now budget told told_now before here (Err (stop.Budget budget))
+  unfoldable pub ends_by_budget : (now : Replica V) (told_now : Option Receives) (here : Outside) (node : Node) (budget : ℕ) → SoFar now told_now here node budget → HasServed machine old now budget told told_now before here (Err (stop.Budget budget))
   ends_by_budget now told_now here node budget so_far = record {
     receives = so_far.receives;
     told = so_far.told_is;
@@ -344,19 +345,19 @@ module _ {V : Type 0} (is_state : V → Type 0) (after : V → Bytes → V) (res
   }
 
 -- a round that stopped
-pub round_stopped : {V : Type 0} (is_state : V → Type 0) (after : V → Bytes → V) (result : V → Bytes → Bytes) (part : V → ℕ → Bytes) (restored : List Bytes → Result V (ℕ × ℕ)) (old now : Node) (r_old r_now : Replica V) (told_before told_now : Option Receives) (here there : Outside) (e : ServeStop)
-    → Rounds is_state after result part restored old now r_old r_now told_before told_now here there (Err e) → ((n : ℕ) → e ≡ stop.Budget n → ⊥) × IsStopped is_state after result part restored old r_old r_now told_before told_now here there
-round_stopped is_state after result part restored old now r_old r_now told_before told_now here there stop.LinkFault is = (λ n e. absurd cc, is)
-round_stopped is_state after result part restored old now r_old r_now told_before told_now here there stop.SinkFault is = (λ n e. absurd cc, is)
-round_stopped is_state after result part restored old now r_old r_now told_before told_now here there (stop.Budget n) is = absurd is
-round_stopped is_state after result part restored old now r_old r_now told_before told_now here there stop.NoMemory is = (λ n e. absurd cc, is)
-round_stopped is_state after result part restored old now r_old r_now told_before told_now here there stop.DiskFault is = (λ n e. absurd cc, is)
-round_stopped is_state after result part restored old now r_old r_now told_before told_now here there (stop.Full length) is = (λ n e. absurd cc, is)
+pub round_stopped : {V : Type 0} (machine : ServiceMachine V) (old now : Node) (r_old r_now : Replica V) (told_before told_now : Option Receives) (here there : Outside) (e : ServeStop)
+    → Rounds machine old now r_old r_now told_before told_now here there (Err e) → ((n : ℕ) → e ≡ stop.Budget n → ⊥) × IsStopped machine old r_old r_now told_before told_now here there
+round_stopped machine old now r_old r_now told_before told_now here there stop.LinkFault is = (λ n e. absurd cc, is)
+round_stopped machine old now r_old r_now told_before told_now here there stop.SinkFault is = (λ n e. absurd cc, is)
+round_stopped machine old now r_old r_now told_before told_now here there (stop.Budget n) is = absurd is
+round_stopped machine old now r_old r_now told_before told_now here there stop.NoMemory is = (λ n e. absurd cc, is)
+round_stopped machine old now r_old r_now told_before told_now here there stop.DiskFault is = (λ n e. absurd cc, is)
+round_stopped machine old now r_old r_now told_before told_now here there (stop.Full length) is = (λ n e. absurd cc, is)
 
-pub stopped_round : {V : Type 0} (is_state : V → Type 0) (after : V → Bytes → V) (result : V → Bytes → Bytes) (part : V → ℕ → Bytes) (restored : List Bytes → Result V (ℕ × ℕ)) (old now : Node) (r_old r_now : Replica V) (told_before told_now : Option Receives) (here there : Outside) (ended : Result Bool ServeStop) (e : ServeStop)
-    → ended ≡ Err e → ((n : ℕ) → e ≡ stop.Budget n → ⊥) → IsStopped is_state after result part restored old r_old r_now told_before told_now here there → Rounds is_state after result part restored old now r_old r_now told_before told_now here there ended
-stopped_round is_state after result part restored old now r_old r_now told_before told_now here there ended e is other stopped = rw is (by_stop e other) where
-  by_stop : (x : ServeStop) → ((n : ℕ) → x ≡ stop.Budget n → ⊥) → Rounds is_state after result part restored old now r_old r_now told_before told_now here there (Err x)
+pub stopped_round : {V : Type 0} (machine : ServiceMachine V) (old now : Node) (r_old r_now : Replica V) (told_before told_now : Option Receives) (here there : Outside) (ended : Result Bool ServeStop) (e : ServeStop)
+    → ended ≡ Err e → ((n : ℕ) → e ≡ stop.Budget n → ⊥) → IsStopped machine old r_old r_now told_before told_now here there → Rounds machine old now r_old r_now told_before told_now here there ended
+stopped_round machine old now r_old r_now told_before told_now here there ended e is other stopped = rw is (by_stop e other) where
+  by_stop : (x : ServeStop) → ((n : ℕ) → x ≡ stop.Budget n → ⊥) → Rounds machine old now r_old r_now told_before told_now here there (Err x)
   by_stop stop.LinkFault never = stopped
   by_stop stop.SinkFault never = stopped
   by_stop (stop.Budget n) never = absurd (never n refl)

@@ -2,9 +2,11 @@
 use Rattle.std.specs.Prelude.{◌≡◌, ◌⊎◌, ℕ, ◌+◌, ◌<◌, ◌≤◌, max, Bool, false, List, [], ◌∷◌, ◌++◌, reverse, Option, Some, Result, Ok, Err}
 use Rattle.std.specs.List.{AllByRecursion}
 use Rattle.mb_base.specs.Shapes.{Bytes}
+use Rattle.mb_service.specs.Machine.{ServiceMachine}
 use Rattle.mb_msg.specs.declared.event.Event.{Event}
 use Rattle.mb_model.specs.Histories.{History, Identity}
 use Rattle.mb_steps.specs.Arises.{IsWhole}
+use Rattle.mb_edge.specs.Seen.{Device, LinkState, DiskState}
 use Rattle.mb_edge.specs.Told.{with_more}
 use Rattle.mb_edge.specs.Disks.{Moments, WhereTold, LeavesOnly}
 use Rattle.mb_journal.specs.Files.{record_size}
@@ -20,7 +22,7 @@ use Rattle.mb_node.specs.declared.stops.ServeStop.TheVariants as stop
 use Rattle.mb_node.specs.Stops.{IsOfDisk}
 use Rattle.mb_node.specs.Receives.{Receives, ReceiveFits}
 use Rattle.mb_node.specs.Events.{events}
-use Rattle.mb_node.specs.Outside.{Outside}
+use Rattle.mb_node.specs.Outside.{Outside, outside}
 use Rattle.mb_node.specs.Serving.{AreDone, StandsBehind, Ends}
 use Rattle.mb_node.specs.Rounds.{IsServing, GoesOn, IsStopped}
 
@@ -93,17 +95,17 @@ pub record LacksLast {V : Type 0} (me : Identity V) (start : History) (before th
   pub unwritten : ¬ (s ≡ stop.SinkFault)
   pub full : IsFullFor s journal' last
 
-module _ {V : Type 0} (is_state : V → Type 0) (after : V → Bytes → V) (result : V → Bytes → Bytes) (part : V → ℕ → Bytes) (restored : List Bytes → Result V (ℕ × ℕ)) where
+module _ {V : Type 0} (machine : ServiceMachine V) where
   -- One receive more, whose event was kept, if it was one.
   pub record KeepsOn (old now : Node) (r_old r_now : Replica V) (journal journal' : JournalState) (told told' : Option Moments) (told_before told_now : Option Receives) (here there : Outside) (stopped : Bool) : Type 0 where
-    pub on : GoesOn is_state after result part restored old now r_old r_now told_before told_now here there stopped
+    pub on : GoesOn machine old now r_old r_now told_before told_now here there stopped
     pub more : List Event
     pub events_are : (me : Identity V) (start : History) (before : Outside) (receives : Receives) → IsServing me start before receives here old r_old → events me start (on.one ∷ receives) ≡ more ++ events me start receives
     pub keeps : AreKept journal journal' told told' more more
 
   -- It stopped on the way.
   pub record KeepsUntil (old : Node) (r_old r_now : Replica V) (s : ServeStop) (journal journal' : JournalState) (told told' : Option Moments) (told_before told_now : Option Receives) (here there : Outside) : Type 0 where
-    pub until : IsStopped is_state after result part restored old r_old r_now told_before told_now here there
+    pub until : IsStopped machine old r_old r_now told_before told_now here there
     pub keeps : (me : Identity V) (start : History) (before : Outside) (receives : Receives) → IsServing me start before receives here old r_old
         → KeepsLast s journal journal' told told' (events me start receives) (events me start (until.more ++ receives))
         ⊎ LacksLast me start before there r_now s journal journal' told told' (events me start receives) (events me start (until.more ++ receives))
@@ -138,11 +140,22 @@ EndsKept me d before now r journal journal' told told' es (Ok _) = HasAll journa
 EndsKept me d before now r journal journal' told told' es (Err (stop.Budget n)) = HasAll journal journal' told told' es
 EndsKept me d before now r journal journal' told told' es (Err s) = (HasAll journal journal' told told' es × ¬ IsOfDisk s) ⊎ LacksOne me d before now r s journal journal' told told' es
 
-module _ {V : Type 0} (is_state : V → Type 0) (after : V → Bytes → V) (result : V → Bytes → Bytes) (part : V → ℕ → Bytes) (restored : List Bytes → Result V (ℕ × ℕ)) where
+module _ {V : Type 0} (machine : ServiceMachine V) where
   -- Serving did what the receives mean that the link tells, whatever history the host stood for, and each event was kept before it was acted on.
   pub record HasServedKept (old new : Replica V) (journal journal' : JournalState) (told told' : Option Moments) (budget : ℕ) (told_before told_now : Option Receives) (before now : Outside) (ended : Result (Unit {0}) ServeStop) : Type 0 where
     pub receives : Receives
     pub told_is : told_now ≡ with_more told_before (reverse receives)
     pub of_bytes : AllByRecursion ReceiveFits receives
-    pub ends : (me : Identity V) (d : History) → Serves is_state after result part restored me → Represents me old d → IsWhole d
+    pub ends : (me : Identity V) (d : History) → Serves machine me → Represents me old d → IsWhole d
         → Ends me d budget before now new receives ended × EndsKept me d before now new journal journal' told told' (events me d receives) ended
+
+-- ---- of devices
+
+module _ {V : Type 0} (machine : ServiceMachine V) where
+  abbrev pub RoundsKept : Node → Node → Replica V → Replica V → JournalState → JournalState → DiskState → DiskState → LinkState → LinkState → Device → Device → Result Bool ServeStop → Type 0
+  RoundsKept old now r_old r_now journal journal' disk disk' link link' sink sink' result =
+      KeptRounds machine old now r_old r_now journal journal' disk.moments disk'.moments link.received link'.received (outside sink link) (outside sink' link') result
+
+  abbrev pub ServesAndKeeps : Replica V → Replica V → JournalState → JournalState → ℕ → DiskState → DiskState → LinkState → LinkState → Device → Device → Result (Unit {0}) ServeStop → Type 0
+  ServesAndKeeps old new journal journal' budget disk disk' link link' sink sink' ended =
+      HasServedKept machine old new journal journal' disk.moments disk'.moments budget link.received link'.received (outside sink link) (outside sink' link') ended

@@ -2,6 +2,7 @@
 use Rattle.std.specs.Prelude.{◌≡◌, ◌≢◌, List, [], ◌++◌, Option, Result, Ok, Err}
 use Rattle.std.specs.Io.KnownBytes.{Appends}
 use Rattle.mb_base.specs.Shapes.{Bytes}
+use Rattle.mb_edge.specs.Seen.{Device, LinkState}
 use Rattle.mb_edge.specs.Told.{with_more}
 use Rattle.mb_node.specs.Sends.{Sends}
 
@@ -9,6 +10,10 @@ use Rattle.mb_node.specs.Sends.{Sends}
 pub record Outside : Type 0 where
   pub written : Option Bytes
   pub sent : Option Sends
+
+-- by a sink and a link
+abbrev pub outside : Device → LinkState → Outside
+outside sink link = record { written = sink.bytes; sent = link.sent }
 
 -- these bytes more, and these datagrams
 pub record Adds (before now : Outside) (text : Bytes) (datagrams : Sends) : Type 0 where

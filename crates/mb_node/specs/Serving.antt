@@ -2,9 +2,11 @@
 use Rattle.std.specs.Prelude.{◌≡◌, ℕ, ◌≤◌, Bool, true, false, List, [], ◌∷◌, ◌++◌, length, reverse, Option, Result, Ok, Err}
 use Rattle.std.specs.List.{AllByRecursion}
 use Rattle.mb_base.specs.Shapes.{Bytes, host_count}
+use Rattle.mb_service.specs.Machine.{ServiceMachine}
 use Rattle.mb_msg.specs.declared.event.Event.{Event}
 use Rattle.mb_model.specs.Histories.{History, Identity}
 use Rattle.mb_steps.specs.Arises.{IsWhole}
+use Rattle.mb_edge.specs.Seen.{Device, LinkState}
 use Rattle.mb_edge.specs.Told.{with_more}
 use Rattle.mb_core.specs.declared.replica.Replica.{Replica}
 use Rattle.mb_core.specs.Represents.{Represents}
@@ -15,7 +17,7 @@ use Rattle.mb_node.specs.Receives.{Receives, ReceiveFits}
 use Rattle.mb_node.specs.Events.{left_by, has_stop, events}
 use Rattle.mb_node.specs.Recording.{lines_at, lines_of, sent_at, sent_of}
 use Rattle.mb_node.specs.Sends.{Sends, numbered}
-use Rattle.mb_node.specs.Outside.{Outside, Adds, IsPartOf}
+use Rattle.mb_node.specs.Outside.{Outside, Adds, IsPartOf, outside}
 
 module _ {S : Type 0} (self : Identity S) where
   -- ---- one event
@@ -80,8 +82,13 @@ module _ {V : Type 0} where
   Ends me d budget before now r receives (Err s) = AreCutOff me d before now r.halted (events me d receives) × (length receives ≤ budget)
 
   -- There are the receives that the link tells, and serving did what they mean, whatever history the host stood for.
-  pub record HasServed (is_state : V → Type 0) (after : V → Bytes → V) (result : V → Bytes → Bytes) (part : V → ℕ → Bytes) (restored : List Bytes → Result V (ℕ × ℕ)) (old new : Replica V) (budget : ℕ) (told_before told_now : Option Receives) (before now : Outside) (ended : Result (Unit {0}) ServeStop) : Type 0 where
+  pub record HasServed (machine : ServiceMachine V) (old new : Replica V) (budget : ℕ) (told_before told_now : Option Receives) (before now : Outside) (ended : Result (Unit {0}) ServeStop) : Type 0 where
     pub receives : Receives
     pub told : told_now ≡ with_more told_before (reverse receives)
     pub of_bytes : AllByRecursion ReceiveFits receives
-    pub ends : (me : Identity V) (d : History) → Serves is_state after result part restored me → Represents me old d → IsWhole d → Ends me d budget before now new receives ended
+    pub ends : (me : Identity V) (d : History) → Serves machine me → Represents me old d → IsWhole d → Ends me d budget before now new receives ended
+
+-- ---- of devices
+
+abbrev pub ServesOver : {V : Type 0} → ServiceMachine V → Replica V → Replica V → ℕ → LinkState → LinkState → Device → Device → Result (Unit {0}) ServeStop → Type 0
+ServesOver machine old new budget link link' sink sink' ended = HasServed machine old new budget link.received link'.received (outside sink link) (outside sink' link') ended

@@ -32,10 +32,10 @@ pub(crate) fn keep<D: Disk>(
 ) -> Result<(), ServeStop>
     requires runs { journal.old.halted ≡ false }
     requires fits { EventFits event.now }
-    ensures kept { KeepsOne journal.old journal.new (D.moments disk.old) (D.moments disk.new) event.now result }
+    ensures kept { KeepsOne journal.old journal.new (D.seen disk.old).moments (D.seen disk.new).moments event.now result }
     ensures runs { OnOk result (journal.new.halted ≡ false) }
     ensures causes { IfErr result IsOfKeeping }
-    ensures disk { TellsFaults (D.never_fails disk.old) (D.never_fails disk.new) (D.faults disk.old) (D.faults disk.new) (IsErrOf result ServeStop.DiskFault) }
+    ensures disk { TellsFaults (D.never_fails disk.old) (D.never_fails disk.new) (D.seen disk.old).faults (D.seen disk.new).faults (IsErrOf result ServeStop.DiskFault) }
 {
     match journal.append(disk, event) {
         Ok(()) => Ok(()),

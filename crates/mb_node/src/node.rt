@@ -5,8 +5,8 @@ ghost use Rattle.mb_base.specs.Shapes.{host_count};
 ghost use Rattle.mb_core.specs.Represents.{IsAtRest};
 ghost use Rattle.mb_node.specs.Inboxes.{HasReceived};
 ghost use Rattle.mb_edge.specs.Faults.{TellsFaults};
-ghost use Rattle.mb_node.specs.Rounds.{Rounds, event_of, quiets_of};
-ghost use Rattle.mb_node.specs.Keeping.{KeptRounds};
+ghost use Rattle.mb_node.specs.Rounds.{RoundsOver, event_of, quiets_of};
+ghost use Rattle.mb_node.specs.Keeping.{RoundsKept};
 ghost use Rattle.mb_node.specs.Receiving.{ArrivalFits};
 ghost use Rattle.mb_journal.specs.Files.{EventFits};
 ghost use Rattle.mb_node.specs.Stops.{IsOfDisk};
@@ -67,16 +67,15 @@ impl Node {
     ) -> Result<bool, ServeStop>
         requires few { self.old.quiets < 2 ^ 64 - 1 }
         requires runs { replica.old.halted ≡ false }
-        requires rests { IsAtRest V.is_state V.after V.answer V.part_of V.restored replica.old }
-        ensures rounds { Rounds V.is_state V.after V.answer V.part_of V.restored self.old self.new replica.old replica.new (L.received link.old) (L.received link.new)
-            (record { written = K.written out.old; sent = L.sent link.old }) (record { written = K.written out.new; sent = L.sent link.new }) result }
+        requires rests { IsAtRest V.machine replica.old }
+        ensures rounds { RoundsOver V.machine self.old self.new replica.old replica.new (L.seen link.old) (L.seen link.new) (K.seen out.old) (K.seen out.new) result }
         ensures alone { IfErr result (λ s. ¬ IsOfDisk s) }
         ensures few { self.new.quiets ≤ self.old.quiets + 1 }
         ensures runs { OnOk result (replica.new.halted ≡ false) }
-        ensures rests { replica.new.halted ≡ false → IsAtRest V.is_state V.after V.answer V.part_of V.restored replica.new }
-        ensures opens { L.opens link.new ≡ L.opens link.old }
-        ensures link { TellsFaults (L.never_fails link.old) (L.never_fails link.new) (L.faults link.old) (L.faults link.new) (IsErrOf result ServeStop.LinkFault) }
-        ensures sink { TellsFaults (K.never_fails out.old) (K.never_fails out.new) (K.faults out.old) (K.faults out.new) (IsErrOf result ServeStop.SinkFault) }
+        ensures rests { replica.new.halted ≡ false → IsAtRest V.machine replica.new }
+        ensures opens { (L.seen link.new).opens ≡ (L.seen link.old).opens }
+        ensures link { TellsFaults (L.never_fails link.old) (L.never_fails link.new) (L.seen link.old).faults (L.seen link.new).faults (IsErrOf result ServeStop.LinkFault) }
+        ensures sink { TellsFaults (K.never_fails out.old) (K.never_fails out.new) (K.seen out.old).faults (K.seen out.new).faults (IsErrOf result ServeStop.SinkFault) }
     {
         let arrival = self.receiver.receive(alloc, link)?;
         let Some(event) = self.event_of(replica, arrival) else {
@@ -101,18 +100,17 @@ impl Node {
     ) -> Result<bool, ServeStop>
         requires few { self.old.quiets < 2 ^ 64 - 1 }
         requires runs { replica.old.halted ≡ false }
-        requires rests { IsAtRest V.is_state V.after V.answer V.part_of V.restored replica.old }
+        requires rests { IsAtRest V.machine replica.old }
         requires keeps { journal.old.halted ≡ false }
-        ensures rounds { KeptRounds V.is_state V.after V.answer V.part_of V.restored self.old self.new replica.old replica.new journal.old journal.new (D.moments disk.old) (D.moments disk.new)
-            (L.received link.old) (L.received link.new) (record { written = K.written out.old; sent = L.sent link.old }) (record { written = K.written out.new; sent = L.sent link.new }) result }
+        ensures rounds { RoundsKept V.machine self.old self.new replica.old replica.new journal.old journal.new (D.seen disk.old) (D.seen disk.new) (L.seen link.old) (L.seen link.new) (K.seen out.old) (K.seen out.new) result }
         ensures few { self.new.quiets ≤ self.old.quiets + 1 }
         ensures runs { OnOk result (replica.new.halted ≡ false) }
-        ensures rests { replica.new.halted ≡ false → IsAtRest V.is_state V.after V.answer V.part_of V.restored replica.new }
+        ensures rests { replica.new.halted ≡ false → IsAtRest V.machine replica.new }
         ensures keeps { OnOk result (journal.new.halted ≡ false) }
-        ensures opens { L.opens link.new ≡ L.opens link.old }
-        ensures link { TellsFaults (L.never_fails link.old) (L.never_fails link.new) (L.faults link.old) (L.faults link.new) (IsErrOf result ServeStop.LinkFault) }
-        ensures sink { TellsFaults (K.never_fails out.old) (K.never_fails out.new) (K.faults out.old) (K.faults out.new) (IsErrOf result ServeStop.SinkFault) }
-        ensures disk { TellsFaults (D.never_fails disk.old) (D.never_fails disk.new) (D.faults disk.old) (D.faults disk.new) (IsErrOf result ServeStop.DiskFault) }
+        ensures opens { (L.seen link.new).opens ≡ (L.seen link.old).opens }
+        ensures link { TellsFaults (L.never_fails link.old) (L.never_fails link.new) (L.seen link.old).faults (L.seen link.new).faults (IsErrOf result ServeStop.LinkFault) }
+        ensures sink { TellsFaults (K.never_fails out.old) (K.never_fails out.new) (K.seen out.old).faults (K.seen out.new).faults (IsErrOf result ServeStop.SinkFault) }
+        ensures disk { TellsFaults (D.never_fails disk.old) (D.never_fails disk.new) (D.seen disk.old).faults (D.seen disk.new).faults (IsErrOf result ServeStop.DiskFault) }
     {
         let arrived = self.receiver.receive(alloc, link)?;
         let Some(event) = self.event_of(replica, arrived) else {

@@ -32,12 +32,12 @@ impl Outbox {
         sent: &[Sent],
     ) -> Result<(), Failed>
         requires messages { AreMessages sent.now }
-        ensures sends { (n : ℕ) → self.old.number ≡ n % 2 ^ 32 → Delivers (numbered self.old.hosts self.old.host n sent.now) (L.sent link.old) (L.sent link.new) result }
+        ensures sends { (n : ℕ) → self.old.number ≡ n % 2 ^ 32 → Delivers (numbered self.old.hosts self.old.host n sent.now) (L.seen link.old).sent (L.seen link.new).sent result }
         ensures number { (n : ℕ) → self.old.number ≡ n % 2 ^ 32 → OnOk result (self.new.number ≡ (n + length sent.now) % 2 ^ 32) }
         ensures who { (self.new.host ≡ self.old.host) × (self.new.hosts ≡ self.old.hosts) }
-        ensures received { L.received link.new ≡ L.received link.old }
-        ensures opens { L.opens link.new ≡ L.opens link.old }
-        ensures link { TellsFaults (L.never_fails link.old) (L.never_fails link.new) (L.faults link.old) (L.faults link.new) (IsErrOf result Failed.Device) }
+        ensures received { (L.seen link.new).received ≡ (L.seen link.old).received }
+        ensures opens { (L.seen link.new).opens ≡ (L.seen link.old).opens }
+        ensures link { TellsFaults (L.never_fails link.old) (L.never_fails link.new) (L.seen link.old).faults (L.seen link.new).faults (IsErrOf result Failed.Device) }
     {
         for message in sent {
             self.send(alloc, link, message)?;
@@ -49,10 +49,10 @@ impl Outbox {
     /// Sends the pieces of a message, to each other host by its number, to a host, or to the client program.
     fn send<L: Link>(&self, alloc: Global, link: &mut L, message: &Sent) -> Result<(), Failed>
         requires message { IsMessage message.now }
-        ensures sends { (n : ℕ) → self.now.number ≡ n % 2 ^ 32 → Delivers (datagrams_of self.now.hosts self.now.host n message.now) (L.sent link.old) (L.sent link.new) result }
-        ensures received { L.received link.new ≡ L.received link.old }
-        ensures opens { L.opens link.new ≡ L.opens link.old }
-        ensures link { TellsFaults (L.never_fails link.old) (L.never_fails link.new) (L.faults link.old) (L.faults link.new) (IsErrOf result Failed.Device) }
+        ensures sends { (n : ℕ) → self.now.number ≡ n % 2 ^ 32 → Delivers (datagrams_of self.now.hosts self.now.host n message.now) (L.seen link.old).sent (L.seen link.new).sent result }
+        ensures received { (L.seen link.new).received ≡ (L.seen link.old).received }
+        ensures opens { (L.seen link.new).opens ≡ (L.seen link.old).opens }
+        ensures link { TellsFaults (L.never_fails link.old) (L.never_fails link.new) (L.seen link.old).faults (L.seen link.new).faults (IsErrOf result Failed.Device) }
     {
         let pieces = cut(alloc, self.host, self.number, message.bytes.as_slice())?;
         match message.to {
@@ -64,10 +64,10 @@ impl Outbox {
 
     /// Sends pieces to each other host.
     fn send_others<L: Link>(&self, link: &mut L, pieces: &[Items<u8>]) -> Result<(), Failed>
-        ensures sends { Delivers (to_others self.now.hosts self.now.host pieces.now) (L.sent link.old) (L.sent link.new) result }
-        ensures received { L.received link.new ≡ L.received link.old }
-        ensures opens { L.opens link.new ≡ L.opens link.old }
-        ensures link { TellsFaults (L.never_fails link.old) (L.never_fails link.new) (L.faults link.old) (L.faults link.new) (IsErrOf result Failed.Device) }
+        ensures sends { Delivers (to_others self.now.hosts self.now.host pieces.now) (L.seen link.old).sent (L.seen link.new).sent result }
+        ensures received { (L.seen link.new).received ≡ (L.seen link.old).received }
+        ensures opens { (L.seen link.new).opens ≡ (L.seen link.old).opens }
+        ensures link { TellsFaults (L.never_fails link.old) (L.never_fails link.new) (L.seen link.old).faults (L.seen link.new).faults (IsErrOf result Failed.Device) }
     {
         for peer in 0..self.hosts {
             if peer != self.host {
@@ -80,10 +80,10 @@ impl Outbox {
 
 /// Sends pieces to a peer, in order.
 fn send_pieces<L: Link>(link: &mut L, peer: u8, pieces: &[Items<u8>]) -> Result<(), Failed>
-    ensures sends { Delivers (to_peer pieces.now peer) (L.sent link.old) (L.sent link.new) result }
-    ensures received { L.received link.new ≡ L.received link.old }
-    ensures opens { L.opens link.new ≡ L.opens link.old }
-    ensures link { TellsFaults (L.never_fails link.old) (L.never_fails link.new) (L.faults link.old) (L.faults link.new) (IsErrOf result Failed.Device) }
+    ensures sends { Delivers (to_peer pieces.now peer) (L.seen link.old).sent (L.seen link.new).sent result }
+    ensures received { (L.seen link.new).received ≡ (L.seen link.old).received }
+    ensures opens { (L.seen link.new).opens ≡ (L.seen link.old).opens }
+    ensures link { TellsFaults (L.never_fails link.old) (L.never_fails link.new) (L.seen link.old).faults (L.seen link.new).faults (IsErrOf result Failed.Device) }
 {
     for piece in pieces {
         link.send(peer, piece.as_slice())?;

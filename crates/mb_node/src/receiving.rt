@@ -49,11 +49,11 @@ impl Receiver {
         alloc: Global,
         link: &mut L,
     ) -> Result<Arrival, Failed>
-        ensures gives { Gives self.old self.new result (L.received link.old) (L.received link.new) }
+        ensures gives { Gives self.old self.new result (L.seen link.old).received (L.seen link.new).received }
         ensures fits { IfOk result ArrivalFits }
-        ensures sent { L.sent link.new ≡ L.sent link.old }
-        ensures opens { L.opens link.new ≡ L.opens link.old }
-        ensures link { TellsFaults (L.never_fails link.old) (L.never_fails link.new) (L.faults link.old) (L.faults link.new) (IsErrOf result Failed.Device) }
+        ensures sent { (L.seen link.new).sent ≡ (L.seen link.old).sent }
+        ensures opens { (L.seen link.new).opens ≡ (L.seen link.old).opens }
+        ensures link { TellsFaults (L.never_fails link.old) (L.never_fails link.new) (L.seen link.old).faults (L.seen link.new).faults (IsErrOf result Failed.Device) }
     {
         match link.recv(self.buffer.as_mut_slice()) {
             Got::Failed(cause) => Err(cause),

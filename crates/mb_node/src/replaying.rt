@@ -23,11 +23,11 @@ pub fn replay<V: Service + Drop>(
     events: Vec<Event>,
 ) -> Result<Vec<Entry>, NoMemory>
     requires runs { replica.old.halted ≡ false }
-    requires rests { IsAtRest V.is_state V.after V.answer V.part_of V.restored replica.old }
-    ensures replays { (me : Identity V) (d : History) → Serves V.is_state V.after V.answer V.part_of V.restored me → Represents me replica.old d → IsWhole d
+    requires rests { IsAtRest V.machine replica.old }
+    ensures replays { (me : Identity V) (d : History) → Serves V.machine me → Represents me replica.old d → IsWhole d
         → IfOk result (λ entries. IsReplayed me d (reverse events.items) entries.items replica.new) }
     ensures runs { OnOk result (replica.new.halted ≡ false) }
-    ensures rests { OnOk result (IsAtRest V.is_state V.after V.answer V.part_of V.restored replica.new) }
+    ensures rests { OnOk result (IsAtRest V.machine replica.new) }
 {
     let mut entries = Vec::with_capacity(alloc, events.len())?;
     for event in events {
@@ -44,11 +44,11 @@ fn replay_one<V: Service + Drop>(
     event: Event,
 ) -> Result<Entry, NoMemory>
     requires runs { replica.old.halted ≡ false }
-    requires rests { IsAtRest V.is_state V.after V.answer V.part_of V.restored replica.old }
-    ensures replays { (me : Identity V) (d : History) → Serves V.is_state V.after V.answer V.part_of V.restored me → Represents me replica.old d → IsWhole d
+    requires rests { IsAtRest V.machine replica.old }
+    ensures replays { (me : Identity V) (d : History) → Serves V.machine me → Represents me replica.old d → IsWhole d
         → IfOk result (λ entry. IsReplayed me d (event ∷ []) (entry ∷ []) replica.new) }
     ensures runs { OnOk result (replica.new.halted ≡ false) }
-    ensures rests { OnOk result (IsAtRest V.is_state V.after V.answer V.part_of V.restored replica.new) }
+    ensures rests { OnOk result (IsAtRest V.machine replica.new) }
 {
     let step = step_of(alloc, replica, &event)?;
     Ok(entry_of(event, step.sent.as_slice()))

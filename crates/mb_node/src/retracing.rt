@@ -52,7 +52,7 @@ pub fn retrace<V: Service + Drop>(
     service: V,
 ) -> Result<u64, RetraceStop>
     requires { written.now.id < host_count written.now.config.shape }
-    ensures { (me : Identity V) → Serves V.is_state V.after V.answer V.part_of V.restored me → me.initial ≡ service → IsOf me written.now → Retraces me written.now.entries result }
+    ensures { (me : Identity V) → Serves V.machine me → me.initial ≡ service → IsOf me written.now → Retraces me written.now.entries result }
 {
     let config = &written.config;
     let mut replica = Replica::make(alloc, config.shape, written.id, &config.secret, service)?;
@@ -79,10 +79,10 @@ fn compare<V: Service + Drop>(
     entry: &Entry,
 ) -> Result<(), RetraceStop>
     requires runs { replica.old.halted ≡ false }
-    requires rests { IsAtRest V.is_state V.after V.answer V.part_of V.restored replica.old }
-    ensures compares { (me : Identity V) (d : History) → Serves V.is_state V.after V.answer V.part_of V.restored me → Represents me replica.old d → IsWhole d → Compares me d event entry.now replica.new result }
+    requires rests { IsAtRest V.machine replica.old }
+    ensures compares { (me : Identity V) (d : History) → Serves V.machine me → Represents me replica.old d → IsWhole d → Compares me d event entry.now replica.new result }
     ensures runs { OnOk result (replica.new.halted ≡ false) }
-    ensures rests { OnOk result (IsAtRest V.is_state V.after V.answer V.part_of V.restored replica.new) }
+    ensures rests { OnOk result (IsAtRest V.machine replica.new) }
 {
     let step = step_of(alloc, replica, &entry.event)?;
     let found = sent_digest(step.sent.as_slice());

@@ -3,8 +3,8 @@
 ghost use Rattle.std.specs.Prelude.{◌≡◌, ◌≤◌, false, IfErr, IsErrOf, OnOk};
 ghost use Rattle.mb_core.specs.Represents.{IsAtRest};
 ghost use Rattle.mb_edge.specs.Faults.{TellsFaults};
-ghost use Rattle.mb_node.specs.Serving.{HasServed};
-ghost use Rattle.mb_node.specs.Keeping.{HasServedKept};
+ghost use Rattle.mb_node.specs.Serving.{ServesOver};
+ghost use Rattle.mb_node.specs.Keeping.{ServesAndKeeps};
 ghost use Rattle.mb_node.specs.Stops.{IsOfDisk};
 
 use crate::node::Node;
@@ -30,14 +30,13 @@ pub fn serve<V: Service + Drop, K: Sink, L: Link>(
     events: u64,
 ) -> Result<(), ServeStop>
     requires runs { replica.old.halted ≡ false }
-    requires rests { IsAtRest V.is_state V.after V.answer V.part_of V.restored replica.old }
-    ensures serves { HasServed V.is_state V.after V.answer V.part_of V.restored replica.old replica.new events (L.received link.old) (L.received link.new)
-        (record { written = K.written out.old; sent = L.sent link.old }) (record { written = K.written out.new; sent = L.sent link.new }) result }
+    requires rests { IsAtRest V.machine replica.old }
+    ensures serves { ServesOver V.machine replica.old replica.new events (L.seen link.old) (L.seen link.new) (K.seen out.old) (K.seen out.new) result }
     ensures alone { IfErr result (λ s. ¬ IsOfDisk s) }
-    ensures rests { replica.new.halted ≡ false → IsAtRest V.is_state V.after V.answer V.part_of V.restored replica.new }
-    ensures opens { L.opens link.new ≡ L.opens link.old }
-    ensures link { TellsFaults (L.never_fails link.old) (L.never_fails link.new) (L.faults link.old) (L.faults link.new) (IsErrOf result ServeStop.LinkFault) }
-    ensures sink { TellsFaults (K.never_fails out.old) (K.never_fails out.new) (K.faults out.old) (K.faults out.new) (IsErrOf result ServeStop.SinkFault) }
+    ensures rests { replica.new.halted ≡ false → IsAtRest V.machine replica.new }
+    ensures opens { (L.seen link.new).opens ≡ (L.seen link.old).opens }
+    ensures link { TellsFaults (L.never_fails link.old) (L.never_fails link.new) (L.seen link.old).faults (L.seen link.new).faults (IsErrOf result ServeStop.LinkFault) }
+    ensures sink { TellsFaults (K.never_fails out.old) (K.never_fails out.new) (K.seen out.old).faults (K.seen out.new).faults (IsErrOf result ServeStop.SinkFault) }
 {
     let mut node = Node::make(alloc, replica.shape(), replica.host())?;
     for _ in 0..events {
@@ -63,15 +62,14 @@ pub fn serve_kept<V: Service + Drop, K: Sink, L: Link, D: Disk>(
     receives: u64,
 ) -> Result<(), ServeStop>
     requires runs { replica.old.halted ≡ false }
-    requires rests { IsAtRest V.is_state V.after V.answer V.part_of V.restored replica.old }
+    requires rests { IsAtRest V.machine replica.old }
     requires keeps { journal.old.halted ≡ false }
-    ensures serves { HasServedKept V.is_state V.after V.answer V.part_of V.restored replica.old replica.new journal.old journal.new (D.moments disk.old) (D.moments disk.new) receives
-        (L.received link.old) (L.received link.new) (record { written = K.written out.old; sent = L.sent link.old }) (record { written = K.written out.new; sent = L.sent link.new }) result }
-    ensures rests { replica.new.halted ≡ false → IsAtRest V.is_state V.after V.answer V.part_of V.restored replica.new }
-    ensures opens { L.opens link.new ≡ L.opens link.old }
-    ensures link { TellsFaults (L.never_fails link.old) (L.never_fails link.new) (L.faults link.old) (L.faults link.new) (IsErrOf result ServeStop.LinkFault) }
-    ensures sink { TellsFaults (K.never_fails out.old) (K.never_fails out.new) (K.faults out.old) (K.faults out.new) (IsErrOf result ServeStop.SinkFault) }
-    ensures disk { TellsFaults (D.never_fails disk.old) (D.never_fails disk.new) (D.faults disk.old) (D.faults disk.new) (IsErrOf result ServeStop.DiskFault) }
+    ensures serves { ServesAndKeeps V.machine replica.old replica.new journal.old journal.new receives (D.seen disk.old) (D.seen disk.new) (L.seen link.old) (L.seen link.new) (K.seen out.old) (K.seen out.new) result }
+    ensures rests { replica.new.halted ≡ false → IsAtRest V.machine replica.new }
+    ensures opens { (L.seen link.new).opens ≡ (L.seen link.old).opens }
+    ensures link { TellsFaults (L.never_fails link.old) (L.never_fails link.new) (L.seen link.old).faults (L.seen link.new).faults (IsErrOf result ServeStop.LinkFault) }
+    ensures sink { TellsFaults (K.never_fails out.old) (K.never_fails out.new) (K.seen out.old).faults (K.seen out.new).faults (IsErrOf result ServeStop.SinkFault) }
+    ensures disk { TellsFaults (D.never_fails disk.old) (D.never_fails disk.new) (D.seen disk.old).faults (D.seen disk.new).faults (IsErrOf result ServeStop.DiskFault) }
 {
     let mut node = Node::make(alloc, replica.shape(), replica.host())?;
     for _ in 0..receives {

@@ -1,7 +1,6 @@
 //! One event of a node: the host's step, its lines in the record, and what it sends.
 
-ghost use Rattle.std.specs.Prelude.{◌≡◌, ◌<◌, ◌%◌, ◌^◌, ◌||◌, not, ℕ, false, length, IfOk, IfErr, OnOk, IsErrOf};
-ghost use Rattle.mb_base.specs.Shapes.{host_count};
+ghost use Rattle.std.specs.Prelude.{◌≡◌, ◌<◌, ◌^◌, ◌||◌, not, ℕ, false, length, IfOk, IfErr, OnOk, IsErrOf};
 ghost use Rattle.mb_model.specs.Histories.{Identity, History};
 ghost use Rattle.mb_steps.specs.Arises.{IsWhole};
 ghost use Rattle.mb_core.specs.Represents.{Represents, IsAtRest};
@@ -10,7 +9,8 @@ ghost use Rattle.mb_node.specs.Events.{is_stopping, is_patience, executes_none};
 ghost use Rattle.mb_node.specs.Messages.{AreMessages};
 ghost use Rattle.mb_edge.specs.Faults.{TellsFaults};
 ghost use Rattle.mb_node.specs.Stops.{IsOfDisk};
-ghost use Rattle.mb_node.specs.Turns.{Steps, Turned};
+ghost use Rattle.mb_node.specs.Outside.{outside};
+ghost use Rattle.mb_node.specs.Turns.{Steps, TakesTurn};
 
 use crate::entries::lines;
 use crate::outbox::Outbox;
@@ -38,11 +38,11 @@ pub(crate) fn step_of<V: Service + Drop>(
     event: &Event,
 ) -> Result<Step, NoMemory>
     requires runs { replica.old.halted ≡ false }
-    requires rests { IsAtRest V.is_state V.after V.answer V.part_of V.restored replica.old }
-    ensures stands { (me : Identity V) (d : History) → Serves V.is_state V.after V.answer V.part_of V.restored me → Represents me replica.old d → IsWhole d → IfOk result (λ s. Steps me d event.now s replica.new) }
+    requires rests { IsAtRest V.machine replica.old }
+    ensures stands { (me : Identity V) (d : History) → Serves V.machine me → Represents me replica.old d → IsWhole d → IfOk result (λ s. Steps me d event.now s replica.new) }
     ensures messages { IfOk result (λ s. AreMessages s.sent) }
     ensures few { IfOk result (λ s. length s.sent < 2 ^ 32) }
-    ensures rests { replica.new.halted ≡ false → IsAtRest V.is_state V.after V.answer V.part_of V.restored replica.new }
+    ensures rests { replica.new.halted ≡ false → IsAtRest V.machine replica.new }
     ensures runs { OnOk result (replica.new.halted ≡ false) }
 {
     match replica.step(alloc, event) {
@@ -81,19 +81,17 @@ pub(crate) fn take_turn<V: Service + Drop, K: Sink, L: Link>(
     event: Event,
 ) -> Result<Turn, ServeStop>
     requires runs { replica.old.halted ≡ false }
-    requires rests { IsAtRest V.is_state V.after V.answer V.part_of V.restored replica.old }
-    ensures stands { (me : Identity V) (d : History) (n : ℕ) → Serves V.is_state V.after V.answer V.part_of V.restored me → Represents me replica.old d → IsWhole d
-        → outbox.old.hosts ≡ host_count me.shape → outbox.old.host ≡ me.host → outbox.old.number ≡ n % 2 ^ 32
-        → Turned me d n event (record { written = K.written out.old; sent = L.sent link.old }) (record { written = K.written out.new; sent = L.sent link.new }) replica.new outbox.new result }
+    requires rests { IsAtRest V.machine replica.old }
+    ensures stands { TakesTurn V.machine event replica.old outbox.old (outside (K.seen out.old) (L.seen link.old)) (outside (K.seen out.new) (L.seen link.new)) replica.new outbox.new result }
     ensures unspent { (n : ℕ) → IsErrOf result (ServeStop.Budget n) → ⊥ }
     ensures alone { IfErr result (λ s. ¬ IsOfDisk s) }
     ensures who { (outbox.new.host ≡ outbox.old.host) × (outbox.new.hosts ≡ outbox.old.hosts) }
-    ensures rests { replica.new.halted ≡ false → IsAtRest V.is_state V.after V.answer V.part_of V.restored replica.new }
+    ensures rests { replica.new.halted ≡ false → IsAtRest V.machine replica.new }
     ensures runs { OnOk result (replica.new.halted ≡ false) }
-    ensures received { L.received link.new ≡ L.received link.old }
-    ensures opens { L.opens link.new ≡ L.opens link.old }
-    ensures link { TellsFaults (L.never_fails link.old) (L.never_fails link.new) (L.faults link.old) (L.faults link.new) (IsErrOf result ServeStop.LinkFault) }
-    ensures sink { TellsFaults (K.never_fails out.old) (K.never_fails out.new) (K.faults out.old) (K.faults out.new) (IsErrOf result ServeStop.SinkFault) }
+    ensures received { (L.seen link.new).received ≡ (L.seen link.old).received }
+    ensures opens { (L.seen link.new).opens ≡ (L.seen link.old).opens }
+    ensures link { TellsFaults (L.never_fails link.old) (L.never_fails link.new) (L.seen link.old).faults (L.seen link.new).faults (IsErrOf result ServeStop.LinkFault) }
+    ensures sink { TellsFaults (K.never_fails out.old) (K.never_fails out.new) (K.seen out.old).faults (K.seen out.new).faults (IsErrOf result ServeStop.SinkFault) }
 {
     let step = step_of(alloc, replica, &event)?;
     let turn = Turn {

@@ -2,6 +2,7 @@
 use Rattle.std.proofs.Common.{◌≡◌, ℕ, ◌+◌, Bool, true, false, ◌&&◌, not, Option, Some, None, is_some, refl, sym, ap, ◌∙◌, subst}
 use Rattle.std.specs.Prelude.{option_map, nat_le, nat_lt, ◌==◌}
 use Rattle.std.specs.Option.{option_or}
+use Rattle.mb_base.specs.Limits.{ahead_limit}
 use Rattle.mb_base.specs.declared.shape.Shape.{Shape}
 use Rattle.mb_base.specs.Shapes.{primary}
 use Rattle.mb_parts.specs.declared.floor.Floor.{Floor}
@@ -9,7 +10,7 @@ use Rattle.mb_parts.specs.Ordered.{phase_is_open}
 use Rattle.mb_model.specs.Batches.{first_batch}
 use Rattle.mb_parts.specs.declared.batch.Batch.{Batch}
 use Rattle.mb_model.specs.declared.known.KnownSlot.{KnownSlot}
-use Rattle.mb_model.specs.EnabledRules.{Rule, Commit, Execute, Prepare, rule_where, with_batch, ahead_limit}
+use Rattle.mb_model.specs.EnabledRules.{Rule, Commit, Execute, Prepare, rule_where, with_batch}
 use Rattle.mb_normal.specs.declared.due.Due.TheVariants as due
 use Rattle.mb_normal.specs.Searches.{Searches, unordered}
 use Rattle.mb_normal.specs.Tables.{batch_of}

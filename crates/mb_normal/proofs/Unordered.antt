@@ -4,11 +4,12 @@ use Rattle.std.specs.Prelude.{option_copied}
 use Rattle.std.specs.Borrow.{Bor}
 use Rattle.std.specs.List.{range_with_len, cons_option}
 use Rattle.std.proofs.lemmas.Bool.{ltb-true, ltb-false, cases_Bool}
+use Rattle.mb_base.specs.Limits.{batch_limit}
 use Rattle.mb_base.specs.declared.shape.Shape.{Shape}
 use Rattle.mb_base.specs.Shapes.{client_count}
 use Rattle.mb_parts.specs.declared.request.Request.{Request}
 use Rattle.mb_parts.specs.Spelling.{request_bytes}
-use Rattle.mb_model.specs.Batches.{batch_limit, has_place, fitting, first_batch}
+use Rattle.mb_model.specs.Batches.{has_place, fitting, first_batch}
 use Rattle.mb_normal.specs.declared.filling.Filling.{Filling}
 use Rattle.mb_normal.specs.declared.normal.Normal.{Normal}
 use Rattle.mb_normal.specs.Filling.{Adds}
@@ -78,25 +79,25 @@ both_true false b e = absurd cc
 
 -- a request with place goes into it
 fitting_more : (n used : ℕ) (r : Request) (l : List Request) → nat_lt n batch_limit ≡ true → has_place used r ≡ true
-    → fitting (16 - n) used (r ∷ l) ≡ r ∷ fitting (16 - (n + 1)) (used + length (request_bytes r)) l
+    → fitting (batch_limit - n) used (r ∷ l) ≡ r ∷ fitting (batch_limit - (n + 1)) (used + length (request_bytes r)) l
 unfolding fitting
 fitting_more n used r l few place =
-    let lt : n < 16 = ltb-true n 16 few in
-    let left : 16 - n ≡ suc (16 - (n + 1)) = omega arith in
+    let lt : n < batch_limit = ltb-true n batch_limit few in
+    let left : batch_limit - n ≡ suc (batch_limit - (n + 1)) = omega arith in
     rw (left, place) refl
 
 -- one without place ends it
-fitting_full : (n used : ℕ) (r : Request) (l : List Request) → (nat_lt n batch_limit && has_place used r) ≡ false → fitting (16 - n) used (r ∷ l) ≡ []
+fitting_full : (n used : ℕ) (r : Request) (l : List Request) → (nat_lt n batch_limit && has_place used r) ≡ false → fitting (batch_limit - n) used (r ∷ l) ≡ []
 unfolding fitting
-fitting_full n used r l full = elim (cases_Bool (nat_lt n 16)) [
+fitting_full n used r l full = elim (cases_Bool (nat_lt n batch_limit)) [
   | inl few ↦
-      let lt : n < 16 = ltb-true n 16 few in
-      let left : 16 - n ≡ suc (15 - n) = omega arith in
+      let lt : n < batch_limit = ltb-true n batch_limit few in
+      let left : batch_limit - n ≡ suc (batch_limit - 1 - n) = omega arith in
       let no_place : has_place used r ≡ false = ap (λ b. b && has_place used r) (sym few) ∙ full in
       rw (left, no_place) refl
   | inr many ↦
-      let ge : 16 ≤ n = ltb-false n 16 many in
-      let left : 16 - n ≡ 0 = omega arith in
+      let ge : batch_limit ≤ n = ltb-false n batch_limit many in
+      let left : batch_limit - n ≡ 0 = omega arith in
       rw left refl
 ]
 
@@ -107,7 +108,7 @@ batch_is (q ∷ l) requests is some = ap (λ (y : List Request). Some (record { 
 
 -- Those of the clients from one on are still to be looked at.
 abbrev pub FilledTo : Shape → Searches → ℕ → Filling → Type 0
-FilledTo s x i f = f.requests ++ fitting (16 - length f.requests) f.used (unordered_from s x i) ≡ fitting batch_limit 0 (unordered s x)
+FilledTo s x i f = f.requests ++ fitting (batch_limit - length f.requests) f.used (unordered_from s x i) ≡ fitting batch_limit 0 (unordered s x)
 
 abbrev pub FilledSoFar : Normal → ℕ → Filling → Type 0
 FilledSoFar t i f = (s : Shape) (h : ℕ) (x : Searches) → Represents s h t x → FilledTo s x i f
@@ -119,15 +120,15 @@ filled_none t f empty unused s h x st = rw (empty, unused) (ap (fitting batch_li
 pub filled_more : (t : Normal) (i : ℕ) (old new : Filling) (o : Option Request) → i < client_count t.shape → SaysOf t i o → Adds old o new true → FilledSoFar t i old → FilledSoFar t (i + 1) new
 filled_more t i old new None lt is adds so_far s h x st =
     let next : unordered_from s x i ≡ unordered_from s x (i + 1) = from_next s x i None (below t i s h x st lt) (is s h x st) in
-    rw adds.1 (ap (λ (l : List Request). old.requests ++ fitting (16 - length old.requests) old.used l) (sym next) ∙ so_far s h x st)
+    rw adds.1 (ap (λ (l : List Request). old.requests ++ fitting (batch_limit - length old.requests) old.used l) (sym next) ∙ so_far s h x st)
 filled_more t i old new (Some q) lt is adds so_far s h x st =
     let l : List Request = unordered_from s x (i + 1) in
     let next : unordered_from s x i ≡ q ∷ l = from_next s x i (Some q) (below t i s h x st lt) (is s h x st) in
     let goes = both_true (nat_lt (length old.requests) batch_limit) (has_place old.used q) adds.0 in
     let one = fitting_more (length old.requests) old.used q l goes.0 goes.1 in
     let count : length new.requests ≡ length old.requests + 1 = rw adds.1.0 (length-append old.requests (q ∷ [])) in
-    rw (count, adds.1.1, adds.1.0) (append_assoc old.requests (q ∷ []) (fitting (16 - (length old.requests + 1)) (old.used + length (request_bytes q)) l)
-    ∙ ap (λ (y : List Request). old.requests ++ y) (sym one ∙ ap (fitting (16 - length old.requests) old.used) (sym next)) ∙ so_far s h x st)
+    rw (count, adds.1.1, adds.1.0) (append_assoc old.requests (q ∷ []) (fitting (batch_limit - (length old.requests + 1)) (old.used + length (request_bytes q)) l)
+    ∙ ap (λ (y : List Request). old.requests ++ y) (sym one ∙ ap (fitting (batch_limit - length old.requests) old.used) (sym next)) ∙ so_far s h x st)
 
 -- It had no place, so the batch is full.
 pub filled_full : (t : Normal) (i : ℕ) (old new : Filling) (o : Option Request) → i < client_count t.shape → SaysOf t i o → Adds old o new false → FilledSoFar t i old
@@ -136,7 +137,7 @@ filled_full t i old new None lt is adds so_far s h x st some = absurd cc
 filled_full t i old new (Some q) lt is adds so_far s h x st some =
     let l : List Request = unordered_from s x (i + 1) in
     let next : unordered_from s x i ≡ q ∷ l = from_next s x i (Some q) (below t i s h x st lt) (is s h x st) in
-    let full : fitting (16 - length old.requests) old.used (unordered_from s x i) ≡ [] = ap (fitting (16 - length old.requests) old.used) next ∙ fitting_full (length old.requests) old.used q l adds.0 in
+    let full : fitting (batch_limit - length old.requests) old.used (unordered_from s x i) ≡ [] = ap (fitting (batch_limit - length old.requests) old.used) next ∙ fitting_full (length old.requests) old.used q l adds.0 in
     let all : old.requests ≡ fitting batch_limit 0 (unordered s x) = sym (append-nil old.requests) ∙ ap (λ (y : List Request). old.requests ++ y) (sym full) ∙ so_far s h x st in
     batch_is (unordered s x) new.requests (ap (λ (f : Filling). f.requests) adds.1 ∙ all) some
 
@@ -145,7 +146,7 @@ pub filled_all : (t : Normal) (i : ℕ) (f : Filling) → client_count t.shape �
     → (s : Shape) (h : ℕ) (x : Searches) → Represents s h t x → (unordered s x ≡ [] → ⊥) → Some (record { requests = f.requests }) ≡ first_batch (unordered s x)
 filled_all t i f le so_far s h x st some =
     let nothing : unordered_from s x i ≡ [] = from_end s x i (at_end t i s h x st le) in
-    let full : fitting (16 - length f.requests) f.used (unordered_from s x i) ≡ [] = ap (fitting (16 - length f.requests) f.used) nothing ∙ fitting_none (16 - length f.requests) f.used in
+    let full : fitting (batch_limit - length f.requests) f.used (unordered_from s x i) ≡ [] = ap (fitting (batch_limit - length f.requests) f.used) nothing ∙ fitting_none (batch_limit - length f.requests) f.used in
     let all : f.requests ≡ fitting batch_limit 0 (unordered s x) = sym (append-nil f.requests) ∙ ap (λ (y : List Request). f.requests ++ y) (sym full) ∙ so_far s h x st in
     batch_is (unordered s x) f.requests all some
 

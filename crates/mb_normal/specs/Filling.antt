@@ -1,8 +1,9 @@
 -- A batch that is being filled, request by request.
 use Rattle.std.specs.Prelude.{◌≡◌, ◌+◌, ◌&&◌, Bool, true, false, nat_lt, [], ◌∷◌, ◌++◌, length, Option, Some, None}
+use Rattle.mb_base.specs.Limits.{batch_limit}
 use Rattle.mb_parts.specs.declared.request.Request.{Request}
 use Rattle.mb_parts.specs.Spelling.{request_bytes}
-use Rattle.mb_model.specs.Batches.{batch_limit, has_place}
+use Rattle.mb_model.specs.Batches.{has_place}
 use Rattle.mb_normal.specs.declared.filling.Filling.{Filling}
 
 -- The request behind the others has place in the batch.

@@ -1,6 +1,7 @@
 -- Which rule of the normal case is enabled: those of a host's history, for any searches.
 use Rattle.std.specs.Prelude.{◌≡◌, ◌≢◌, [], ℕ, ◌+◌, Bool, false, ◌&&◌, not, nat_lt, nat_le, ◌==◌, Option, Some, None, option_map, is_some}
 use Rattle.std.specs.Option.{option_or}
+use Rattle.mb_base.specs.Limits.{ahead_limit}
 use Rattle.mb_base.specs.declared.shape.Shape.{Shape}
 use Rattle.mb_base.specs.Shapes.{span, quorum, primary}
 use Rattle.mb_parts.specs.declared.batch.Batch.{Batch}
@@ -9,7 +10,7 @@ use Rattle.mb_parts.specs.Ordered.{phase_is_open}
 use Rattle.mb_model.specs.declared.known.KnownSlot.{KnownSlot}
 use Rattle.mb_model.specs.Batches.{first_batch}
 use Rattle.mb_model.specs.Positions.{slot_vote, position_limit}
-use Rattle.mb_model.specs.EnabledRules.{Rule, Commit, Execute, Prepare, rule_where, with_batch, ahead_limit}
+use Rattle.mb_model.specs.EnabledRules.{Rule, Commit, Execute, Prepare, rule_where, with_batch}
 use Rattle.mb_normal.specs.declared.due.Due.{Due}
 use Rattle.mb_normal.specs.declared.due.Due.TheVariants as due
 use Rattle.mb_normal.specs.Searches.{Searches, matching, unordered}
@@ -27,6 +28,12 @@ module _ (s : Shape) (x : Searches) where
   -- a position of the window above the stable one; the greatest of all ends it too
   abbrev pub in_window : ℕ → Bool
   in_window p = nat_lt x.low p && (nat_le p (x.low + span s) && nat_le p position_limit)
+
+  -- There is a request to order at the position behind this one, which is in the window and not too far ahead of the executed ones; and there is
+  -- room for the vote.
+  abbrev pub may_prepare : ℕ → Floor → ℕ → Bool → Bool
+  may_prepare host at exec room =
+      (host == primary s at.view) && (in_window (at.last + 1) && (nat_lt at.last (exec + ahead_limit) && (room && is_some (first_batch (unordered s x)))))
 
   abbrev pub if_committed : ℕ → Option KnownSlot → Option Rule
   if_committed pos None = None

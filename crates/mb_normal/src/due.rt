@@ -29,10 +29,9 @@ impl Normal {
     ghost use Rattle.mb_parts.specs.Fits.{FitsText};
     ghost use Rattle.mb_model.specs.Batches.{first_batch};
     ghost use Rattle.mb_model.specs.Positions.{slot_vote, position_limit};
-    ghost use Rattle.mb_model.specs.EnabledRules.{ahead_limit};
     ghost use Rattle.mb_normal.specs.Searches.{Searches, matching, unordered, unordered_of};
     ghost use Rattle.mb_normal.specs.Tables.{Represents, batch_of};
-    ghost use Rattle.mb_normal.specs.Rules.{first_rule, in_window, is_committed, Names};
+    ghost use Rattle.mb_normal.specs.Rules.{first_rule, is_committed, Names, may_prepare};
 
     /// The first rule of the normal case that is enabled, where this host stands `at`, has executed up to `exec`, and `low` is the stable
     /// position: of another `low` nothing is said. Positions are below 2^63. `room` says whether its log has room for a vote. Every pending request
@@ -106,8 +105,7 @@ impl Normal {
     fn may_prepare(&self, at: &Floor, exec: Pos, low: Pos, room: bool) -> bool
         requires last { at.now.last < 2 ^ 63 }
         requires exec { exec < 2 ^ 63 }
-        ensures { (s : ShapeValue) (h : ℕ) (x : Searches) → Represents s h self.now x → x.low ≡ low
-            → result ≡ ((h == primary s at.now.view) && (in_window s x (at.now.last + 1) && (nat_lt at.now.last (exec + ahead_limit) && (room && is_some (first_batch (unordered s x)))))) }
+        ensures { (s : ShapeValue) (h : ℕ) (x : Searches) → Represents s h self.now x → x.low ≡ low → result ≡ may_prepare s x h at.now exec room }
     {
         self.leads(at)
             && self.is_in_window(low, at.last)

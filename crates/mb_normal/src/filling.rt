@@ -1,6 +1,7 @@
 //! A batch that is being filled, request by request.
 
 ghost use Rattle.std.specs.Prelude.{◌≤◌, length};
+ghost use Rattle.mb_base.specs.Limits.{batch_limit, batch_bytes_limit};
 
 use mb_base::{Duplicate, Items, NoMemory};
 use mb_msg::Request;
@@ -12,15 +13,16 @@ use std::alloc::Global;
 pub(crate) struct Filling {
     pub(crate) requests: Items<Request>,
     used: usize,
-    ghost few: { length requests ≤ 16 },
-    ghost short: { used ≤ 2048 },
+    ghost few: { length requests ≤ batch_limit },
+    ghost short: { used ≤ batch_bytes_limit },
 }
 
 impl Filling {
     ghost use Rattle.std.specs.Prelude.{◌≡◌, ◌≤◌, ◌&&◌, [], nat_lt, length, option_copied, IfOk, IfSome};
+    ghost use Rattle.mb_base.specs.Limits.{batch_limit};
     ghost use Rattle.mb_parts.specs.Spelling.{request_bytes};
     ghost use Rattle.mb_parts.specs.Fits.{FitsText};
-    ghost use Rattle.mb_model.specs.Batches.{batch_limit, has_place};
+    ghost use Rattle.mb_model.specs.Batches.{has_place};
     ghost use Rattle.mb_normal.specs.Filling.{Adds};
 
     /// No requests.

@@ -6,6 +6,7 @@ use Rattle.std.proofs.lemmas.Bool.{le-leb, lt-leb}
 use Rattle.std.proofs.lemmas.List.{at_drop_more, at_drop_all, take_more}
 use Rattle.std.proofs.lemmas.List.Concat.{flat_map-append, flat_map-cons}
 use Rattle.std.proofs.lemmas.List.Elements.{filter_map-append}
+use Rattle.mb_base.specs.Limits.{batch_bytes_limit}
 use Rattle.mb_base.specs.Shapes.{Bytes}
 use Rattle.mb_parts.specs.declared.request.Request.{Request}
 use Rattle.mb_parts.specs.Counted.{counted}
@@ -58,16 +59,16 @@ module _ (s : Schedule) (x : WorldState) (numbers : List ℕ) (i used : ℕ) (lt
   pub kind_told : None ≡ request_at s x (get_or numbers i 0) → Some (WrongKind (get_or numbers i 0)) ≡ option_map WrongKind (misfit s x 0 numbers)
   kind_told none = ap (option_map WrongKind) (sym (misfit_kind s x used (get_or numbers i 0) (drop (i + 1) numbers) (sym none)) ∙ next_left)
 
-  pub long_told : (r : Request) → Some r ≡ request_at s x (get_or numbers i 0) → 2048 < counted used (request_bytes r) → Some (WrongKind (get_or numbers i 0)) ≡ option_map WrongKind (misfit s x 0 numbers)
+  pub long_told : (r : Request) → Some r ≡ request_at s x (get_or numbers i 0) → batch_bytes_limit < counted used (request_bytes r) → Some (WrongKind (get_or numbers i 0)) ≡ option_map WrongKind (misfit s x 0 numbers)
   long_told r some long =
       ap (option_map WrongKind)
-      (sym (misfit_long s x used (get_or numbers i 0) (drop (i + 1) numbers) r (sym some) (lt-leb (used + length (request_bytes r)) 2048 (counted_large used 2048 (request_bytes r) long))) ∙ next_left)
+      (sym (misfit_long s x used (get_or numbers i 0) (drop (i + 1) numbers) r (sym some) (lt-leb (used + length (request_bytes r)) batch_bytes_limit (counted_large used batch_bytes_limit (request_bytes r) long))) ∙ next_left)
 
-  pub left_on : (r : Request) → Some r ≡ request_at s x (get_or numbers i 0) → counted used (request_bytes r) ≤ 2048 → misfit s x (counted used (request_bytes r)) (drop (i + 1) numbers) ≡ misfit s x 0 numbers
+  pub left_on : (r : Request) → Some r ≡ request_at s x (get_or numbers i 0) → counted used (request_bytes r) ≤ batch_bytes_limit → misfit s x (counted used (request_bytes r)) (drop (i + 1) numbers) ≡ misfit s x 0 numbers
   left_on r some short =
-      let all : counted used (request_bytes r) ≡ used + length (request_bytes r) = counted_small used 2048 (request_bytes r) (omega arith) short in
+      let all : counted used (request_bytes r) ≡ used + length (request_bytes r) = counted_small used batch_bytes_limit (request_bytes r) (omega arith) short in
       ap (λ n. misfit s x n (drop (i + 1) numbers)) all
-      ∙ (sym (misfit_next s x used (get_or numbers i 0) (drop (i + 1) numbers) r (sym some) (le-leb (used + length (request_bytes r)) 2048 (omega (arith, all, short)))) ∙ next_left)
+      ∙ (sym (misfit_next s x used (get_or numbers i 0) (drop (i + 1) numbers) r (sym some) (le-leb (used + length (request_bytes r)) batch_bytes_limit (omega (arith, all, short)))) ∙ next_left)
 
   pub taken_on : (requests : List Request) (r : Request) → requests ≡ filter_map (request_at s x) (take i numbers) → Some r ≡ request_at s x (get_or numbers i 0) → requests ++ r ∷ [] ≡ filter_map (request_at s x) (take (i + 1) numbers)
   taken_on requests r are some =
@@ -78,9 +79,9 @@ pub all_fit : (s : Schedule) (x : WorldState) (numbers : List ℕ) (i used : ℕ
 all_fit s x numbers i used le left = ap (option_map WrongKind) (sym (sym (at_drop_all (misfit s x used) numbers i le) ∙ left) ∙ misfit_none s x used)
 
 -- the bytes of the requests with one more
-pub used_more : (used : ℕ) (requests : List Request) (r : Request) → used ≡ length (flat_map request_bytes requests) → counted used (request_bytes r) ≤ 2048 → counted used (request_bytes r) ≡ length (flat_map request_bytes (requests ++ r ∷ []))
+pub used_more : (used : ℕ) (requests : List Request) (r : Request) → used ≡ length (flat_map request_bytes requests) → counted used (request_bytes r) ≤ batch_bytes_limit → counted used (request_bytes r) ≡ length (flat_map request_bytes (requests ++ r ∷ []))
 used_more used requests r is short =
     let joined : length (flat_map request_bytes (requests ++ r ∷ [])) ≡ length (flat_map request_bytes requests) + length (flat_map request_bytes (r ∷ [])) =
     ap length (flat_map-append request_bytes requests (r ∷ [])) ∙ length-append (flat_map request_bytes requests) (flat_map request_bytes (r ∷ [])) in
     let one : length (flat_map request_bytes (r ∷ [])) ≡ length (request_bytes r) + 0 = ap length (flat_map-cons request_bytes r []) ∙ length-append (request_bytes r) [] in
-    omega (arith, is, joined, one, counted_small used 2048 (request_bytes r) (omega arith) short)
+    omega (arith, is, joined, one, counted_small used batch_bytes_limit (request_bytes r) (omega arith) short)

@@ -1,8 +1,9 @@
 -- One host of a list steps, or stamps.
-use Rattle.std.proofs.Common.{◌≡◌, ℕ, ◌+◌, ◌<◌, ◌≤◌, true, false, List, [], ◌∷◌, ◌++◌, length, set, Some, Result, sym, arith}
+use Rattle.std.proofs.Common.{◌≡◌, ℕ, ◌+◌, ◌<◌, ◌≤◌, true, false, List, [], ◌∷◌, ◌++◌, length, set, Some, sym, arith}
 use Rattle.std.specs.List.{slice_get}
-use Rattle.mb_base.specs.Shapes.{Bytes, IsShape, host_count}
+use Rattle.mb_base.specs.Shapes.{IsShape, host_count}
 use Rattle.mb_base.specs.declared.shape.Shape.{Shape}
+use Rattle.mb_service.specs.Machine.{ServiceMachine}
 use Rattle.mb_msg.specs.declared.event.Event.{Event}
 use Rattle.mb_replica.specs.declared.told.Told.{Told}
 use Rattle.mb_model.specs.Histories.{History, Identity}
@@ -73,24 +74,24 @@ shape_is : (s : Shape) → IsShape s
 shape_is s = record { faults = s.faults_in; intervals = s.interval_in; clients = s.clients_in }
 
 -- A host that was made with a schedule's shape and secret stands for the history in which nothing happened.
-pub made_as : {V : Type 0} (is_state : V → Type 0) (after : V → Bytes → V) (result : V → Bytes → Bytes) (part : V → ℕ → Bytes) (restored : List Bytes → Result V (ℕ × ℕ)) (y : System V) (h : ℕ) (r : Replica V)
-    → IsSystem is_state after result part restored y → (r.state.agreement.shape ≡ y.schedule.shape) × (r.state.agreement.host ≡ h) × (r.state.agreement.usig.secret ≡ y.schedule.secret)
+pub made_as : {V : Type 0} (machine : ServiceMachine V) (y : System V) (h : ℕ) (r : Replica V)
+    → IsSystem machine y → (r.state.agreement.shape ≡ y.schedule.shape) × (r.state.agreement.host ≡ h) × (r.state.agreement.usig.secret ≡ y.schedule.secret)
     → (IsHost (self_of y h) r → Represents (self_of y h) r []) → Represents (self_of y h) r []
-made_as is_state after result part restored y h r is host made = made (record { shape = sym host.0; host = sym host.1; secret = sym host.2 })
+made_as machine y h r is host made = made (record { shape = sym host.0; host = sym host.1; secret = sym host.2 })
 
 -- the service of each host
-pub serves_as : {V : Type 0} (is_state : V → Type 0) (after : V → Bytes → V) (result : V → Bytes → Bytes) (part : V → ℕ → Bytes) (restored : List Bytes → Result V (ℕ × ℕ)) (y : System V) (h : ℕ)
-    → IsSystem is_state after result part restored y → Serves is_state after result part restored (self_of y h)
-serves_as is_state after result part restored y h is = record { machine = is.machine; snapshots = is.snapshots; first = is.first }
+pub serves_as : {V : Type 0} (machine : ServiceMachine V) (y : System V) (h : ℕ)
+    → IsSystem machine y → Serves machine (self_of y h)
+serves_as machine y h is = record { machine = is.machine; snapshots = is.snapshots; first = is.first }
 
 -- A step that is that of the history leads to a correct host between two events again.
-pub goes_on : {V : Type 0} (is_state : V → Type 0) (after : V → Bytes → V) (result : V → Bytes → Bytes) (part : V → ℕ → Bytes) (restored : List Bytes → Result V (ℕ × ℕ)) (y : System V) (h : ℕ) (old new : Replica V) (d : History) (e : Event) (step : Told)
-    → IsSystem is_state after result part restored y → h < host_count y.schedule.shape → IsCorrectHost y h old d
-    → ((me : Identity V) (b : History) → Serves is_state after result part restored me → Represents me old b → IsWhole b → IsTold step (transition me b e) × (Represents me new (transition me b e).left.history × IsWhole (transition me b e).left.history))
+pub goes_on : {V : Type 0} (machine : ServiceMachine V) (y : System V) (h : ℕ) (old new : Replica V) (d : History) (e : Event) (step : Told)
+    → IsSystem machine y → h < host_count y.schedule.shape → IsCorrectHost y h old d
+    → ((me : Identity V) (b : History) → Serves machine me → Represents me old b → IsWhole b → IsTold step (transition me b e) × (Represents me new (transition me b e).left.history × IsWhole (transition me b e).left.history))
     → Goes y h d e step new
-goes_on is_state after result part restored y h old new d e step is there host stands =
+goes_on machine y h old new d e step is there host stands =
     let self : Identity _ = self_of y h in
-    let told = stands self d (serves_as is_state after result part restored y h is) host.represents host.whole in
+    let told = stands self d (serves_as machine y h is) host.represents host.whole in
     let sound : IsSound self d = host.represents.tables.sound in
     record {
       step = told.0;

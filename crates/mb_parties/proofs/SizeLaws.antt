@@ -4,6 +4,7 @@ use Rattle.std.specs.Prelude.{not}
 use Rattle.std.specs.Bool.{then_some}
 use Rattle.std.proofs.lemmas.Bool.{le-leb, lt-leb}
 use Rattle.std.proofs.lemmas.List.{length-map, length-reverse}
+use Rattle.mb_base.specs.Limits.{log_intervals, other_limit}
 use Rattle.mb_base.specs.Shapes.{Bytes, interval}
 use Rattle.mb_base.specs.declared.names.Ui.{Ui}
 use Rattle.mb_base.specs.declared.limits.TheConstants.{MESSAGE_LIMIT}
@@ -59,22 +60,22 @@ module _ (s : Schedule) (x : WorldState) (h view counter : ℕ) (messages : List
       ∙ spelled_size placeholder (faulty_ui s x h (bare_bytes_of s (change_after s x h view counter))) (record { view = view; body = Whole (log_after s x h counter); ui = no_ui }) refl (length-certificate s.secret _ _ _))
 
   -- It has too many entries.
-  pub too_many : (k : ℕ) → k ≡ interval s.shape → 6 * k + 768 < length messages → Some (WrongKind counter) ≡ then_some (not (is_sendable_change s x h view counter)) (WrongKind counter)
-  too_many k is many = rw (lt-leb (length (log_after s x h counter).entries) (6 * interval s.shape + 768) (omega (arith, entry_count, is, many))) refl
+  pub too_many : (k : ℕ) → k ≡ interval s.shape → log_intervals * k + other_limit < length messages → Some (WrongKind counter) ≡ then_some (not (is_sendable_change s x h view counter)) (WrongKind counter)
+  too_many k is many = rw (lt-leb (length (log_after s x h counter).entries) (log_intervals * interval s.shape + other_limit) (omega (arith, entry_count, is, many))) refl
 
   -- It has too many bytes.
-  pub too_long : (k : ℕ) → k ≡ interval s.shape → length messages ≤ 6 * k + 768 → (content : Stamped) → content ≡ unstamped (change_of view (reverse messages)) → MESSAGE_LIMIT < counted 0 (stamped_bytes content)
+  pub too_long : (k : ℕ) → k ≡ interval s.shape → length messages ≤ log_intervals * k + other_limit → (content : Stamped) → content ≡ unstamped (change_of view (reverse messages)) → MESSAGE_LIMIT < counted 0 (stamped_bytes content)
       → Some (WrongKind counter) ≡ then_some (not (is_sendable_change s x h view counter)) (WrongKind counter)
   too_long k is few content made long =
       rw (
-        le-leb (length (log_after s x h counter).entries) (6 * interval s.shape + 768) (omega (arith, entry_count, is, few)),
+        le-leb (length (log_after s x h counter).entries) (log_intervals * interval s.shape + other_limit) (omega (arith, entry_count, is, few)),
         lt-leb (length (faulty_message s x h (change_after s x h view counter))) MESSAGE_LIMIT (omega (arith, byte_count content made, counted_longer (stamped_bytes content) MESSAGE_LIMIT long)),
       ) refl
 
-  pub sendable : (k : ℕ) → k ≡ interval s.shape → length messages ≤ 6 * k + 768 → (content : Stamped) → content ≡ unstamped (change_of view (reverse messages)) → counted 0 (stamped_bytes content) ≤ MESSAGE_LIMIT
+  pub sendable : (k : ℕ) → k ≡ interval s.shape → length messages ≤ log_intervals * k + other_limit → (content : Stamped) → content ≡ unstamped (change_of view (reverse messages)) → counted 0 (stamped_bytes content) ≤ MESSAGE_LIMIT
       → then_some (not (is_sendable_change s x h view counter)) (WrongKind counter) ≡ None
   sendable k is few content made short =
       rw (
-        le-leb (length (log_after s x h counter).entries) (6 * interval s.shape + 768) (omega (arith, entry_count, is, few)),
+        le-leb (length (log_after s x h counter).entries) (log_intervals * interval s.shape + other_limit) (omega (arith, entry_count, is, few)),
         le-leb (length (faulty_message s x h (change_after s x h view counter))) MESSAGE_LIMIT (omega (arith, byte_count content made, counted_within (stamped_bytes content) MESSAGE_LIMIT (omega arith) short)),
       ) refl

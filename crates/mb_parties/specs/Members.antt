@@ -1,7 +1,8 @@
 -- What the code's list of hosts is: a correct one represents a history of its own, a faulty one has what it stamped.
-use Rattle.std.specs.Prelude.{◌≡◌, ℕ, ◌≤◌, Bool, true, false, List, length, map, reverse, Option, Some, None, Result, slice_get}
-use Rattle.mb_base.specs.Shapes.{Bytes}
+use Rattle.std.specs.Prelude.{◌≡◌, ℕ, ◌<◌, ◌≤◌, Bool, true, false, List, length, map, reverse, Option, Some, None, Result, IfOk, slice_get}
+use Rattle.mb_base.specs.Shapes.{host_count}
 use Rattle.mb_base.specs.declared.shape.Shape.{Shape}
+use Rattle.mb_service.specs.Machine.{ServiceMachine}
 use Rattle.mb_msg.specs.declared.event.Event.{Event}
 use Rattle.mb_model.specs.Histories.{History}
 use Rattle.mb_model.specs.Given.{Answer}
@@ -17,6 +18,7 @@ use Rattle.mb_world_model.specs.World.{System, FaultyStamp, self_of, update}
 use Rattle.mb_parties.specs.declared.members.FaultyHost.{FaultyHost}
 use Rattle.mb_parties.specs.declared.members.Member.{Member}
 use Rattle.mb_parties.specs.declared.members.Member.TheVariants as member
+use Rattle.mb_parties.specs.Hosts.{IsSystem}
 use Rattle.mb_parties.specs.Stamps.{FitsWhereStamped}
 
 -- ---- invariants
@@ -99,5 +101,10 @@ module _ {V : Type 0} (y : System V) where
   StepsAt h e d stamps (Some step) members = MadeStep h (answer_at h e d) d stamps step members
 
 -- Each correct host is between two events.
-abbrev pub AllRest : {V : Type 0} → (V → Type 0) → (V → Bytes → V) → (V → Bytes → Bytes) → (V → ℕ → Bytes) → (List Bytes → Result V (ℕ × ℕ)) → List (Member V) → Type 0
-AllRest is_state after result part restored members = (h : ℕ) (r : Replica _) → slice_get members h ≡ Some (member.Correct r) → IsAtRest is_state after result part restored r
+abbrev pub AllRest : {V : Type 0} → ServiceMachine V → List (Member V) → Type 0
+AllRest machine members = (h : ℕ) (r : Replica _) → slice_get members h ≡ Some (member.Correct r) → IsAtRest machine r
+
+-- In each system one of the members makes the step of an event, whatever they stand for.
+abbrev pub MakesStep : {V E : Type 0} → ServiceMachine V → ℕ → Event → List (Member V) → Result (Option Told) E → List (Member V) → Type 0
+MakesStep {V} m host event old result new = (y : System V) (d : ℕ → History) (stamps : ℕ → List FaultyStamp) → IsSystem m y → host < host_count y.schedule.shape
+    → RepresentsMembers y old d stamps → IfOk result (λ o. StepsAt y host event d stamps o new)

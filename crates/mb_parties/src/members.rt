@@ -1,17 +1,17 @@
 //! The hosts of a world: correct ones, and faulty ones that stamp what events say.
 
-ghost use Rattle.std.specs.Prelude.{◌≡◌, ◌<◌, ◌≤◌, false, length, List, [], ℕ, Some, slice_get, IfOk, OnOk};
+ghost use Rattle.std.specs.Prelude.{◌≡◌, ◌<◌, ◌≤◌, false, length, [], ℕ, Some, slice_get, IfOk, OnOk};
 ghost use Rattle.mb_base.specs.Shapes.{host_count};
 ghost use Rattle.mb_base.specs.declared.shape.Shape.{Shape as ShapeRecord};
 ghost use Rattle.mb_model.specs.Histories.{History};
-ghost use Rattle.mb_world_model.specs.World.{System, FaultyStamp};
+ghost use Rattle.mb_world_model.specs.World.{System};
 ghost use Rattle.mb_core.specs.Represents.{IsAtRest};
 ghost use Rattle.mb_replica.specs.Told.{KnowsEvent};
 ghost use Rattle.mb_core.specs.declared.replica.Replica.{Replica};
 ghost use Rattle.mb_parties.specs.declared.members.Member.TheVariants as member;
 ghost use Rattle.mb_schedule.specs.Limits.{is_faulty};
-ghost use Rattle.mb_parties.specs.Hosts.{IsSystem, AreServices};
-ghost use Rattle.mb_parties.specs.Members.{AllRest, AllRun, AreOf, Goes, IsCorrectHost, IsMember, RepresentsMembers, StampedWithin, StepsAt, has_halted, shape_of, stamped_by};
+ghost use Rattle.mb_parties.specs.Hosts.{IsSystem, AreServices, ForSystem};
+ghost use Rattle.mb_parties.specs.Members.{AllRest, AllRun, AreOf, Goes, IsCorrectHost, IsMember, RepresentsMembers, StampedWithin, has_halted, shape_of, stamped_by, MakesStep};
 
 use mb_base::{Digest, Host, Items, Key, NoMemory, Shape};
 use mb_core::{Replica, Stop};
@@ -59,8 +59,7 @@ pub fn new_members<V: Service + Drop>(
 ) -> Result<Vec<Member<V>>, NoMemory>
     requires faulty { length faulty_hosts.now ≡ host_count shape }
     requires services { length services.items ≡ host_count shape }
-    ensures stands { (y : System V) → IsSystem V.is_state V.after V.answer V.part_of V.restored y → y.schedule.shape ≡ shape → y.schedule.secret ≡ secret.now → y.schedule.faulty_hosts ≡ faulty_hosts.now → AreServices y.initial services.items
-        → IfOk result (λ v. RepresentsMembers y v.items (λ h. []) (λ h. [])) }
+    ensures stands { ForSystem V.machine shape secret.now (λ y. y.schedule.faulty_hosts ≡ faulty_hosts.now → AreServices y.initial services.items → IfOk result (λ v. RepresentsMembers y v.items (λ h. []) (λ h. []))) }
     ensures runs { IfOk result (λ v. AllRun v.items) }
     ensures within { IfOk result (λ v. StampedWithin 0 v.items) }
     ensures of { IfOk result (λ v. AreOf shape v.items) }
@@ -86,8 +85,7 @@ fn new_member<V: Service + Drop>(
     service: V,
 ) -> Result<Member<V>, NoMemory>
     requires { host < host_count shape }
-    ensures stands { (y : System V) → IsSystem V.is_state V.after V.answer V.part_of V.restored y → y.schedule.shape ≡ shape → y.schedule.secret ≡ secret.now → is_faulty y.schedule host ≡ faulty → service ≡ y.initial
-        → IfOk result (λ m. IsMember y host m [] []) }
+    ensures stands { ForSystem V.machine shape secret.now (λ y. is_faulty y.schedule host ≡ faulty → service ≡ y.initial → IfOk result (λ m. IsMember y host m [] [])) }
     ensures runs { IfOk result (λ m. has_halted m ≡ false) }
     ensures within { IfOk result (λ m. stamped_by m ≤ 0) }
     ensures of { IfOk result (λ m. shape_of shape m ≡ shape) }
@@ -113,10 +111,9 @@ pub fn step_at<V: Service + Drop>(
 ) -> Result<Option<Told>, NoMemory>
     requires host { host < length members.old.items }
     requires runs { AllRun members.old.items }
-    requires rest { AllRest V.is_state V.after V.answer V.part_of V.restored members.old.items }
+    requires rest { AllRest V.machine members.old.items }
     requires known { (r : Replica V) → slice_get members.old.items host ≡ Some (member.Correct r) → KnowsEvent r.state.agreement.shape known.now event.now }
-    ensures stands { (y : System V) (d : ℕ → History) (stamps : ℕ → List FaultyStamp) → IsSystem V.is_state V.after V.answer V.part_of V.restored y → host < host_count y.schedule.shape → RepresentsMembers y members.old.items d stamps
-        → IfOk result (λ o. StepsAt y host event.now d stamps o members.new.items) }
+    ensures stands { MakesStep V.machine host event.now members.old.items result members.new.items }
     ensures runs { OnOk result (AllRun members.new.items) }
     ensures within { (n : ℕ) → StampedWithin n members.old.items → StampedWithin n members.new.items }
     ensures of { (n : ShapeRecord) → AreOf n members.old.items → AreOf n members.new.items }
@@ -135,9 +132,9 @@ fn step_of<V: Service + Drop>(
     known: &Option<Digest>,
 ) -> Result<Told, NoMemory>
     requires runs { replica.old.halted ≡ false }
-    requires rest { IsAtRest V.is_state V.after V.answer V.part_of V.restored replica.old }
+    requires rest { IsAtRest V.machine replica.old }
     requires known { KnowsEvent replica.old.state.agreement.shape known.now event.now }
-    ensures stands { (y : System V) (h : ℕ) (d : History) → IsSystem V.is_state V.after V.answer V.part_of V.restored y → h < host_count y.schedule.shape → IsCorrectHost y h replica.old d
+    ensures stands { (y : System V) (h : ℕ) (d : History) → IsSystem V.machine y → h < host_count y.schedule.shape → IsCorrectHost y h replica.old d
         → IfOk result (λ s. Goes y h d event.now s replica.new) }
     ensures runs { OnOk result (replica.new.halted ≡ false) }
 {

@@ -1,15 +1,8 @@
 //! What a correct host's step leaves in the ledger: what it stamped, and the tags that it made.
 
-ghost use Rattle.std.specs.Prelude.{◌≡◌, ◌<◌, ◌++◌, ℕ, List, fold, reverse, filter_map, OnOk};
-ghost use Rattle.std.specs.Option.{option_to_list};
-ghost use Rattle.mb_base.specs.Shapes.{Bytes, host_count};
-ghost use Rattle.mb_parts.specs.declared.request.Request.{Request};
-ghost use Rattle.mb_msg.specs.declared.message.Message.{Message as MessageData};
-ghost use Rattle.mb_model.specs.Sending.{Letter};
-ghost use Rattle.mb_replica.specs.Told.{as_outgoing};
-ghost use Rattle.mb_world_model.specs.World.{update, with_tagged};
-ghost use Rattle.mb_forged.specs.Ledgers.{Keeps};
-ghost use Rattle.mb_parties.specs.Stamps.{IsReadable, IsSent, bare_in};
+ghost use Rattle.std.specs.Prelude.{◌≡◌, ◌<◌};
+ghost use Rattle.mb_base.specs.Shapes.{host_count};
+ghost use Rattle.mb_parties.specs.Stamps.{NotesStep, NotesMessage};
 
 use mb_base::{Duplicate, Host, NoMemory};
 use mb_forged::Ledger;
@@ -25,9 +18,7 @@ pub fn note_step(
     sent: &[Outgoing],
 ) -> Result<(), NoMemory>
     requires { host < host_count ledger.old.shape }
-    ensures keeps { (stamps : ℕ → List Bytes) (asked : List Request) (tagged : List MessageData) (letters : List Letter) → Keeps ledger.old.shape ledger.old stamps asked tagged
-        → IsSent ledger.old.shape letters sent.now
-        → OnOk result (Keeps ledger.old.shape ledger.new (update stamps host (reverse (filter_map bare_in letters) ++ stamps host)) asked (fold with_tagged tagged letters)) }
+    ensures keeps { NotesStep ledger.old host sent.now result ledger.new }
     ensures shape { ledger.new.shape ≡ ledger.old.shape }
 {
     for message in sent {
@@ -44,9 +35,7 @@ fn note_message(
     sent: &Outgoing,
 ) -> Result<(), NoMemory>
     requires { host < host_count ledger.old.shape }
-    ensures keeps { (stamps : ℕ → List Bytes) (asked : List Request) (tagged : List MessageData) (letter : Letter) → Keeps ledger.old.shape ledger.old stamps asked tagged
-        → IsReadable ledger.old.shape letter → sent.now ≡ as_outgoing letter
-        → OnOk result (Keeps ledger.old.shape ledger.new (update stamps host (option_to_list (bare_in letter) ++ stamps host)) asked (with_tagged tagged letter)) }
+    ensures keeps { NotesMessage ledger.old host sent.now result ledger.new }
     ensures shape { ledger.new.shape ≡ ledger.old.shape }
 {
     match &sent.said {

@@ -7,6 +7,7 @@ use Rattle.mb_parts.proofs.Held.{held_at_zero, held_above}
 use Rattle.std.specs.Int.{w8, w64}
 use Rattle.std.specs.List.{flat_map}
 use Rattle.std.proofs.Math.Nat.{min-le_left, min-le_right, min-eq_left, min-eq_right}
+use Rattle.mb_base.specs.Limits.{text_limit, batch_limit, batch_bytes_limit}
 use Rattle.mb_base.specs.declared.shape.Shape.{Shape}
 use Rattle.mb_base.specs.Shapes.{Bytes, IsShape, host_count, client_count, max_faults, quorum, interval, span, primary}
 use Rattle.mb_base.specs.Spelling.{number}
@@ -134,7 +135,7 @@ module _ (s : Shape) (h : IsShape s) where
       (λ r f. ((r.client, (r.seq, (r.op, r.tag))), refl, (f.client, (f.seq, (f.op, f.tag))))) (
       pair_field _ _ _ _ _ _ (client_field s h) (
       pair_field _ _ _ _ _ _ counter_field (
-      pair_field _ _ _ _ _ _ (text16_field 1024 (lit< tt)) digest_field)))
+      pair_field _ _ _ _ _ _ (text16_field text_limit (lit< tt)) digest_field)))
 
   pub batch_field : IsField (batch_at s) batch_bytes (FitsBatch s)
   unfolding batch_at batch_bytes
@@ -143,8 +144,8 @@ module _ (s : Shape) (h : IsShape s) where
       (λ p f. ap (λ (n : ℕ). number w8 n ++ flat_map request_bytes p.1) f.1.0)
       (λ p f. record { count = (omega (arith, f.0.0, f.1.0), omega (arith, f.0.1, f.1.0)); requests = f.1.1.0; size = omega (arith, f.1.1.1) })
       (λ b f. ((length b.requests, b.requests), refl, (f.count, (refl, (f.requests, omega (arith, f.size)))))) (
-      then_field _ _ _ _ (λ n. flat_map request_bytes) (λ n. Bounded (request_at s) request_bytes (FitsRequest s) request_field 2048 n 0)
-      (ranged_field w8 (2 ^ 8) 1 16 (lit< tt) wide8) (λ n f. bounded_field (request_at s) request_bytes (FitsRequest s) request_field 2048 n 0 (lit≤ tt)))
+      then_field _ _ _ _ (λ n. flat_map request_bytes) (λ n. Bounded (request_at s) request_bytes (FitsRequest s) request_field batch_bytes_limit n 0)
+      (ranged_field w8 (2 ^ 8) 1 batch_limit (lit< tt) wide8) (λ n f. bounded_field (request_at s) request_bytes (FitsRequest s) request_field batch_bytes_limit n 0 (lit≤ tt)))
 
   pub floors_field : IsField (floors_at s) floors_bytes (FitsFloors s)
   floors_field = repeat_field (host_count s) _ _ _ (optional_field _ _ _ floor_field)

@@ -1,6 +1,7 @@
 -- The values that the parts of messages may have.
 use Rattle.std.specs.Prelude.{◌≡◌, true, ℕ, zero, suc, ◌+◌, ◌%◌, ◌^◌, ◌≤◌, ◌<◌, length, map, replicate, List, [], Option, Some, None, IfSome}
 use Rattle.std.specs.List.{flat_map, AllByRecursion}
+use Rattle.mb_base.specs.Limits.{text_limit, batch_limit, batch_bytes_limit}
 use Rattle.mb_base.specs.Shapes.{Bytes, host_count, client_count, max_faults, quorum, interval, span, primary}
 use Rattle.mb_base.specs.Spelling.{Rises}
 use Rattle.mb_base.specs.Reading.{is_other}
@@ -37,7 +38,7 @@ IsDigest d = length d ≡ 32
 
 -- an operation or a result
 abbrev pub FitsText : Bytes → Type 0
-FitsText text = length text ≤ 1024
+FitsText text = length text ≤ text_limit
 
 -- a part of a state
 abbrev pub FitsStatePart : Bytes → Type 0
@@ -63,13 +64,13 @@ pub record FitsRequest (s : Shape) (r : Request) : Type 0 where
 
 -- The count is not among the bytes that are limited.
 pub record FitsBatch (s : Shape) (b : Batch) : Type 0 where
-  pub count : (1 ≤ length b.requests) × (length b.requests ≤ 16)
+  pub count : (1 ≤ length b.requests) × (length b.requests ≤ batch_limit)
   pub requests : AllByRecursion (FitsRequest s) b.requests
-  pub size : length (flat_map request_bytes b.requests) ≤ 2048
+  pub size : length (flat_map request_bytes b.requests) ≤ batch_bytes_limit
 
 -- a batch whose digest can be taken
 abbrev pub CanDigest : Batch → Type 0
-CanDigest b = ((1 ≤ length b.requests) × (length b.requests ≤ 16)) × AllByRecursion (λ r. FitsText r.op) b.requests
+CanDigest b = ((1 ≤ length b.requests) × (length b.requests ≤ batch_limit)) × AllByRecursion (λ r. FitsText r.op) b.requests
 
 pub record FitsUi (s : Shape) (u : Ui) : Type 0 where
   pub host : u.host < host_count s

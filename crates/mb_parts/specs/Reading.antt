@@ -1,6 +1,7 @@
 -- Reading the parts of messages from left to right, with the offset of the first field that is short or has a value that isn't allowed.
 use Rattle.std.specs.Prelude.{ℕ, ◌+◌, ◌-◌, ◌^◌, min, replicate, ◌==◌, if◌then◌else◌, List, [], Option, Some, None}
 use Rattle.std.specs.Int.{w8, w32, w64}
+use Rattle.mb_base.specs.Limits.{text_limit, batch_limit, batch_bytes_limit}
 use Rattle.mb_base.specs.Shapes.{Bytes, host_count, client_count, max_faults, quorum, interval, span, primary}
 use Rattle.mb_base.specs.Reading.{Cursor, Reads, number_in, number_without, multiple_in, bytes_at, text_in, text16_at, pair_at, then_at, map_at, nothing_at, optional_at, repeat_at, rising_at, bounded_at}
 use Rattle.mb_base.specs.declared.shape.Shape.{Shape}
@@ -78,14 +79,14 @@ abbrev pub request_of_fields : ℕ × (ℕ × (Bytes × Bytes)) → Request
 request_of_fields p = record { client = p.0; seq = p.1.0; op = p.1.1.0; tag = p.1.1.1 }
 
 unfoldable pub request_at : Shape → Cursor → Reads Request
-request_at s = map_at request_of_fields (pair_at (client_at s) (pair_at counter_at (pair_at (text16_at 1024) digest_at)))
+request_at s = map_at request_of_fields (pair_at (client_at s) (pair_at counter_at (pair_at (text16_at text_limit) digest_at)))
 
 abbrev pub batch_of_fields : ℕ × List Request → Batch
 batch_of_fields p = record { requests = p.1 }
 
 -- A request is read whole, and then the bytes of all up to it may be too many: its first byte is at fault.
 unfoldable pub batch_at : Shape → Cursor → Reads Batch
-batch_at s = map_at batch_of_fields (then_at (number_in w8 1 16) (λ count. bounded_at request_bytes 2048 (request_at s) count 0))
+batch_at s = map_at batch_of_fields (then_at (number_in w8 1 batch_limit) (λ count. bounded_at request_bytes batch_bytes_limit (request_at s) count 0))
 
 abbrev pub phase_of : ℕ → Phase
 phase_of n = if n == 0 then phase.Changing else (if n == 1 then phase.Entered else phase.Open)

@@ -2,6 +2,7 @@
 
 ghost use Rattle.std.specs.Prelude.{◌≡◌, ◌↔◌, IsTrue, ◌+◌, ◌≤◌, ◌++◌, ℕ, List, length, IfOk, IfSome};
 ghost use Rattle.std.specs.List.{flat_map, AllByRecursion};
+ghost use Rattle.mb_base.specs.Limits.{batch_limit, batch_bytes_limit};
 ghost use Rattle.mb_base.specs.Reading.{bounded_one, bounded_at};
 ghost use Rattle.mb_base.specs.Fields.{place_of};
 ghost use Rattle.mb_parts.specs.Bares.{batch_digest};
@@ -37,7 +38,7 @@ impl Duplicate for Batch {
 
 /// Whether there are 1 to 16.
 fn are_enough(requests: &[Request]) -> bool
-    ensures { IsTrue result ↔ ((1 ≤ length requests.now) × (length requests.now ≤ 16)) }
+    ensures { IsTrue result ↔ ((1 ≤ length requests.now) × (length requests.now ≤ batch_limit)) }
 {
     1 <= requests.len() && requests.len() <= MAX_REQUESTS as usize
 }
@@ -46,7 +47,7 @@ fn are_enough(requests: &[Request]) -> bool
 #[tactic(auto, using(crate::proofs::CountedBytes::counted_within, crate::proofs::CountedBytes::within_counted))]
 fn are_short(shape: &Shape, requests: &[Request]) -> bool
     requires { AllByRecursion (FitsRequest shape.now) requests.now }
-    ensures { IsTrue result ↔ (length (flat_map request_bytes requests.now) ≤ 2048) }
+    ensures { IsTrue result ↔ (length (flat_map request_bytes requests.now) ≤ batch_bytes_limit) }
 {
     count_all(shape, 0, requests) <= MAX_BATCH
 }
@@ -85,9 +86,9 @@ fn read_next(
     used: usize,
     fields: &mut Fields<'_>,
 ) -> Result<Request, Undecoded>
-    requires { used ≤ 2048 }
-    ensures read { Decodes result fields.new (bounded_one request_bytes 2048 (request_at shape.now) used (place_of fields.old)) }
-    ensures size { IfOk result (λ r. FitsText r.op × (used + length (request_bytes r) ≤ 2048)) }
+    requires { used ≤ batch_bytes_limit }
+    ensures read { Decodes result fields.new (bounded_one request_bytes batch_bytes_limit (request_at shape.now) used (place_of fields.old)) }
+    ensures size { IfOk result (λ r. FitsText r.op × (used + length (request_bytes r) ≤ batch_bytes_limit)) }
 {
     let start = *fields;
     let request = read_request(alloc, shape, fields)?;
@@ -105,7 +106,7 @@ fn read_requests(
     count: u8,
     fields: &mut Fields<'_>,
 ) -> Result<Items<Request>, Undecoded>
-    ensures { Decodes result fields.new (bounded_at request_bytes 2048 (request_at shape.now) count 0 (place_of fields.old)) }
+    ensures { Decodes result fields.new (bounded_at request_bytes batch_bytes_limit (request_at shape.now) count 0 (place_of fields.old)) }
 {
     let mut requests = Items::new(alloc);
     let mut used = 0;

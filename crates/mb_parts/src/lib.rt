@@ -29,8 +29,14 @@ pub use evidence::read_evidence_in;
 pub use fault::Undecoded;
 pub use floor::{Floor, Mark, Phase};
 pub use floors::floors_digest;
-pub use laws::{certificates_carry_over, ordered_lists_go_on_from_floors, prefixes_are_consistent};
-pub use limits::{MAX_BATCH, MAX_PLACE, MAX_POS, MAX_REQUESTS, MAX_VIEW, TEXT_LIMIT};
+pub use laws::{
+    certificates_carry_over, limits_are_those_defined, ordered_lists_go_on_from_floors,
+    prefixes_are_consistent,
+};
+pub use limits::{
+    LOG_INTERVALS, MAX_BATCH, MAX_ENTRIES, MAX_PLACE, MAX_POS, MAX_REQUESTS, MAX_VIEW, OTHER_LIMIT,
+    PART_COUNT, TEXT_LIMIT,
+};
 pub use numbers::{
     is_base, is_counter, is_end, is_place, is_position, read_base, read_client, read_counter,
     read_digest, read_end, read_host, read_place, read_point, read_position, read_text, text_fits,

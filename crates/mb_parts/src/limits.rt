@@ -1,4 +1,4 @@
-//! The limits of fields.
+//! The limits that several crates have to keep, as `mb_base/specs/Limits` has them, and those of numbers.
 
 use mb_base::{Pos, View};
 
@@ -19,3 +19,15 @@ pub const MAX_REQUESTS: u8 = 16;
 
 /// The most bytes that the requests of a batch have together, without their count.
 pub const MAX_BATCH: usize = 2048;
+
+/// For how many checkpoint intervals of PREPAREs, COMMITs and CHECKPOINTs a log has room.
+pub const LOG_INTERVALS: u8 = 6;
+
+/// The most messages of a log other than PREPAREs, COMMITs and CHECKPOINTs.
+pub const OTHER_LIMIT: u16 = 768;
+
+/// The most messages of a LOG.
+pub const MAX_ENTRIES: u16 = 64;
+
+/// How many parts a state has with its client table, which is the last of them.
+pub const PART_COUNT: u8 = 65;

@@ -1,6 +1,7 @@
 //! Numbers of messages with their limits, and digests. A field that is short, or outside its limits, is the fault.
 
 ghost use Rattle.std.specs.Prelude.{◌≡◌, ◌↔◌, ◌≤◌, ◌<◌, ◌+◌, length, IfOk, IsTrue};
+ghost use Rattle.mb_base.specs.Limits.{text_limit};
 ghost use Rattle.mb_base.specs.Shapes.{host_count, span};
 ghost use Rattle.mb_base.specs.Reading.{multiple_in, text16_at};
 ghost use Rattle.mb_base.specs.Fields.{place_of};
@@ -98,7 +99,7 @@ pub fn read_digest(fields: &mut Fields<'_>) -> Result<Digest, Undecoded>
 
 /// An operation or a result: at most 1,024 bytes behind their number.
 pub fn read_text(alloc: Global, fields: &mut Fields<'_>) -> Result<Items<u8>, Undecoded>
-    ensures { Decodes result fields.new (text16_at 1024 (place_of fields.old)) }
+    ensures { Decodes result fields.new (text16_at text_limit (place_of fields.old)) }
 {
     let bytes = fields.text16(TEXT_LIMIT)?;
     Ok(Items::from_vec(Vec::from_slice(alloc, bytes)?))

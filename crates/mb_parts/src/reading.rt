@@ -7,7 +7,7 @@ ghost use Rattle.std.specs.Prelude.{◌+◌, ◌-◌, ◌^◌, IfSome};
 ghost use Rattle.mb_base.specs.Spelling.{optional};
 ghost use Rattle.mb_base.specs.Reading.{optional_at};
 ghost use Rattle.mb_base.specs.Fields.{place_of};
-ghost use Rattle.mb_parts.specs.Decoded.{Decodes, Spelled, ReadsAgain, StaysWithoutMemory};
+ghost use Rattle.mb_parts.specs.Decoded.{Decodes, StaysWithoutMemory, ReadsPart};
 ghost use Rattle.mb_parts.specs.Fits.{FitsRequest, FitsBatch, FitsStable, FitsFloor, FitsFloorCert, FitsEvidence};
 ghost use Rattle.mb_parts.specs.Spelling.{request_bytes, batch_bytes, stable_bytes, floor_bytes, floor_cert_bytes, evidence_bytes};
 ghost use Rattle.mb_parts.specs.Reading.{request_at, batch_at, stable_at, floor_at, floor_cert_at, evidence_at};
@@ -44,20 +44,14 @@ pub fn read_request(
     shape: &Shape,
     fields: &mut Fields<'_>,
 ) -> Result<Request, Undecoded>
-    ensures exact { Decodes result fields.new (request_at shape.now (place_of fields.old)) }
-    ensures found { Spelled request_bytes (FitsRequest shape.now) result fields.old fields.new }
-    ensures only { ReadsAgain request_bytes (FitsRequest shape.now) result fields.old fields.new }
-    ensures kept { StaysWithoutMemory result fields.old fields.new }
+    ensures { ReadsPart (request_at shape.now) request_bytes (FitsRequest shape.now) result fields.old fields.new }
 {
     read_or_stay(alloc, shape, fields)
 }
 
 /// The batch at the place of the fields.
 pub fn read_batch(alloc: Global, shape: &Shape, fields: &mut Fields<'_>) -> Result<Batch, Undecoded>
-    ensures exact { Decodes result fields.new (batch_at shape.now (place_of fields.old)) }
-    ensures found { Spelled batch_bytes (FitsBatch shape.now) result fields.old fields.new }
-    ensures only { ReadsAgain batch_bytes (FitsBatch shape.now) result fields.old fields.new }
-    ensures kept { StaysWithoutMemory result fields.old fields.new }
+    ensures { ReadsPart (batch_at shape.now) batch_bytes (FitsBatch shape.now) result fields.old fields.new }
 {
     read_or_stay(alloc, shape, fields)
 }
@@ -68,10 +62,7 @@ pub fn read_stable(
     shape: &Shape,
     fields: &mut Fields<'_>,
 ) -> Result<StableCert, Undecoded>
-    ensures exact { Decodes result fields.new (stable_at shape.now (place_of fields.old)) }
-    ensures found { Spelled stable_bytes (FitsStable shape.now) result fields.old fields.new }
-    ensures only { ReadsAgain stable_bytes (FitsStable shape.now) result fields.old fields.new }
-    ensures kept { StaysWithoutMemory result fields.old fields.new }
+    ensures { ReadsPart (stable_at shape.now) stable_bytes (FitsStable shape.now) result fields.old fields.new }
 {
     read_or_stay(alloc, shape, fields)
 }
@@ -82,10 +73,7 @@ pub fn read_floor_cert(
     shape: &Shape,
     fields: &mut Fields<'_>,
 ) -> Result<Option<FloorCert>, Undecoded>
-    ensures exact { Decodes result fields.new (optional_at (floor_cert_at shape.now) (place_of fields.old)) }
-    ensures found { Spelled (optional floor_cert_bytes) (λ o. IfSome o (FitsFloorCert shape.now)) result fields.old fields.new }
-    ensures only { ReadsAgain (optional floor_cert_bytes) (λ o. IfSome o (FitsFloorCert shape.now)) result fields.old fields.new }
-    ensures kept { StaysWithoutMemory result fields.old fields.new }
+    ensures { ReadsPart (optional_at (floor_cert_at shape.now)) (optional floor_cert_bytes) (λ o. IfSome o (FitsFloorCert shape.now)) result fields.old fields.new }
 {
     read_or_stay(alloc, shape, fields)
 }
@@ -96,10 +84,7 @@ pub fn read_evidence(
     shape: &Shape,
     fields: &mut Fields<'_>,
 ) -> Result<Evidence, Undecoded>
-    ensures exact { Decodes result fields.new (evidence_at shape.now (place_of fields.old)) }
-    ensures found { Spelled evidence_bytes (FitsEvidence shape.now) result fields.old fields.new }
-    ensures only { ReadsAgain evidence_bytes (FitsEvidence shape.now) result fields.old fields.new }
-    ensures kept { StaysWithoutMemory result fields.old fields.new }
+    ensures { ReadsPart (evidence_at shape.now) evidence_bytes (FitsEvidence shape.now) result fields.old fields.new }
 {
     read_or_stay(alloc, shape, fields)
 }
@@ -110,10 +95,7 @@ pub fn read_floor(
     shape: &Shape,
     fields: &mut Fields<'_>,
 ) -> Result<Option<Floor>, Undecoded>
-    ensures exact { Decodes result fields.new (optional_at floor_at (place_of fields.old)) }
-    ensures found { Spelled (optional floor_bytes) (λ o. IfSome o FitsFloor) result fields.old fields.new }
-    ensures only { ReadsAgain (optional floor_bytes) (λ o. IfSome o FitsFloor) result fields.old fields.new }
-    ensures kept { StaysWithoutMemory result fields.old fields.new }
+    ensures { ReadsPart (optional_at floor_at) (optional floor_bytes) (λ o. IfSome o FitsFloor) result fields.old fields.new }
 {
     read_or_stay(alloc, shape, fields)
 }

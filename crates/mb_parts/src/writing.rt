@@ -2,6 +2,7 @@
 
 ghost use Rattle.std.specs.Prelude.{◌≡◌, ◌++◌, IfSome, OnOk, OnErr};
 ghost use Rattle.mb_base.specs.Spelling.{optional};
+ghost use Rattle.mb_parts.specs.Appended.{AppendsPart};
 ghost use Rattle.mb_parts.specs.Fits.{FitsRequest, FitsBatch, FitsStable, FitsFloor, FitsFloorCert, FitsEvidence};
 ghost use Rattle.mb_parts.specs.Spelling.{request_bytes, batch_bytes, stable_bytes, floor_bytes, floor_cert_bytes, evidence_bytes};
 
@@ -37,8 +38,7 @@ pub fn put_request(
     out: &mut Vec<u8>,
 ) -> Result<(), NoMemory>
     requires { FitsRequest shape.now part.now }
-    ensures ok { OnOk result (out.new.items ≡ out.old.items ++ request_bytes part.now) }
-    ensures err { OnErr result (out.new.items ≡ out.old.items) }
+    ensures { AppendsPart (request_bytes part.now) result out.old.items out.new.items }
 {
     put_whole(alloc, shape, part, out)
 }
@@ -51,8 +51,7 @@ pub fn put_batch(
     out: &mut Vec<u8>,
 ) -> Result<(), NoMemory>
     requires { FitsBatch shape.now part.now }
-    ensures ok { OnOk result (out.new.items ≡ out.old.items ++ batch_bytes part.now) }
-    ensures err { OnErr result (out.new.items ≡ out.old.items) }
+    ensures { AppendsPart (batch_bytes part.now) result out.old.items out.new.items }
 {
     put_whole(alloc, shape, part, out)
 }
@@ -65,8 +64,7 @@ pub fn put_stable(
     out: &mut Vec<u8>,
 ) -> Result<(), NoMemory>
     requires { FitsStable shape.now part.now }
-    ensures ok { OnOk result (out.new.items ≡ out.old.items ++ stable_bytes part.now) }
-    ensures err { OnErr result (out.new.items ≡ out.old.items) }
+    ensures { AppendsPart (stable_bytes part.now) result out.old.items out.new.items }
 {
     put_whole(alloc, shape, part, out)
 }
@@ -79,8 +77,7 @@ pub fn put_floor_cert(
     out: &mut Vec<u8>,
 ) -> Result<(), NoMemory>
     requires { IfSome part.now (FitsFloorCert shape.now) }
-    ensures ok { OnOk result (out.new.items ≡ out.old.items ++ optional floor_cert_bytes part.now) }
-    ensures err { OnErr result (out.new.items ≡ out.old.items) }
+    ensures { AppendsPart (optional floor_cert_bytes part.now) result out.old.items out.new.items }
 {
     put_whole(alloc, shape, part, out)
 }
@@ -93,8 +90,7 @@ pub fn put_evidence(
     out: &mut Vec<u8>,
 ) -> Result<(), NoMemory>
     requires { FitsEvidence shape.now part.now }
-    ensures ok { OnOk result (out.new.items ≡ out.old.items ++ evidence_bytes part.now) }
-    ensures err { OnErr result (out.new.items ≡ out.old.items) }
+    ensures { AppendsPart (evidence_bytes part.now) result out.old.items out.new.items }
 {
     put_whole(alloc, shape, part, out)
 }
@@ -107,8 +103,7 @@ pub fn put_floor(
     out: &mut Vec<u8>,
 ) -> Result<(), NoMemory>
     requires { IfSome part.now FitsFloor }
-    ensures ok { OnOk result (out.new.items ≡ out.old.items ++ optional floor_bytes part.now) }
-    ensures err { OnErr result (out.new.items ≡ out.old.items) }
+    ensures { AppendsPart (optional floor_bytes part.now) result out.old.items out.new.items }
 {
     put_whole(alloc, shape, part, out)
 }

@@ -9,13 +9,14 @@ use Rattle.std.proofs.lemmas.Bool.{cases_Bool, cases_lt, leb-true, leb-false}
 use Rattle.std.proofs.lemmas.List.{length-reverse, length-take-le, reverse-append}
 use Rattle.std.proofs.lemmas.List.Concat.{flat_map-cons}
 use Rattle.std.proofs.lemmas.Option.{slice_get_within}
+use Rattle.mb_base.specs.Limits.{entry_bytes_limit, entry_limit}
 use Rattle.mb_msg.specs.declared.message.Message.{Message}
 use Rattle.mb_msg.specs.declared.message.Message.TheVariants as message
 use Rattle.mb_msg.specs.declared.transfer.Resend.{Resend}
 use Rattle.mb_msg.specs.declared.stamped.Stamped.{Stamped as StampedMessage}
 use Rattle.mb_msg.specs.Spelling.{stamped_bytes}
 use Rattle.mb_model.specs.Histories.{Entry, Stamped, History, Identity}
-use Rattle.mb_model.specs.OwnLog.{log_kept, log_start, log_longest, count_from, since, entry_bytes_limit, packed, first_packed}
+use Rattle.mb_model.specs.OwnLog.{log_kept, log_start, log_longest, count_from, since, packed, first_packed}
 use Rattle.mb_model.specs.Sending.{Letter, Progress, begin, to_host}
 use Rattle.mb_model.specs.Making.{expected}
 use Rattle.mb_model.specs.Passed.{PassesResend}
@@ -45,10 +46,10 @@ record EndsFull (most used : ℕ) (l some : List StampedMessage) : Type 0 where
   rest : List StampedMessage
   begins : l ≡ some ++ rest
   few : length some ≤ most
-  short : (length some ≡ 0) ⊎ (used + bytes_of some ≤ 800000)
-  full : (m : StampedMessage) (more : List StampedMessage) → rest ≡ m ∷ more → (length some ≡ most) ⊎ (800000 < used + bytes_of (some ++ m ∷ []))
+  short : (length some ≡ 0) ⊎ (used + bytes_of some ≤ entry_bytes_limit)
+  full : (m : StampedMessage) (more : List StampedMessage) → rest ≡ m ∷ more → (length some ≡ most) ⊎ (entry_bytes_limit < used + bytes_of (some ++ m ∷ []))
 
-with_first : (most used : ℕ) (m : StampedMessage) (l some : List StampedMessage) → used + length (stamped_bytes m) ≤ 800000 → EndsFull most (used + length (stamped_bytes m)) l some → EndsFull (suc most) used (m ∷ l) (m ∷ some)
+with_first : (most used : ℕ) (m : StampedMessage) (l some : List StampedMessage) → used + length (stamped_bytes m) ≤ entry_bytes_limit → EndsFull most (used + length (stamped_bytes m)) l some → EndsFull (suc most) used (m ∷ l) (m ∷ some)
 with_first most used m l some place x = record {
   rest = x.rest;
   begins = ap (λ (y : List StampedMessage). m ∷ y) x.begins;
@@ -69,13 +70,13 @@ with_first most used m l some place x = record {
 first_same : (m q : StampedMessage) (l more : List StampedMessage) → m ∷ l ≡ q ∷ more → m ≡ q
 first_same m q l more e = cc
 
-none_more : (most used : ℕ) (m : StampedMessage) (l : List StampedMessage) → 800000 < used + length (stamped_bytes m) → EndsFull (suc most) used (m ∷ l) []
+none_more : (most used : ℕ) (m : StampedMessage) (l : List StampedMessage) → entry_bytes_limit < used + length (stamped_bytes m) → EndsFull (suc most) used (m ∷ l) []
 none_more most used m l long = record {
   rest = m ∷ l;
   begins = refl;
   few = omega arith;
   short = inl refl;
-  full = λ q more e. inr (subst (λ (y : StampedMessage). 800000 < used + bytes_of (y ∷ [])) (first_same m q l more e) (let zeroth : bytes_of [] ≡ 0 = refl in omega (arith, long, bytes_more m [], zeroth)));
+  full = λ q more e. inr (subst (λ (y : StampedMessage). entry_bytes_limit < used + bytes_of (y ∷ [])) (first_same m q l more e) (let zeroth : bytes_of [] ≡ 0 = refl in omega (arith, long, bytes_more m [], zeroth)));
 }
 
 ends_full : (most used : ℕ) (l : List StampedMessage) → EndsFull most used l (packed most used l)
@@ -91,8 +92,8 @@ ends_full (suc most) used (m ∷ l) = elim (cases_Bool (nat_le (used + length (s
 filled : (all : List StampedMessage) → IsFilled all (first_packed all)
 filled [] = record { rest = []; begins = refl; first = λ some. some; few = omega arith; short = inl (omega arith); full = λ m more e. absurd cc }
 filled (m ∷ l) =
-    let p : List StampedMessage = packed 63 (length (stamped_bytes m)) l in
-    let x : EndsFull 63 (length (stamped_bytes m)) l p = ends_full 63 (length (stamped_bytes m)) l in
+    let p : List StampedMessage = packed (entry_limit - 1) (length (stamped_bytes m)) l in
+    let x : EndsFull (entry_limit - 1) (length (stamped_bytes m)) l p = ends_full (entry_limit - 1) (length (stamped_bytes m)) l in
     let few = x.few in
     record {
       rest = x.rest;

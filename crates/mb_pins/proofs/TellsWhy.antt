@@ -7,6 +7,7 @@ use Rattle.std.specs.Bool.{then_some}
 use Rattle.std.specs.Option.{option_or}
 use Rattle.std.proofs.lemmas.Bool.{cases_Bool, and_from, and_parts, eqb-true, eq-eqb, leb-true, leb-false, ltb-true, ltb-false, lt-ltb}
 use Rattle.sha2.specs.Sha256.{sha256}
+use Rattle.mb_base.specs.Limits.{part_count}
 use Rattle.mb_base.specs.Shapes.{Bytes, span}
 use Rattle.mb_usig.specs.Tags.{same_bytes, request_tag, wish_tag, stop_tag}
 use Rattle.mb_usig.proofs.Laws.{same_bytes-true, true-same_bytes}
@@ -395,7 +396,7 @@ module _ {S : Type 0} (self : Identity S) where
     state_why m =
         let M : Message = message.State m in
         each_or (Tells self d M) _ _ (each_then (Tells self d M) _ outcome.Idle (λ idle. inl (λ at behind. unwanted (m.pos == low_of self d) (nat_lt (exec_of d) (low_of self d)) idle (eq-eqb m.pos (low_of self d) at) (lt-ltb (exec_of d) (low_of self d) behind))))
-        (each_or (Tells self d M) _ _ (each_then (Tells self d M) _ (outcome.WrongDigest 65) (λ wrong. inl (refl, λ right. not_both (is_list_right self d m) (true-same_bytes _ _ right) (not_true (is_list_right self d m) wrong))))
+        (each_or (Tells self d M) _ _ (each_then (Tells self d M) _ (outcome.WrongDigest part_count) (λ wrong. inl (refl, λ right. not_both (is_list_right self d m) (true-same_bytes _ _ right) (not_true (is_list_right self d m) wrong))))
         (each_or (Tells self d M) _ _ (digest_why m (wrong_part m.digests m.first m.parts) refl)
         (each_or (Tells self d M) _ _ (each_then (Tells self d M) (are_all_held self d m) outcome.Idle (λ idle. inr (all_pass (λ (i : ℕ). is_some (part_held self d i)) m.first (length m.parts) idle)))
         (each_if (Tells self d M) (is_none (missing self (Accepted (message.State m) ∷ d))) _ (λ all. fault_why m _ refl)))))

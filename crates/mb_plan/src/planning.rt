@@ -2,6 +2,7 @@
 
 ghost use Rattle.std.specs.Prelude.{◌≡◌, ◌≤◌, ◌<◌, ◌+◌, ◌∷◌, ◌++◌, ◌^◌, [], List, map, length, option_map, IfOk, OnOk, IsTrue};
 ghost use Rattle.std.specs.List.{AllByRecursion, cons_option};
+ghost use Rattle.mb_base.specs.Limits.{plan_limit};
 ghost use Rattle.mb_base.specs.Shapes.{span};
 ghost use Rattle.mb_parts.specs.declared.certificates.StableCert.{StableCert as TheCert};
 ghost use Rattle.mb_parts.specs.Fits.{IsPlace};
@@ -86,7 +87,7 @@ fn opening_base<'a>(stable: &'a StableCert, voters: &[ShownLog<'a>]) -> &'a Stab
 /// The votes behind a base that have the lowest counters. Each log is gone through once.
 fn lowest_votes<'a>(voters: &[ShownLog<'a>], base: Pos) -> [Option<ShownVote<'a>>; MOST]
     requires { IsPlace base }
-    ensures wide { length result ≡ 64 }
+    ensures wide { length result ≡ plan_limit }
     ensures lowest { AreLowest result base (map shown voters.now) }
 {
     let mut lowest = [None; MOST];
@@ -123,7 +124,7 @@ fn batches_from(
     base: Pos,
     most: usize,
 ) -> Result<Items<Batch>, NoMemory>
-    requires { IsPlace base × (most ≤ 64) }
+    requires { IsPlace base × (most ≤ plan_limit) }
     ensures { IfOk result (λ batches. batches ≡ batches_from (map shown voters.now) (base + 1) most) }
 {
     let votes = lowest_votes(voters, base);

@@ -26,7 +26,7 @@ use crate::looked::{FoundVote, Place, find_vote};
 use mb_base::{Host, NoMemory, Pos, Shape, Ui, View};
 use mb_gate::{Gate, Offer};
 use mb_msg::{Body, ChangeBody, Shown, ViewChange};
-use mb_parts::{Floor, Phase};
+use mb_parts::{Floor, LOG_INTERVALS, OTHER_LIMIT, Phase};
 use mb_usig::Usig;
 use std::alloc::Global;
 
@@ -48,9 +48,6 @@ impl From<NoMemory> for BadProof {
         BadProof::NoMemory
     }
 }
-
-/// The most entries other than PREPAREs, COMMITs and CHECKPOINTs.
-const OTHER_LIMIT: usize = 768;
 
 fn at(index: usize, reason: u8) -> BadProof
     requires { index < 65536 }
@@ -118,7 +115,8 @@ fn is_too_long(shape: &Shape, usig: &Usig, entries: &[Shown]) -> bool
     ensures { result ≡ is_too_long shape.now usig.now.secret (verifies usig.now.secret) entries.now }
 {
     let normal = count_normal(entries);
-    normal > 6 * usize::from(shape.k()) || entries.len() - normal > OTHER_LIMIT
+    normal > LOG_INTERVALS as usize * usize::from(shape.k())
+        || entries.len() - normal > OTHER_LIMIT as usize
 }
 
 /// Whether a counter is the one that a gate waits for.

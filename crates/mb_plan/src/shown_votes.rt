@@ -2,6 +2,7 @@
 //! base + 1 + i.
 
 ghost use Rattle.std.specs.Prelude.{◌≡◌, ◌<◌, ◌≤◌, ◌-◌, ◌∷◌, ℕ, List, [], length, nat_lt, slice_set, option_map, if◌then◌else◌};
+ghost use Rattle.mb_base.specs.Limits.{plan_limit};
 ghost use Rattle.mb_msg.specs.declared.stamped.Shown.{Shown as TheEntry};
 ghost use Rattle.mb_model.specs.UsableLogs.{newest_first};
 ghost use Rattle.mb_model.specs.Plans.{vote_with, plan_vote, vote_since, lower_vote};
@@ -70,7 +71,7 @@ fn put<'a>(votes: &mut [Option<ShownVote<'a>>], base: Pos, pos: Pos, vote: Optio
 
 /// The votes with one more entry, place by place.
 fn note_everywhere<'a>(votes: &mut [Option<ShownVote<'a>>], base: Pos, entry: &'a Shown)
-    requires { IsPlace base × (length votes.old ≤ 64) }
+    requires { IsPlace base × (length votes.old ≤ plan_limit) }
     ensures { (l : List TheEntry) → AreVotes votes.old base l → AreVotes votes.new base (entry.now ∷ l) }
 {
     for index in 0..votes.len() {
@@ -80,7 +81,7 @@ fn note_everywhere<'a>(votes: &mut [Option<ShownVote<'a>>], base: Pos, entry: &'
 
 /// The votes with one more entry. A vote changes its own place alone.
 fn note<'a>(votes: &mut [Option<ShownVote<'a>>], base: Pos, entry: &'a Shown)
-    requires { IsPlace base × (length votes.old ≤ 64) }
+    requires { IsPlace base × (length votes.old ≤ plan_limit) }
     ensures { (l : List TheEntry) → AreVotes votes.old base l → AreVotes votes.new base (entry.now ∷ l) }
 {
     match entry {

@@ -1,5 +1,6 @@
 -- Logs stay within their limits, and correct hosts are never blamed.
 use Rattle.std.specs.Prelude.{◌≡◌, ℕ, ◌+◌, ◌≤◌, ◌<◌, true, not, length, Some, None, count_by, Contains}
+use Rattle.mb_base.specs.Limits.{other_limit}
 use Rattle.mb_base.specs.Shapes.{span}
 use Rattle.mb_parts.specs.declared.floor.Floor.{Floor}
 use Rattle.mb_parts.specs.declared.certificates.FloorCert.{FloorCert}
@@ -12,7 +13,7 @@ use Rattle.mb_msg.specs.declared.stamped.Stamped.TheVariants as stamped
 use Rattle.mb_model.specs.declared.known.Vote.{Vote}
 use Rattle.mb_model.specs.Verified.{verifies}
 use Rattle.mb_model.specs.Committed.{vote_in}
-use Rattle.mb_model.specs.UsableLogs.{normal_limit, other_limit, log_fault}
+use Rattle.mb_model.specs.UsableLogs.{normal_limit, log_fault}
 use Rattle.mb_model.specs.Histories.{Stamped, History, Identity, said, closed_at, counter_of}
 use Rattle.mb_model.specs.Stable.{low_of, log_floor}
 use Rattle.mb_model.specs.OwnLog.{own_log, log_start, is_normal}

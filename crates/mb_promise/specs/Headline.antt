@@ -1,10 +1,11 @@
 -- All that is promised of each world, under which premises, as one statement.
 use Rattle.std.specs.Prelude.{◌≡◌, ℕ, ◌≤◌, List, [], ◌∷◌, length, map, Ok}
 use Rattle.std.specs.List.{AllByRecursion, range_with_len}
+use Rattle.mb_base.specs.Limits.{service_parts}
 use Rattle.mb_base.specs.Shapes.{Bytes}
 use Rattle.mb_parts.specs.Fits.{FitsText}
 use Rattle.mb_model.specs.Service.{Machine}
-use Rattle.mb_model.specs.States.{Snapshots, service_parts}
+use Rattle.mb_model.specs.States.{Snapshots}
 use Rattle.mb_world_model.specs.Hashed.{HashesApart}
 use Rattle.mb_schedule.specs.Limits.{IsSchedule}
 use Rattle.mb_world_model.specs.WorldEvents.{IsCorrect}

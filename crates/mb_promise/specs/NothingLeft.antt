@@ -2,6 +2,7 @@
 -- it carries out; but for the list of the requests that wait, which is the rules' own.
 use Rattle.std.specs.Prelude.{◌≡◌, ℕ, ◌+◌, ◌-◌, ◌*◌, ◌^◌, ◌%◌, Bool, not, count_by, ◌≤◌, ◌<◌, ◌⊎◌, ◌↔◌, true, false, List, [], ◌∷◌, ◌++◌, length, filter, nat_le, ◌==◌, is_some, Some, None, Ok, Contains}
 use Rattle.std.specs.List.{flat_map}
+use Rattle.mb_base.specs.Limits.{batch_limit, batch_bytes_limit, log_intervals, other_limit}
 use Rattle.mb_base.specs.Shapes.{Bytes, HasQuorum, max_faults, quorum, primary, tally, interval, span, host_count, client_count}
 use Rattle.mb_parts.specs.declared.request.Request.{Request}
 use Rattle.mb_parts.specs.declared.batch.Batch.{Batch}
@@ -45,15 +46,15 @@ use Rattle.mb_model.specs.Given.{named_prepare}
 use Rattle.mb_model.specs.HostStep.{transition}
 use Rattle.mb_promise.specs.TakesValid.{AreTagged, IsNextOfSender, IsPlanOf}
 
--- A batch is the beginning of this list of requests, and it has no place for the next one: there are 16, or all would have more than 2,048 bytes.
+-- A batch is the beginning of this list of requests, and it has no place for the next one: there are as many as a batch may have, or all would have too many bytes.
 pub record IsFull (l : List Request) (b : Batch) : Type 0 where
   pub rest : List Request
   pub begins : l ≡ b.requests ++ rest
   pub some : 1 ≤ length b.requests
-  pub few : length b.requests ≤ 16
-  pub short : length (flat_map request_bytes b.requests) ≤ 2048
+  pub few : length b.requests ≤ batch_limit
+  pub short : length (flat_map request_bytes b.requests) ≤ batch_bytes_limit
   pub full : (r : Request) (more : List Request) → rest ≡ r ∷ more
-      → (length b.requests ≡ 16) ⊎ (2048 < length (flat_map request_bytes (b.requests ++ r ∷ [])))
+      → (length b.requests ≡ batch_limit) ⊎ (batch_bytes_limit < length (flat_map request_bytes (b.requests ++ r ∷ [])))
 
 -- This batch was executed at the position.
 pub record HasExecuted (d : History) (pos : ℕ) (b : Batch) : Type 0 where
@@ -67,12 +68,12 @@ pub record HasExecuted (d : History) (pos : ℕ) (b : Batch) : Type 0 where
 module _ {S : Type 0} (self : Identity S) where
   -- There is room in the own log for one more PREPARE, COMMIT or CHECKPOINT, and the USIG has a counter left.
   pub record HasRoom (d : History) : Type 0 where
-    pub place : count_by is_normal (own_log self d) < 6 * interval self.shape
+    pub place : count_by is_normal (own_log self d) < log_intervals * interval self.shape
     pub counter : counter_of d < 2 ^ 64 - 1
 
   -- So there is for one more of the other kinds.
   pub record HasOtherRoom (d : History) : Type 0 where
-    pub place : count_by (λ m. not (is_normal m)) (own_log self d) < 768
+    pub place : count_by (λ m. not (is_normal m)) (own_log self d) < other_limit
     pub counter : counter_of d < 2 ^ 64 - 1
 
   -- a position above the stable one, at most two intervals

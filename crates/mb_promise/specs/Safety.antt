@@ -1,11 +1,11 @@
 -- Correct hosts execute beginnings of one list, and clients accept what the service answers there.
 use Rattle.std.specs.Prelude.{◌≡◌, ℕ, ◌+◌, ◌≤◌, ◌<◌, ◌⊎◌, true, length, take, slice_get, Some, Contains}
+use Rattle.mb_base.specs.Limits.{batch_limit}
 use Rattle.mb_base.specs.Shapes.{client_count}
 use Rattle.mb_usig.specs.Tags.{request_tag}
 use Rattle.mb_msg.specs.declared.event.Placed.{Placed}
 use Rattle.mb_msg.specs.declared.event.Slot.{Slot}
 use Rattle.mb_msg.specs.declared.normal.Reply.{Reply}
-use Rattle.mb_model.specs.Batches.{batch_limit}
 use Rattle.mb_model.specs.Service.{Served, served_each, served_all, start, is_fresh, reply_of}
 use Rattle.mb_model.specs.Histories.{Executed}
 use Rattle.mb_model.specs.Positions.{exec_of}

@@ -1,6 +1,7 @@
 -- What a LOG and a STATE show to who asked for them: what this one lacks, from the first message or part on.
 use Rattle.std.specs.Prelude.{◌≡◌, ℕ, ◌+◌, ◌-◌, ◌≤◌, ◌<◌, Bool, true, false, List, ◌∷◌, length, take, max, Some, None, slice_get}
 use Rattle.std.specs.List.{AllByRecursion}
+use Rattle.mb_base.specs.Limits.{entry_limit}
 use Rattle.mb_base.specs.Shapes.{Bytes}
 use Rattle.mb_parts.specs.declared.certificates.Evidence.{Evidence}
 use Rattle.mb_parts.specs.Counters.{at_counter}
@@ -72,7 +73,7 @@ module _ {S : Type 0} (self : Identity S) (d : History) where
     pub stable : l.stable ≡ stable_of self d
     pub evidence : (e : Evidence) → evidence_of self d ≡ Some e → e.view ≡ view_of self d → l.evidence ≡ Some e
     pub evidence_held : (e : Evidence) → l.evidence ≡ Some e → (evidence_of self d ≡ Some e) × (e.view ≡ view_of self d)
-    pub few : length l.entries ≤ 64
+    pub few : length l.entries ≤ entry_limit
     pub entries : next_shown m ≤ counter_of d → BeginsAt (next_shown m) l.entries
     pub each : (i : ℕ) (x : StampedMessage) → slice_get l.entries i ≡ Some x → IsShownOf (next_shown m + i) x
 

@@ -3,6 +3,7 @@ use Rattle.std.proofs.Common.{◌≡◌, ℕ, ◌-◌, ◌^◌, ◌<◌, ◌≤�
 use Rattle.std.specs.Int.{w8, w16, w32}
 use Rattle.std.specs.List.{AllByRecursion}
 use Rattle.std.proofs.lemmas.Bool.{eqb-true}
+use Rattle.mb_base.specs.Limits.{text_limit, part_count, table_part, entry_limit}
 use Rattle.mb_base.specs.Shapes.{IsShape, host_count, quorum}
 use Rattle.mb_base.specs.declared.shape.Shape.{Shape}
 use Rattle.mb_base.specs.Reading.{Cursor, Reads, number_in, is_other, pair_at, then_at, map_at, list_in}
@@ -50,7 +51,7 @@ module _ (s : Shape) (k : IsShape s) where
   pub reply_yield : IsYield (reply_at s) (FitsReply s)
   unfolding reply_at
   reply_yield = map_yield reply_of_fields _ _ (FitsReply s) (λ p f. record { host = f.0; client = f.1.0; seq = f.1.1.0; pos = f.1.1.1.0; result = f.1.1.1.1.0.1; tag = f.1.1.1.1.1 })
-      (pair_yield _ _ _ _ (host_yield s k) (pair_yield _ _ _ _ (client_yield s k) (pair_yield _ _ _ _ counter_yield (pair_yield _ _ _ _ place_yield (pair_yield _ _ _ _ (text_yield w16 0 1024) digest_yield)))))
+      (pair_yield _ _ _ _ (host_yield s k) (pair_yield _ _ _ _ (client_yield s k) (pair_yield _ _ _ _ counter_yield (pair_yield _ _ _ _ place_yield (pair_yield _ _ _ _ (text_yield w16 0 text_limit) digest_yield)))))
 
   checkpoint_yield : IsYield (checkpoint_at s) (FitsCheckpoint s)
   unfolding checkpoint_at floors_body_at
@@ -177,11 +178,11 @@ module _ (s : Shape) (k : IsShape s) where
   unfolding log_at
   log_yield = map_yield log_of_fields _ _ (FitsLog s) (λ p f. record { host = f.0; floor = f.1.0; stable = f.1.1.0; evidence = f.1.1.1.0; count = f.1.1.1.1.0.1; entries = f.1.1.1.1.1 })
       (pair_yield _ _ _ _ (host_yield s k) (pair_yield _ _ _ _ (optional_yield (floor_cert_at s) (FitsFloorCert s) (floor_cert_yield s k)) (pair_yield _ _ _ _ (any_stable_yield s k)
-      (pair_yield _ _ _ _ (optional_yield (evidence_at s) (FitsEvidence s) (any_evidence_yield s k)) (list_yield w16 0 64 (stamped_at s) (FitsStamped s) stamped_yield)))))
+      (pair_yield _ _ _ _ (optional_yield (evidence_at s) (FitsEvidence s) (any_evidence_yield s k)) (list_yield w16 0 entry_limit (stamped_at s) (FitsStamped s) stamped_yield)))))
 
   pub fetch_yield : IsYield (fetch_at s) (FitsFetch s)
   unfolding fetch_at
-  fetch_yield = map_yield fetch_of_fields _ _ (FitsFetch s) (λ p f. record { host = f.0; asked = f.1.0; pos = f.1.1.0; first = f.1.1.1.1 }) (pair_yield _ _ _ _ (host_yield s k) (pair_yield _ _ _ _ (host_yield s k) (pair_yield _ _ _ _ (point_yield s k) (in_yield w8 0 64))))
+  fetch_yield = map_yield fetch_of_fields _ _ (FitsFetch s) (λ p f. record { host = f.0; asked = f.1.0; pos = f.1.1.0; first = f.1.1.1.1 }) (pair_yield _ _ _ _ (host_yield s k) (pair_yield _ _ _ _ (host_yield s k) (pair_yield _ _ _ _ (point_yield s k) (in_yield w8 0 table_part))))
 
   part_yield : IsYield state_part_at FitsStatePart
   part_yield = more_yield _ _ FitsStatePart (λ x p. omega (arith, p.1)) (text_yield w32 0 (2 ^ 32 - 1))
@@ -189,5 +190,5 @@ module _ (s : Shape) (k : IsShape s) where
   pub state_yield : IsYield (state_at s) (FitsState s)
   unfolding state_at
   state_yield = map_yield state_of_fields _ _ (FitsState s) (λ p f. record { host = f.0; pos = f.1.0; digest_count = f.1.1.0.0; digests = f.1.1.0.1; first = f.1.1.1.0.1; count = f.1.1.1.1.0; parts = f.1.1.1.1.1 })
-      (pair_yield _ _ _ _ (host_yield s k) (pair_yield _ _ _ _ (point_yield s k) (pair_yield _ _ _ _ (repeat_yield digest_at IsDigest digest_yield 65)
-      (then_yield (number_in w8 0 64) _ (λ first. list_in w8 1 (65 - first) state_part_at) (λ first parts. ((1 ≤ length parts) × (length parts ≤ 65 - first)) × AllByRecursion FitsStatePart parts) (in_yield w8 0 64) (λ first ok. list_yield w8 1 (65 - first) state_part_at FitsStatePart part_yield)))))
+      (pair_yield _ _ _ _ (host_yield s k) (pair_yield _ _ _ _ (point_yield s k) (pair_yield _ _ _ _ (repeat_yield digest_at IsDigest digest_yield part_count)
+      (then_yield (number_in w8 0 table_part) _ (λ first. list_in w8 1 (part_count - first) state_part_at) (λ first parts. ((1 ≤ length parts) × (length parts ≤ part_count - first)) × AllByRecursion FitsStatePart parts) (in_yield w8 0 table_part) (λ first ok. list_yield w8 1 (part_count - first) state_part_at FitsStatePart part_yield)))))

@@ -5,6 +5,7 @@ use Rattle.std.specs.Option.{IfSome}
 use Rattle.std.specs.List.{AllByRecursion, flat_map}
 use Rattle.std.specs.Int.{w8, w16, w64}
 use Rattle.std.proofs.lemmas.Bool.{eqb-true, eqb-false, cases_lt}
+use Rattle.mb_base.specs.Limits.{text_limit, batch_limit, batch_bytes_limit}
 use Rattle.mb_base.specs.Shapes.{Bytes, IsShape, host_count, client_count, interval, span, quorum, primary, max_faults}
 use Rattle.mb_base.specs.declared.shape.Shape.{Shape}
 use Rattle.mb_base.specs.declared.names.Ui.{Ui}
@@ -65,15 +66,15 @@ module _ (s : Shape) (k : IsShape s) where
   pub request_yield : IsYield (request_at s) (FitsRequest s)
   unfolding request_at
   request_yield = map_yield request_of_fields _ _ (FitsRequest s) (λ p f. record { client = f.0; seq = f.1.0; op = f.1.1.0.1; tag = f.1.1.1 })
-      (pair_yield _ _ _ _ client_yield (pair_yield _ _ _ _ counter_yield (pair_yield _ _ _ _ (text_yield w16 0 1024) digest_yield)))
+      (pair_yield _ _ _ _ client_yield (pair_yield _ _ _ _ counter_yield (pair_yield _ _ _ _ (text_yield w16 0 text_limit) digest_yield)))
 
   pub batch_yield : IsYield (batch_at s) (FitsBatch s)
   unfolding batch_at
   batch_yield = map_yield batch_of_fields _ _ (FitsBatch s)
       (λ p f. record { count = (omega (arith, f.0.0, f.1.0), omega (arith, f.0.1, f.1.0)); requests = f.1.1.0; size = omega (arith, f.1.1.1) })
-      (then_yield (number_in w8 1 16) _ (λ n. bounded_at request_bytes 2048 (request_at s) n 0)
-      (λ n xs. (length xs ≡ n) × (AllByRecursion (FitsRequest s) xs × (0 + length (flat_map request_bytes xs) ≤ 2048))) (in_yield w8 1 16)
-      (λ n ok. bounded_yield request_bytes 2048 (request_at s) (FitsRequest s) request_yield n 0 (lit≤ tt)))
+      (then_yield (number_in w8 1 batch_limit) _ (λ n. bounded_at request_bytes batch_bytes_limit (request_at s) n 0)
+      (λ n xs. (length xs ≡ n) × (AllByRecursion (FitsRequest s) xs × (0 + length (flat_map request_bytes xs) ≤ batch_bytes_limit))) (in_yield w8 1 batch_limit)
+      (λ n ok. bounded_yield request_bytes batch_bytes_limit (request_at s) (FitsRequest s) request_yield n 0 (lit≤ tt)))
 
   pub floor_yield : IsYield floor_at FitsFloor
   unfolding floor_at phase_at

@@ -6,6 +6,7 @@ use Rattle.std.specs.Bool.{then_some}
 use Rattle.std.specs.List.{range_with_len, list_all}
 use Rattle.std.specs.Option.{option_or}
 use Rattle.std.proofs.lemmas.Bool.{eq-eqb, eqb-true}
+use Rattle.mb_base.specs.Limits.{part_count}
 use Rattle.mb_base.specs.declared.shape.Shape.{Shape}
 use Rattle.mb_base.specs.Shapes.{Bytes, client_count}
 use Rattle.mb_usig.specs.Tags.{same_bytes}
@@ -16,7 +17,7 @@ use Rattle.mb_msg.specs.declared.message.Message.TheVariants as message
 use Rattle.mb_msg.specs.declared.transfer.StateMsg.{StateMsg}
 use Rattle.mb_msg.specs.Fits.{FitsState}
 use Rattle.mb_model.specs.Service.{Served as ServedState}
-use Rattle.mb_model.specs.States.{Snapshots, part_count, restored}
+use Rattle.mb_model.specs.States.{Snapshots, restored}
 use Rattle.mb_model.specs.Histories.{Entry, Accepted, DroppedParts, History, Identity}
 use Rattle.mb_model.specs.Stable.{low_of, stable_of}
 use Rattle.mb_model.specs.Positions.{is_behind}
@@ -47,7 +48,7 @@ pub has_parts : (s : Shape) (m : StateMsg) → FitsState s m → HasParts m
 has_parts s m f = record { digest_count = f.digest_count; some = f.count.0; within = let first = f.first in let most = f.count.1 in let least = f.count.0 in omega (arith, first, most, least) }
 
 -- the list of digests, and then the parts
-list_first : (b : Bool) (o : Option ℕ) (more : Option Outcome) → option_or (then_some (not b) (outcome.WrongDigest 65)) (option_or (wrong_digest o) more) ≡ option_or (wrong_digest (if b then o else Some part_count)) more
+list_first : (b : Bool) (o : Option ℕ) (more : Option Outcome) → option_or (then_some (not b) (outcome.WrongDigest part_count)) (option_or (wrong_digest o) more) ≡ option_or (wrong_digest (if b then o else Some part_count)) more
 list_first true o more = refl
 list_first false o more = refl
 
@@ -141,7 +142,7 @@ module _ {V : Type 0} (me : Identity V) where
     refused =
         let more : Option Outcome = option_or (then_some (are_all_held me x.history m) outcome.Idle) (bad_state me (taken_now ∷ x.history)) in
         let idle : are_all_held me x.history m ≡ are_held search m = ap (λ (f : ℕ → Option Bytes). list_all (λ i. is_some (f i)) (range_with_len m.first (length m.parts))) (sym search_is) in
-        rw wanted (ap (λ (digest : Bytes). option_or (then_some (not (same_bytes (list_digest m) digest)) (outcome.WrongDigest 65)) (option_or (wrong_digest (wrong_part m.digests m.first m.parts)) more)) (sym digest_is)
+        rw wanted (ap (λ (digest : Bytes). option_or (then_some (not (same_bytes (list_digest m) digest)) (outcome.WrongDigest part_count)) (option_or (wrong_digest (wrong_part m.digests m.first m.parts)) more)) (sym digest_is)
         ∙ (list_first (same_bytes (list_digest m) r.agreement.stable.state) (wrong_part m.digests m.first m.parts) more
         ∙ ap (λ (b : Bool). option_or (wrong_digest (first_wrong r.agreement.stable.state m)) (option_or (then_some b outcome.Idle) (bad_state me (taken_now ∷ x.history)))) idle))
 

@@ -1,6 +1,7 @@
 -- What a host sends where it answers or asks has the values of the grammar.
 use Rattle.std.proofs.Common.{◌≡◌, ◌<◌, ◌≤◌, ℕ, true, List, Some, sym, ap, subst, arith}
 use Rattle.std.proofs.lemmas.Bool.{lt-ltb, ltb-true}
+use Rattle.mb_base.specs.Limits.{table_part}
 use Rattle.mb_base.specs.declared.shape.Shape.{Shape}
 use Rattle.mb_base.specs.Shapes.{Bytes}
 use Rattle.mb_parts.specs.Fits.{IsBase}
@@ -49,7 +50,7 @@ module _ {V : Type 0} (me : Identity V) (r : ReplicaState V) (d : History) (rep 
   fetch_fits lt says is = of_host says (fetch me d) is (behind_sent me (shape_fits me.shape) (is_there me r rep.who) d (behind_is lt) rep.tables.sound rep.fit)
 
   -- the STATE of a snapshot that was kept
-  pub state_fits : (pos first : ℕ) (parts : List Bytes) → (1 ≤ pos) × IsBase r.agreement.shape pos → first ≤ 64 → snapshot_of me d pos ≡ Some parts → AreShort parts → (says : Message) → says ≡ state_message me pos first parts → Fits r.agreement.shape says
+  pub state_fits : (pos first : ℕ) (parts : List Bytes) → (1 ≤ pos) × IsBase r.agreement.shape pos → first ≤ table_part → snapshot_of me d pos ≡ Some parts → AreShort parts → (says : Message) → says ≡ state_message me pos first parts → Fits r.agreement.shape says
   state_fits pos first parts base within kept short says is =
       let there = is_there me r rep.who in
       of_host says (state_message me pos first parts) is (state_sent me (shape_fits me.shape) there pos first parts (subst (λ (s : Shape). (1 ≤ pos) × IsBase s pos) (sym rep.who.shape) base) within (snapshot_many me there d pos parts kept) short)

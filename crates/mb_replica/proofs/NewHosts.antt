@@ -1,8 +1,9 @@
 -- A replica that was just made represents the empty history.
-use Rattle.std.proofs.Common.{◌≡◌, ℕ, [], refl, sym, ap, subst, ◌∙◌, None, List, Result}
+use Rattle.std.proofs.Common.{◌≡◌, ℕ, [], refl, sym, ap, subst, ◌∙◌, None, List}
 use Rattle.std.specs.Prelude.{◌+◌, ◌%◌}
 use Rattle.mb_base.specs.declared.shape.Shape.{Shape}
 use Rattle.mb_base.specs.Shapes.{Bytes, host_count, client_count}
+use Rattle.mb_service.specs.Machine.{ServiceMachine}
 use Rattle.mb_parts.specs.Ordered.{initial_floor}
 use Rattle.mb_gate.specs.declared.gate.Gate.{Gate}
 use Rattle.mb_gate.specs.SenderLogs.{log_from}
@@ -26,10 +27,10 @@ use Rattle.mb_replica.specs.Represents.{Represents, Serves, IsHost, IsAtRest, ta
 no_snapshots : ShelfRepresents [] (λ p. None)
 no_snapshots = record { rising = tt; finds = λ pos. refl }
 
-module _ {V : Type 0} (is_state : V → Type 0) (after : V → Bytes → V) (result : V → Bytes → Bytes) (part : V → ℕ → Bytes) (restored : List Bytes → Result V (ℕ × ℕ)) where
+module _ {V : Type 0} (machine : ServiceMachine V) where
   -- what it executes with
   abbrev pub HasNothing : Shape → V → Keeping V → Type 0
-  HasNothing s service k = k ≡ record { served = start (machine_of after result) service (client_count s); snapshots = []; fetched = None }
+  HasNothing s service k = k ≡ record { served = start (machine_of machine) service (client_count s); snapshots = []; fetched = None }
 
   module _ (s : Shape) (host : ℕ) (secret : Bytes) (service : V) (r : ReplicaState V) (new : IsNew s host secret r.agreement) (nothing : HasNothing s service r.keeper) where
     module _ (me : Identity V) (who : IsHost me r) where
@@ -46,7 +47,7 @@ module _ {V : Type 0} (is_state : V → Type 0) (after : V → Bytes → V) (res
       normal_new = subst (λ (x : Shape). NormalRepresents x me.host r.agreement.normal (nothing_above 0)) same_shape
           (subst (λ (h : ℕ). NormalRepresents s h r.agreement.normal (nothing_above 0)) same_host new.normal)
 
-      pub are_new : Serves is_state after result part restored me → me.initial ≡ service → AreNew me (tables_of r)
+      pub are_new : Serves machine me → me.initial ≡ service → AreNew me (tables_of r)
       are_new serves first = record {
         counter = ap (λ u. u.counter) new.usig;
         gates_count = new.gates.count ∙ ap (λ (x : Shape). host_count x) same_shape;
@@ -56,23 +57,23 @@ module _ {V : Type 0} (is_state : V → Type 0) (after : V → Bytes → V) (res
         change = new.change ∙ ap (λ (x : Shape). empty_table x host) same_shape ∙ ap (empty_table me.shape) same_host;
         stable = new.stable;
         exec = new.exec;
-        service = ap (λ (k : Keeping V). k.served) nothing ∙ ap (λ (x : Shape). start (machine_of after result) service (client_count x)) same_shape
+        service = ap (λ (k : Keeping V). k.served) nothing ∙ ap (λ (x : Shape). start (machine_of machine) service (client_count x)) same_shape
             ∙ ap (λ m. start m service (client_count me.shape)) (sym serves.machine) ∙ ap (λ (v : V). start me.machine v (client_count me.shape)) (sym first);
         shelf = subst (λ (l : List Snapshot). ShelfRepresents l (λ p. None)) (sym (ap (λ (k : Keeping V). k.snapshots) nothing)) no_snapshots;
         parts = ap (λ (k : Keeping V). k.fetched) nothing;
         asked = new.asked ∙ ap (λ (h : ℕ). (h + 1) % host_count s) same_host ∙ ap (λ (x : Shape). (me.host + 1) % host_count x) same_shape;
       }
 
-      pub begins : Serves is_state after result part restored me → me.initial ≡ service → Represents me r []
+      pub begins : Serves machine me → me.initial ≡ service → Represents me r []
       begins serves first = record { who = who; tables = stands_begin me (tables_of r) (are_new serves first); fit = begins_fit me }
 
     -- the host that it is
     its_self : Identity V
-    its_self = record { shape = r.agreement.shape; host = r.agreement.host; secret = r.agreement.usig.secret; machine = machine_of after result; snapshots = snapshots_of part restored; initial = service }
+    its_self = record { shape = r.agreement.shape; host = r.agreement.host; secret = r.agreement.usig.secret; machine = machine_of machine; snapshots = snapshots_of machine; initial = service }
 
-    pub at_rest : is_state service → IsAtRest is_state after result part restored r
+    pub at_rest : machine.is_state service → IsAtRest machine r
     unfolding its_self
     at_rest state =
-        let serves : Serves is_state after result part restored its_self = record { machine = refl; snapshots = refl; first = state } in
+        let serves : Serves machine its_self = record { machine = refl; snapshots = refl; first = state } in
         let who : IsHost its_self r = record { shape = refl; host = refl; secret = refl } in
         record { me = its_self; history = []; serves = serves; represents = begins its_self who serves refl; whole = tt }

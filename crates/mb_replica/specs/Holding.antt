@@ -1,6 +1,7 @@
 -- What a given message of a view change makes a host hold: what it writes into the table of view changes, and the certificate that it learns; then the
 -- votes of OPENs, which are counted again where a plan, an OPEN or another view came.
 use Rattle.std.specs.Prelude.{◌≡◌, ℕ, ◌+◌, ◌≤◌, Bool, true, false, nat_lt, length, Option, Some, None, option_map, if◌then◌else◌}
+use Rattle.mb_base.specs.Limits.{plan_limit}
 use Rattle.mb_base.specs.declared.shape.Shape.{Shape}
 use Rattle.mb_base.specs.Shapes.{host_count}
 use Rattle.mb_parts.specs.declared.certificates.StableCert.{StableCert}
@@ -64,7 +65,7 @@ module _ {V : Type 0} where
 
 -- Its plan may be held.
 abbrev pub CanHold : Shape → OpenBody → Type 0
-CanHold s b = FitsOpenParts s b × (length b.batches ≤ 64)
+CanHold s b = FitsOpenParts s b × (length b.batches ≤ plan_limit)
 
 -- with the view of its evidence
 abbrev pub plan_in_body : ℕ → Body OpenBody → Option (ℕ × Plan)

@@ -1,4 +1,5 @@
 pub mod Represents
+pub mod Steps
 pub mod Between
 pub mod Holding
 pub mod Wishing

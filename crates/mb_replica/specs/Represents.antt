@@ -1,6 +1,6 @@
 -- What a replica is: each of its tables stands for its searches in the host's history.
-use Rattle.std.specs.Prelude.{◌≡◌, ℕ, List, [], map, Result}
-use Rattle.mb_base.specs.Shapes.{Bytes}
+use Rattle.std.specs.Prelude.{◌≡◌, List, [], map}
+use Rattle.mb_service.specs.Machine.{ServiceMachine}
 use Rattle.mb_msg.specs.declared.event.Placed.{Placed}
 use Rattle.mb_msg.specs.declared.event.Sent.{Sent}
 use Rattle.mb_msg.specs.declared.event.Step.{Step}
@@ -73,10 +73,10 @@ module _ {V : Type 0} where
   -- ---- the service
 
   -- Its service is this one, and begins with one of its states.
-  pub record Serves (is_state : V → Type 0) (after : V → Bytes → V) (result : V → Bytes → Bytes) (part : V → ℕ → Bytes) (restored : List Bytes → Result V (ℕ × ℕ)) (me : Identity V) : Type 0 where
-    pub machine : me.machine ≡ machine_of after result
-    pub snapshots : me.snapshots ≡ snapshots_of part restored
-    pub first : is_state me.initial
+  pub record Serves (m : ServiceMachine V) (me : Identity V) : Type 0 where
+    pub machine : me.machine ≡ machine_of m
+    pub snapshots : me.snapshots ≡ snapshots_of m
+    pub first : m.is_state me.initial
 
   -- ---- a step
 
@@ -101,17 +101,17 @@ module _ {V : Type 0} where
     pub represents : Represents me r history
 
   -- There is a step that it is in, of a host with this service, between two batches.
-  pub record IsInStep (is_state : V → Type 0) (after : V → Bytes → V) (result : V → Bytes → Bytes) (part : V → ℕ → Bytes) (restored : List Bytes → Result V (ℕ × ℕ)) (r : ReplicaState V) (done : Done) : Type 0 where
+  pub record IsInStep (machine : ServiceMachine V) (r : ReplicaState V) (done : Done) : Type 0 where
     pub me : Identity V
     pub left : Progress
-    pub serves : Serves is_state after result part restored me
+    pub serves : Serves machine me
     pub stands : StandsAt me r done left
 
   -- There is a history between two events that it represents, of a host with this service.
-  pub record IsAtRest (is_state : V → Type 0) (after : V → Bytes → V) (result : V → Bytes → Bytes) (part : V → ℕ → Bytes) (restored : List Bytes → Result V (ℕ × ℕ)) (r : ReplicaState V) : Type 0 where
+  pub record IsAtRest (machine : ServiceMachine V) (r : ReplicaState V) : Type 0 where
     pub me : Identity V
     pub history : History
-    pub serves : Serves is_state after result part restored me
+    pub serves : Serves machine me
     pub represents : Represents me r history
     pub whole : IsWhole history
 

@@ -26,6 +26,7 @@ impl<V: Service + Drop> ReplicaState<V> {
     ghost use Rattle.mb_model.specs.KindChecks.{stamped_refusal};
     ghost use Rattle.mb_model.specs.Given.{accept, casts_vote, named_prepare, offer_prepare};
     ghost use Rattle.mb_replica.specs.declared.sending.Done.{Done as DoneValue};
+    ghost use Rattle.mb_replica.specs.Steps.{Moves};
     ghost use Rattle.mb_replica.specs.Represents.{IsHost, Represents, StandsAt};
     ghost use Rattle.mb_replica.specs.Between.{BehindCommit};
 
@@ -34,7 +35,7 @@ impl<V: Service + Drop> ReplicaState<V> {
         requires fits { FitsCommit self.old.agreement.shape m }
         requires digest { digest ≡ stamped_digest (stamped.Commit m) }
         requires mark { mark.now ≡ mark_of (stamped.Commit m) }
-        ensures { (me : Identity V) (x : Progress) → (done : DoneValue) → StandsAt me self.old done x → stamped_refusal me x.history (stamped.Commit m) ≡ None → StandsAt me self.new done (accept me (stamped.Commit m) x) }
+        ensures { (me : Identity V) (x : Progress) → Moves me x (stamped_refusal me x.history (stamped.Commit m) ≡ None) (accept me (stamped.Commit m) x) self.old self.new }
     {
         if !self.casts_vote(&m) {
             self.gate_follows(m.ui.host, mark);
@@ -83,7 +84,7 @@ impl<V: Service + Drop> ReplicaState<V> {
         requires fits { FitsPrepare self.old.agreement.shape prepare }
         requires digest { digest ≡ stamped_digest (stamped.Prepare prepare) }
         requires mark { mark.now ≡ mark_of (stamped.Prepare prepare) }
-        ensures { (me : Identity V) (x : Progress) → (done : DoneValue) → StandsAt me self.old done x → stamped_refusal me x.history (stamped.Prepare prepare) ≡ None → StandsAt me self.new done (write (Accepted (message.Prepare prepare)) x) }
+        ensures { (me : Identity V) (x : Progress) → Moves me x (stamped_refusal me x.history (stamped.Prepare prepare) ≡ None) (write (Accepted (message.Prepare prepare)) x) self.old self.new }
     {
         let host = prepare.ui.host;
         self.accept_prepare(prepare, digest);

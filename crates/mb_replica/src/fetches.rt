@@ -8,7 +8,7 @@ use mb_service::Service;
 use std::alloc::Global;
 
 impl<V: Service + Drop> ReplicaState<V> {
-    ghost use Rattle.std.specs.Prelude.{OnOk, ◌≡◌, ◌<◌, IfOk, is_some};
+    ghost use Rattle.std.specs.Prelude.{◌≡◌, ◌<◌, IfOk, is_some};
     ghost use Rattle.mb_fetch.specs.Parts.{first_missing};
     ghost use Rattle.mb_keeper.specs.Keeping.{found};
     ghost use Rattle.mb_msg.specs.Fits.{FitsFetch};
@@ -16,6 +16,7 @@ impl<V: Service + Drop> ReplicaState<V> {
     ghost use Rattle.mb_model.specs.Given.{give_fetch};
     ghost use Rattle.mb_model.specs.Execution.{asked_host, snapshot_of, missing as missing_of};
     ghost use Rattle.mb_replica.specs.Represents.{StandsAt, HasHistory, Represents};
+    ghost use Rattle.mb_replica.specs.Steps.{Goes};
     ghost use Rattle.mb_model.specs.Histories.{Identity, History};
     ghost use Rattle.mb_model.specs.PlainChecks.{fetch_refusal};
     ghost use Rattle.mb_model.specs.Making.{fetch};
@@ -61,7 +62,7 @@ impl<V: Service + Drop> ReplicaState<V> {
         requires behind { self.now.agreement.exec < self.now.agreement.stable.pos }
         requires missing { missing ≡ first_missing (found self.now.keeper.fetched) }
         requires history { HasHistory self.now }
-        ensures { (me : Identity V) (x : Progress) → StandsAt me self.now done.old x → missing ≡ missing_of me x.history → OnOk result (StandsAt me self.now done.new (send (to_host (asked_host me x.history) (fetch me x.history)) x)) }
+        ensures { (me : Identity V) (x : Progress) → Goes me x (missing ≡ missing_of me x.history) (send (to_host (asked_host me x.history) (fetch me x.history)) x) result self.now done.old self.now done.new }
     {
         let message = self.fetch(missing);
         self.send_own(alloc, To::Host(self.agreement.asked), message, done)

@@ -36,12 +36,12 @@ impl Answer {
 impl<V: Service + Drop> ReplicaState<V> {
     ghost use Rattle.mb_replica.specs.declared.sending.Done.{Done};
     ghost use Rattle.mb_replica.specs.Told.{KnowsMessage};
-    ghost use Rattle.mb_replica.specs.Represents.{IsOther, Serves, StandsAt, Answers, HasHistory, IsInStep};
-    ghost use Rattle.std.specs.Prelude.{IfOk};
+    ghost use Rattle.mb_replica.specs.Represents.{IsOther, Serves, StandsAt, HasHistory, IsInStep};
     ghost use Rattle.mb_msg.specs.Fits.{FitsFields};
     ghost use Rattle.mb_model.specs.Histories.{Identity};
     ghost use Rattle.mb_model.specs.Sending.{Progress};
     ghost use Rattle.mb_model.specs.Given.{give};
+    ghost use Rattle.mb_replica.specs.Steps.{Reacts};
 
     /// Gives a message to this host, of which the digest of the body may be known. A REPLY is for clients.
     pub fn give(
@@ -52,9 +52,9 @@ impl<V: Service + Drop> ReplicaState<V> {
         done: &mut Done,
     ) -> Result<Answer, NoMemory>
         requires fits { FitsFields self.old.agreement.shape message }
-        requires stepping { IsInStep V.is_state V.after V.answer V.part_of V.restored self.old done.old }
+        requires stepping { IsInStep V.machine self.old done.old }
         requires known { KnowsMessage known.now message }
-        ensures { (me : Identity V) (x : Progress) → Serves V.is_state V.after V.answer V.part_of V.restored me → StandsAt me self.old done.old x → IfOk result (λ a. Answers me message a (give me message x) × StandsAt me self.new done.new (give me message x).left) }
+        ensures { (me : Identity V) (x : Progress) → Serves V.machine me → StandsAt me self.old done.old x → Reacts me message (give me message x) result self.new done.new }
     {
         match message {
             Message::Request(m) => Ok(Answer::of(self.give_request(alloc, m, done)?)),
@@ -78,7 +78,7 @@ impl<V: Service + Drop> ReplicaState<V> {
         requires fits { FitsFields self.old.agreement.shape message }
         requires history { HasHistory self.old }
         requires known { KnowsMessage known.now message }
-        ensures { (me : Identity V) (x : Progress) → (done : Done) → Serves V.is_state V.after V.answer V.part_of V.restored me → IsOther message → StandsAt me self.old done x → IfOk result (λ a. Answers me message a (give me message x) × StandsAt me self.new done (give me message x).left) }
+        ensures { (me : Identity V) (x : Progress) → (done : Done) → Serves V.machine me → IsOther message → StandsAt me self.old done x → Reacts me message (give me message x) result self.new done }
     {
         match message.into_stamped() {
             Ok(stamped) => Ok(Answer::of(self.give_stamped(alloc, stamped, known)?)),

@@ -19,11 +19,11 @@ impl<V: Service + Drop> ReplicaState<V> {
     ghost use Rattle.std.specs.List.{AllByRecursion};
     ghost use Rattle.mb_msg.specs.declared.message.Message.TheVariants as message;
     ghost use Rattle.mb_msg.specs.Fits.{FitsStamped, FitsLog};
-    ghost use Rattle.mb_msg.specs.declared.transfer.Log.{Log as LogValue};
     ghost use Rattle.mb_model.specs.Sending.{Progress, write};
     ghost use Rattle.mb_model.specs.Histories.{Accepted, Identity, History};
     ghost use Rattle.mb_model.specs.Given.{give_log, give_entries, jump, floor_shown};
     ghost use Rattle.mb_replica.specs.Represents.{StandsAt, Answers, Represents};
+    ghost use Rattle.mb_replica.specs.Steps.{Moves, AnswersQuietly, Jumps};
     ghost use Rattle.mb_replica.specs.Holding.{IsStepping};
     ghost use Rattle.mb_replica.specs.declared.sending.Done.{Done};
     ghost use Rattle.mb_parts.specs.Fits.{FitsFloorCert, FitsEvidence};
@@ -51,7 +51,7 @@ impl<V: Service + Drop> ReplicaState<V> {
     fn give_entries(&mut self, alloc: Global, entries: Items<Stamped>) -> Result<Outcome, NoMemory>
         requires fit { AllByRecursion (FitsStamped self.old.agreement.shape) entries }
         requires stepping { IsStepping self.old }
-        ensures { (me : Identity V) (x : Progress) → (done : Done) → StandsAt me self.old done x → IfOk result (λ o. (o ≡ (give_entries me entries x).outcome) × StandsAt me self.new done (give_entries me entries x).left) }
+        ensures { AnswersQuietly (λ me x. give_entries me entries x) result self.old self.new }
     {
         for entry in entries.into_vec() {
             let outcome = self.give_stamped(alloc, entry, &None)?;
@@ -112,7 +112,7 @@ impl<V: Service + Drop> ReplicaState<V> {
         requires { FitsLog self.old.agreement.shape m }
         ensures entries { result ≡ m.entries }
         ensures same { self.new.agreement.shape ≡ self.old.agreement.shape }
-        ensures stands { (me : Identity V) (x : Progress) → (done : Done) → StandsAt me self.old done x → log_refusal me m ≡ None → StandsAt me self.new done (write (Accepted (message.Log m)) (jump me m.host (floor_shown me m.host m.floor) x)) }
+        ensures stands { (me : Identity V) (x : Progress) → Moves me x (log_refusal me m ≡ None) (write (Accepted (message.Log m)) (jump me m.host (floor_shown me m.host m.floor) x)) self.old self.new }
     {
         let Log {
             host,
@@ -131,7 +131,7 @@ impl<V: Service + Drop> ReplicaState<V> {
     fn jump(&mut self, host: Host, floor: Option<Floor>)
         requires { host < host_count self.old.agreement.shape }
         ensures same { self.new.agreement.shape ≡ self.old.agreement.shape }
-        ensures stands { (me : Identity V) (x : Progress) → (done : Done) (m : LogValue) → StandsAt me self.old done x → FitsLog me.shape m → host ≡ m.host → floor ≡ floor_shown me m.host m.floor → (host == me.host) ≡ false → StandsAt me self.new done (jump me host floor x) }
+        ensures stands { (me : Identity V) (x : Progress) → Jumps me x host floor self.old self.new }
     {
         if let Some(floor) = floor {
             let _jumped = self.agreement.gates[usize::from(host)].jump(&floor);

@@ -12,8 +12,8 @@ use std::alloc::Global;
 impl<V: Service + Drop> ReplicaState<V> {
     ghost use Rattle.mb_model.specs.Sending.{Progress, write};
     ghost use Rattle.mb_model.specs.Given.{give_request};
-    ghost use Rattle.mb_replica.specs.Represents.{Serves, StandsAt, HasHistory, Represents};
-    ghost use Rattle.mb_replica.specs.declared.sending.Done.{Done as DoneValue};
+    ghost use Rattle.mb_replica.specs.Represents.{Serves, HasHistory, Represents};
+    ghost use Rattle.mb_replica.specs.Steps.{Moves, AnswersAt};
     ghost use Rattle.std.specs.Prelude.{◌≡◌, None, IfOk};
     ghost use Rattle.mb_msg.specs.declared.message.Message.TheVariants as message;
     ghost use Rattle.mb_parts.specs.Fits.{FitsRequest};
@@ -33,7 +33,7 @@ impl<V: Service + Drop> ReplicaState<V> {
     ) -> Result<Outcome, NoMemory>
         requires fits { FitsRequest self.old.agreement.shape request }
         requires history { HasHistory self.old }
-        ensures { (me : Identity V) (x : Progress) → Serves V.is_state V.after V.answer V.part_of V.restored me → StandsAt me self.old done.old x → IfOk result (λ o. (o ≡ (give_request me request x).outcome) × StandsAt me self.new done.new (give_request me request x).left) }
+        ensures { AnswersAt (Serves V.machine) (λ me x. give_request me request x) result self.old done.old self.new done.new }
     {
         let number = self.keeper.accept(request.client, request.seq);
         let Some(refusal) = self.request_refusal(alloc, &request, number)? else {
@@ -52,7 +52,7 @@ impl<V: Service + Drop> ReplicaState<V> {
     /// A request takes the place of its client's pending one.
     fn pend(&mut self, request: Request)
         requires { FitsRequest self.old.agreement.shape request }
-        ensures { (me : Identity V) (x : Progress) → (done : DoneValue) → StandsAt me self.old done x → request_refusal me x.history request ≡ None → StandsAt me self.new done (write (Accepted (message.Request request)) x) }
+        ensures { (me : Identity V) (x : Progress) → Moves me x (request_refusal me x.history request ≡ None) (write (Accepted (message.Request request)) x) self.old self.new }
     {
         self.agreement.normal.pend(request);
     }

@@ -70,11 +70,9 @@ impl Done {
 
 impl<V: Service + Drop> ReplicaState<V> {
     ghost use Rattle.std.specs.Prelude.{[], ◌∷◌, ◌++◌, ◌≡◌, OnOk, None};
-    ghost use Rattle.mb_replica.specs.Represents.{StandsServing};
+    ghost use Rattle.mb_replica.specs.Steps.{Sends};
     ghost use Rattle.mb_replica.specs.Told.{as_outgoing};
     ghost use Rattle.mb_msg.specs.AsStamped.{stamped_digest};
-    ghost use Rattle.std.specs.Prelude.{List};
-    ghost use Rattle.mb_msg.specs.declared.event.Placed.{Placed};
     ghost use Rattle.mb_msg.specs.Fits.{Fits};
     ghost use Rattle.mb_msg.specs.Stamps.{as_message, as_stamped};
     ghost use Rattle.mb_model.specs.Histories.{Identity};
@@ -90,7 +88,7 @@ impl<V: Service + Drop> ReplicaState<V> {
     ) -> Result<(), NoMemory>
         requires fits { Fits self.now.agreement.shape message.now }
         requires plain { as_stamped message.now ≡ None }
-        ensures { (me : Identity V) (x : Progress) (served : List Placed) → StandsServing me self.now done.old served x → OnOk result (StandsServing me self.now done.new served (send (record { to = to; says = message.now }) x)) }
+        ensures { (me : Identity V) (x : Progress) → Sends me x (send (record { to = to; says = message.now }) x) result self.now done.old done.new }
     {
         done.push(to, encode(alloc, &self.agreement.shape, message)?, None)
     }
@@ -105,7 +103,7 @@ impl<V: Service + Drop> ReplicaState<V> {
     ) -> Result<(), NoMemory>
         requires fits { Fits self.now.agreement.shape message }
         requires plain { as_stamped message ≡ None }
-        ensures { (me : Identity V) (x : Progress) (served : List Placed) → StandsServing me self.now done.old served x → OnOk result (StandsServing me self.now done.new served (send (record { to = to; says = message }) x)) }
+        ensures { (me : Identity V) (x : Progress) → Sends me x (send (record { to = to; says = message }) x) result self.now done.old done.new }
     {
         let sent = self.send(alloc, to, &message, done);
         drop(message);

@@ -12,11 +12,10 @@ impl<V: Service + Drop> ReplicaState<V> {
     ghost use Rattle.mb_base.specs.Shapes.{host_count};
     ghost use Rattle.mb_model.specs.Sending.{Progress};
     ghost use Rattle.mb_model.specs.Given.{give_stamped, closing, accept};
-    ghost use Rattle.mb_replica.specs.Represents.{StandsAt, Represents, HasHistory};
+    ghost use Rattle.mb_replica.specs.Represents.{Represents, HasHistory};
+    ghost use Rattle.mb_replica.specs.Steps.{AnswersQuietly, Goes, Closes};
     ghost use Rattle.mb_replica.specs.declared.sending.Done.{Done};
-    ghost use Rattle.mb_msg.specs.declared.stamped.Stamped.{Stamped as StampedMessage};
     ghost use Rattle.mb_msg.specs.declared.stamped.Stamped.TheVariants as stamped;
-    ghost use Rattle.mb_msg.specs.Stamps.{ui_of};
     ghost use Rattle.mb_msg.specs.Fits.{FitsStamped};
     ghost use Rattle.mb_model.specs.Histories.{Identity, History};
     ghost use Rattle.mb_model.specs.KindChecks.{kind_refusal, stamped_refusal};
@@ -36,7 +35,7 @@ impl<V: Service + Drop> ReplicaState<V> {
         requires fits { FitsStamped self.old.agreement.shape message }
         requires stands { HasHistory self.old }
         requires known { KnowsBody known.now message }
-        ensures { (me : Identity V) (x : Progress) → (done : Done) → StandsAt me self.old done x → IfOk result (λ o. (o ≡ (give_stamped me message x).outcome) × StandsAt me self.new done (give_stamped me message x).left) }
+        ensures { AnswersQuietly (λ me x. give_stamped me message x) result self.old self.new }
     {
         let known = self.known_body(&message, known);
         let arrival = Arrival::of(alloc, &self.agreement.shape, message, &known)?;
@@ -116,7 +115,7 @@ impl<V: Service + Drop> ReplicaState<V> {
     /// A message that may not stand there closes its sender's gate at its counter.
     pub(crate) fn closing(&mut self, outcome: Outcome, ui: &Ui)
         requires { ui.now.host < host_count self.old.agreement.shape }
-        ensures { (me : Identity V) (x : Progress) → (done : Done) (m : StampedMessage) → StandsAt me self.old done x → FitsStamped self.old.agreement.shape m → ui.now ≡ ui_of m → stamped_refusal me x.history m ≡ Some outcome → StandsAt me self.new done (closing outcome ui.now x) }
+        ensures { (me : Identity V) (x : Progress) → Closes me x ui.now outcome self.old self.new }
     {
         if let Outcome::Illegal { .. } = outcome {
             self.close_gate(ui.host, ui.counter);
@@ -147,7 +146,7 @@ impl<V: Service + Drop> ReplicaState<V> {
     fn accept(&mut self, alloc: Global, arrival: Arrival) -> Result<(), NoMemory>
         requires arrives { IsArrival self.old.agreement.shape arrival }
         requires passes { LetsPass self.old arrival.message }
-        ensures { (me : Identity V) (x : Progress) → (done : Done) → StandsAt me self.old done x → stamped_refusal me x.history arrival.message ≡ None → OnOk result (StandsAt me self.new done (accept me arrival.message x)) }
+        ensures { (me : Identity V) (x : Progress) → (done : Done) → Goes me x (stamped_refusal me x.history arrival.message ≡ None) (accept me arrival.message x) result self.old done self.new done }
     {
         let Arrival {
             message,

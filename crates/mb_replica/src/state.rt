@@ -29,9 +29,9 @@ impl<V: Service + Drop> ReplicaState<V> {
         service: V,
     ) -> Result<ReplicaState<V>, NoMemory>
         requires { host < host_count shape }
-        ensures stands { (me : Identity V) → Serves V.is_state V.after V.answer V.part_of V.restored me → me.initial ≡ service → IfOk result (λ r. IsHost me r → Represents me r []) }
+        ensures stands { (me : Identity V) → Serves V.machine me → me.initial ≡ service → IfOk result (λ r. IsHost me r → Represents me r []) }
         ensures host { IfOk result (λ r. (r.agreement.shape ≡ shape) × (r.agreement.host ≡ host) × (r.agreement.usig.secret ≡ secret.now)) }
-        ensures rests { IfOk result (λ r. IsAtRest V.is_state V.after V.answer V.part_of V.restored r) }
+        ensures rests { IfOk result (λ r. IsAtRest V.machine r) }
     {
         service.known();
         Ok(ReplicaState {

@@ -18,10 +18,11 @@ impl<V: Service + Drop> ReplicaState<V> {
     ghost use Rattle.mb_model.specs.PlainChecks.{is_wanted};
     ghost use Rattle.mb_model.specs.Sending.{Progress};
     ghost use Rattle.mb_model.specs.Given.{give_state};
-    ghost use Rattle.std.specs.Prelude.{length, ◌≡◌, ◌<◌, IfOk};
+    ghost use Rattle.std.specs.Prelude.{length, ◌≡◌, ◌<◌};
     ghost use Rattle.mb_base.specs.Shapes.{client_count};
     ghost use Rattle.mb_cache.specs.Tables.{last_of};
-    ghost use Rattle.mb_replica.specs.Represents.{Serves, StandsAt, IsInStep, Answers, Represents};
+    ghost use Rattle.mb_replica.specs.Represents.{Serves, StandsAt, IsInStep, Represents};
+    ghost use Rattle.mb_replica.specs.Steps.{AnswersAt, Reacts};
     ghost use Rattle.mb_replica.specs.Between.{WritesNormal};
     ghost use Rattle.mb_replica.specs.Installing.{Settles, WritesInstalled, DoesInstall};
     ghost use Rattle.mb_model.specs.Histories.{Identity, History};
@@ -34,8 +35,8 @@ impl<V: Service + Drop> ReplicaState<V> {
         done: &mut Done,
     ) -> Result<Answer, NoMemory>
         requires fits { FitsState self.old.agreement.shape m.now }
-        requires standing { IsInStep V.is_state V.after V.answer V.part_of V.restored self.old done.old }
-        ensures { (me : Identity V) (x : Progress) → Serves V.is_state V.after V.answer V.part_of V.restored me → StandsAt me self.old done.old x → IfOk result (λ a. Answers me (message.State m.now) a (give_state me m.now x) × StandsAt me self.new done.new (give_state me m.now x).left) }
+        requires standing { IsInStep V.machine self.old done.old }
+        ensures { (me : Identity V) (x : Progress) → Serves V.machine me → StandsAt me self.old done.old x → Reacts me (message.State m.now) (give_state me m.now x) result self.new done.new }
     {
         if !self.is_wanted(m.pos) {
             return Ok(answered(Outcome::Idle));
@@ -52,8 +53,8 @@ impl<V: Service + Drop> ReplicaState<V> {
         requires fits { FitsState self.old.agreement.shape m.now }
         requires stable { m.now.pos ≡ self.old.agreement.stable.pos }
         requires behind { self.old.agreement.exec < self.old.agreement.stable.pos }
-        requires standing { IsInStep V.is_state V.after V.answer V.part_of V.restored self.old done.old }
-        ensures { (me : Identity V) (x : Progress) → Serves V.is_state V.after V.answer V.part_of V.restored me → StandsAt me self.old done.old x → IfOk result (λ o. (o ≡ (give_state me m.now x).outcome) × StandsAt me self.new done.new (give_state me m.now x).left) }
+        requires standing { IsInStep V.machine self.old done.old }
+        ensures { AnswersAt (Serves V.machine) (λ me x. give_state me m.now x) result self.old done.old self.new done.new }
     {
         let certified = self.agreement.stable.state;
         match self.keeper.take_state(alloc, &certified, m)? {

@@ -8,18 +8,18 @@ use mb_service::Service;
 use std::alloc::Global;
 
 impl<V: Service + Drop> ReplicaState<V> {
-    ghost use Rattle.std.specs.Prelude.{List, Some, None, OnOk, ◌≡◌, IfOk, ◌<◌, ◌≤◌, length};
+    ghost use Rattle.std.specs.Prelude.{Some, None, ◌≡◌, IfOk, ◌<◌, ◌≤◌, length};
     ghost use Rattle.mb_base.specs.Shapes.{client_count};
     ghost use Rattle.mb_parts.specs.Fits.{FitsText, IsCounter, IsPlace};
     ghost use Rattle.mb_msg.specs.Fits.{Fits};
     ghost use Rattle.mb_msg.specs.Stamps.{as_stamped};
-    ghost use Rattle.mb_msg.specs.declared.event.Placed.{Placed as PlacedValue};
     ghost use Rattle.mb_model.specs.Histories.{Identity, History};
     ghost use Rattle.mb_model.specs.Sending.{Progress, send, to_client};
     ghost use Rattle.mb_model.specs.Making.{reply};
     ghost use Rattle.mb_model.specs.PlainChecks.{last_seq};
     ghost use Rattle.mb_model.specs.Given.{stored_reply};
-    ghost use Rattle.mb_replica.specs.Represents.{StandsServing, Represents};
+    ghost use Rattle.mb_replica.specs.Represents.{Represents};
+    ghost use Rattle.mb_replica.specs.Steps.{SendsWhere};
 
     /// Sends a client the reply to its last executed request, where there is one.
     pub fn send_stored_reply(
@@ -30,7 +30,7 @@ impl<V: Service + Drop> ReplicaState<V> {
     ) -> Result<(), NoMemory>
         requires client { client < client_count self.now.agreement.shape }
         requires clients { length self.now.keeper.served.table ≡ client_count self.now.agreement.shape }
-        ensures { (me : Identity V) (x : Progress) (served : List PlacedValue) → StandsServing me self.now done.old served x → 1 ≤ last_seq me x.history client → OnOk result (StandsServing me self.now done.new served (send (to_client client (stored_reply me x.history client)) x)) }
+        ensures { (me : Identity V) (x : Progress) → SendsWhere me x (1 ≤ last_seq me x.history client) (send (to_client client (stored_reply me x.history client)) x) result self.now done.old done.new }
     {
         match self.keeper.reply(client) {
             Some((seq, pos, answer)) => {

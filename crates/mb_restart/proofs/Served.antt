@@ -4,6 +4,7 @@ use Rattle.std.specs.Prelude.{Result}
 use Rattle.std.specs.List.{AllByRecursion}
 use Rattle.std.proofs.lemmas.List.{map-append}
 use Rattle.mb_base.specs.Shapes.{Bytes, host_count}
+use Rattle.mb_service.specs.Machine.{ServiceMachine}
 use Rattle.mb_parts.specs.Counters.{IsBeginning}
 use Rattle.mb_msg.specs.declared.event.Event.{Event}
 use Rattle.mb_msg.specs.declared.event.Sent.{Sent}
@@ -202,7 +203,7 @@ module _ {V : Type 0} (me : Identity V) (kept : List Event) (journal journal' : 
   ends_run budget new receives (Err (stop.Full n)) ends keeps = by_stop (Err (stop.Full n)) (stop.Full n) new (events me start receives) (λ whole. whole) ends.0 keeps
   ends_run budget new receives (Err stop.NoMemory) ends keeps = by_stop (Err stop.NoMemory) stop.NoMemory new (events me start receives) (λ whole. whole) ends.0 keeps
 
-pub servings_are_runs : {V : Type 0} (is_state : V → Type 0) (next : V → Bytes → V) (result : V → Bytes → Bytes) (part : V → ℕ → Bytes) (restored : List Bytes → Result V (ℕ × ℕ)) → ServingsAreRuns is_state next result part restored
-servings_are_runs is_state next result part restored me kept old new journal journal' m told budget told_before told_now before now ended serves rep whole rests served =
+pub servings_are_runs : {V : Type 0} (machine : ServiceMachine V) → ServingsAreRuns machine
+servings_are_runs machine me kept old new journal journal' m told budget told_before told_now before now ended serves rep whole rests served =
     let x = served.ends me (after me (reverse kept)) serves rep whole in
     ends_run me kept journal journal' m told before now rests budget new served.receives ended x.0 x.1

@@ -4,6 +4,7 @@
 -- of which this speaks.
 use Rattle.std.specs.Prelude.{◌≡◌, ℕ, ◌+◌, ◌≤◌, List, ◌∷◌, ◌++◌, length, reverse, map, Option, Some, None, Result, Ok, Err}
 use Rattle.mb_base.specs.Shapes.{Bytes, host_count}
+use Rattle.mb_service.specs.Machine.{ServiceMachine}
 use Rattle.mb_parts.specs.Counters.{IsBeginning}
 use Rattle.mb_msg.specs.declared.event.Event.{Event}
 use Rattle.mb_model.specs.Histories.{Identity, onto}
@@ -61,9 +62,9 @@ pub record EndsRun {S : Type 0} (me : Identity S) (header : Bytes) (kept es : Li
   pub meanwhile : LeavesOnly (IsRunMeanwhile me header kept es) m told
 
 -- So serving ends, with whatever answer, from a host that stands behind the events of its journal.
-abbrev pub ServingsAreRuns : {V : Type 0} → (V → Type 0) → (V → Bytes → V) → (V → Bytes → Bytes) → (V → ℕ → Bytes) → (List Bytes → Result V (ℕ × ℕ)) → Type 0
-ServingsAreRuns {V} is_state next result part restored =
+abbrev pub ServingsAreRuns : {V : Type 0} → ServiceMachine V → Type 0
+ServingsAreRuns {V} machine =
     (me : Identity V) (kept : List Event) (old new : Replica V) (journal journal' : JournalState) (m : Moments) (told : Option Moments) (budget : ℕ) (told_before told_now : Option Receives) (before now : Outside) (ended : Result (Unit {0}) ServeStop)
-    → Serves is_state next result part restored me → Represents me old (after me (reverse kept)) → IsWhole (after me (reverse kept)) → IsAtRest journal kept m.now
-    → (served : HasServedKept is_state next result part restored old new journal journal' (Some m) told budget told_before told_now before now ended)
+    → Serves machine me → Represents me old (after me (reverse kept)) → IsWhole (after me (reverse kept)) → IsAtRest journal kept m.now
+    → (served : HasServedKept machine old new journal journal' (Some m) told budget told_before told_now before now ended)
     → EndsRun me journal.header kept (events me (after me (reverse kept)) served.receives) ended m before.sent now.sent told

@@ -56,7 +56,7 @@ pub fn runs_are_met<V>()
 /// came: whatever a crash then leaves of the file, or at a moment before, is what a run leaves, and the datagrams that were sent are a first part of those
 /// of its messages.
 pub fn servings_are_runs<V: Service>()
-    ensures { ServingsAreRuns V.is_state V.after V.answer V.part_of V.restored }
+    ensures { ServingsAreRuns V.machine }
 {}
 
 /// A gate that is written with its record, or before the record was synced, may be left alone by a crash; and one that is not synced may be lost. So of no

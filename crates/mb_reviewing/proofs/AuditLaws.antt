@@ -7,7 +7,8 @@ use Rattle.mb_edge.specs.declared.reading.ReadStop.{ReadStop}
 use Rattle.mb_audit.specs.declared.auditing.Verdict.{Verdict}
 use Rattle.mb_audit.specs.declared.auditing.Verdict.TheVariants.{Double, Gap, Illegal, Ordered}
 use Rattle.mb_sched.specs.declared.records.Record.{Record}
-use Rattle.mb_answer.specs.Devices.{Device, IsToldBy, Says, said, failed, cut_short, IsUnread, answered, unread, starved}
+use Rattle.mb_edge.specs.Seen.{Device}
+use Rattle.mb_answer.specs.Devices.{IsToldBy, Says, said, failed, cut_short, IsUnread, answered, unread, starved}
 use Rattle.mb_answer.specs.Records.{IsRecordText, AnswersText, too_long, bad_line, right}
 use Rattle.mb_answer.proofs.Contained.{any_of}
 use Rattle.mb_answer.proofs.RecordTexts.{same_record}

@@ -5,7 +5,8 @@ use Rattle.mb_base.specs.Shapes.{Bytes}
 use Rattle.mb_edge.specs.Faults.{Rose}
 use Rattle.mb_edge.specs.declared.reading.ReadStop.{ReadStop}
 use Rattle.mb_sched.specs.declared.records.Record.{Record}
-use Rattle.mb_answer.specs.Devices.{Device, IsToldBy, Says, said, failed, cut_short, IsUnread, answered, unread, starved}
+use Rattle.mb_edge.specs.Seen.{Device}
+use Rattle.mb_answer.specs.Devices.{IsToldBy, Says, said, failed, cut_short, IsUnread, answered, unread, starved}
 use Rattle.mb_answer.specs.Records.{IsRecordText, AnswersText, too_long, bad_line, right}
 use Rattle.mb_answer.proofs.Contained.{any_of}
 use Rattle.mb_answer.proofs.Statuses.{unread_is}

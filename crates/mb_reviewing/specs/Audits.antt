@@ -6,7 +6,8 @@ use Rattle.mb_audit.specs.declared.auditing.Verdict.{Verdict}
 use Rattle.mb_audit.specs.declared.auditing.Verdict.TheVariants.{Double, Gap, Illegal, Ordered}
 use Rattle.mb_audit.specs.Verdicts.{IsVerdict}
 use Rattle.mb_sched.specs.declared.records.Record.{Record}
-use Rattle.mb_answer.specs.Devices.{Device, Responds}
+use Rattle.mb_edge.specs.Seen.{Device}
+use Rattle.mb_answer.specs.Devices.{Responds}
 use Rattle.mb_answer.specs.Records.{IsRecordText, AnswersText}
 use Rattle.mb_answer.specs.Texts.{usage_text}
 use Rattle.mb_reviewing.specs.Given.{given_in}

@@ -1,19 +1,20 @@
 -- What is answered to the text of a record from which is learnt: the history that it proves.
-use Rattle.std.specs.Prelude.{◌≡◌, ℕ, ◌≤◌, ◌⊎◌, ⊤, Contains, List, [], ◌∷◌, ◌++◌, length, take, codes, Result, Ok, Err}
+use Rattle.std.specs.Prelude.{◌≡◌, ℕ, ◌≤◌, ◌⊎◌, ⊤, Contains, List, [], ◌∷◌, ◌++◌, length, take, codes, Result, Ok, Err, IfOk}
 use Rattle.std.specs.List.{flat_map}
 use Rattle.std.specs.Fmt.{decimal}
 use Rattle.hex.specs.Hex.{encode_lower}
 use Rattle.mb_base.specs.Shapes.{Bytes}
 use Rattle.mb_kv.specs.Pairs.{Pairs}
-use Rattle.mb_kv.specs.Operations.{after, answer}
-use Rattle.mb_kv.specs.Snapshots.{part_of, restored}
+use Rattle.mb_kv.specs.Machine.{kv_machine}
 use Rattle.mb_cache.specs.Represents.{machine_of, snapshots_of}
 use Rattle.mb_model.specs.Service.{Machine}
 use Rattle.mb_model.specs.States.{Snapshots}
 use Rattle.mb_msg.specs.declared.event.Slot.{Slot}
 use Rattle.mb_sched.specs.declared.records.Record.{Record}
 use Rattle.mb_sched.specs.Report.{slot_lines}
-use Rattle.mb_answer.specs.Devices.{Device, Responds}
+use Rattle.mb_edge.specs.Seen.{Device}
+use Rattle.mb_answer.specs.Devices.{Responds}
+use Rattle.mb_answer.specs.declared.answer.Answer.{Answer}
 use Rattle.mb_answer.specs.Records.{IsRecordText, AnswersText}
 use Rattle.mb_learn.specs.declared.learner.Learner.{Learner}
 use Rattle.mb_learn.specs.declared.learner.LearnStop.{LearnStop}
@@ -24,10 +25,10 @@ use Rattle.mb_reviewing.specs.Given.{given_in}
 
 -- the key-value service
 abbrev pub machine : Machine Pairs
-machine = machine_of after answer
+machine = machine_of kv_machine
 
 abbrev pub snapshots : Snapshots Pairs
-snapshots = snapshots_of part_of restored
+snapshots = snapshots_of kv_machine
 
 -- ---- what is written
 
@@ -55,6 +56,11 @@ module _ (r : Record) where
   -- What hosts say of their states differs nowhere.
   abbrev pub Agrees : List Bytes → List Slot → Type 0
   Agrees = AgreesWith r.config.shape r.config.secret machine snapshots []
+
+  -- What was learnt is told: a line for each slot, and the state behind them.
+  abbrev pub TellsLearnt : {E : Type 0} → Learner Pairs → Result Answer E → Type 0
+  TellsLearnt learner result = (given : List Bytes) (slots : List Slot) → Represents r.config.shape r.config.secret machine snapshots [] given slots learner
+      → IfOk result (λ a. (a.status ≡ 0) × (a.text.items ≡ learnt_text slots (state_behind slots (length slots))))
 
   -- The strings are learnt from one after the other: behind so many of them so many slots are executed, those are learnt from these strings, and nothing differs.
   -- In the end all slots are.

@@ -6,7 +6,7 @@ ghost use Rattle.mb_base.specs.Shapes.{host_count};
 ghost use Rattle.mb_edge.specs.Faults.{TellsFaults};
 ghost use Rattle.mb_edge.specs.Pieces.{ConsumesBetween};
 ghost use Rattle.mb_sched.specs.Records.{max_record};
-ghost use Rattle.mb_answer.specs.Devices.{device, IsLow};
+ghost use Rattle.mb_answer.specs.Devices.{IsLow};
 ghost use Rattle.mb_answer.specs.Records.{AnswersText};
 ghost use Rattle.mb_reviewing.specs.Audits.{verdict_status, verdict_text, AnswersAudit, Audits, audit_statuses, audit_findings};
 
@@ -76,14 +76,14 @@ fn answer_to_record(alloc: Global, host: u64, text: &[u8]) -> Result<Answer, NoM
 
 /// Reads a record, and writes what its host was given says of a host.
 pub fn audit<S: Source, K: Sink>(alloc: Global, host: u64, source: &mut S, sink: &mut K) -> u8
-    ensures told { IfSome (S.left source.old) (λ text. Audits text host result (device (S.left source.old) (S.faults source.old)) (device (S.left source.new) (S.faults source.new))
-        (device (K.written sink.old) (K.faults sink.old)) (device (K.written sink.new) (K.faults sink.new))) }
-    ensures ended { Contains audit_findings result → IsAtEnd (S.left source.new) }
-    ensures limit { ConsumesBetween 0 (max_record + 1) (S.left source.old) (S.left source.new) }
+    ensures told { IfSome (S.seen source.old).bytes (λ text. Audits text host result (S.seen source.old) (S.seen source.new)
+        (K.seen sink.old) (K.seen sink.new)) }
+    ensures ended { Contains audit_findings result → IsAtEnd (S.seen source.new).bytes }
+    ensures limit { ConsumesBetween 0 (max_record + 1) (S.seen source.old).bytes (S.seen source.new).bytes }
     ensures low { IsLow result }
     ensures statuses { Contains audit_statuses result }
-    ensures source { TellsFaults (S.never_fails source.old) (S.never_fails source.new) (S.faults source.old) (S.faults source.new) (result ≡ 5) }
-    ensures sink { TellsFaults (K.never_fails sink.old) (K.never_fails sink.new) (K.faults sink.old) (K.faults sink.new) (result ≡ 6) }
+    ensures source { TellsFaults (S.never_fails source.old) (S.never_fails source.new) (S.seen source.old).faults (S.seen source.new).faults (result ≡ 5) }
+    ensures sink { TellsFaults (K.never_fails sink.old) (K.never_fails sink.new) (K.seen sink.old).faults (K.seen sink.new).faults (result ≡ 6) }
 {
     match read_all(alloc, MAX_RECORD, source) {
         Ok(text) => respond(sink, answer_to_record(alloc, host, &text)),

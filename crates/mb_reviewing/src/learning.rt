@@ -1,18 +1,16 @@
 //! The word `learn`: the history that a record proves.
 
-ghost use Rattle.std.specs.Prelude.{◌≡◌, ◌+◌, Contains, List, [], length, IfOk, IfSome, OnOk};
+ghost use Rattle.std.specs.Prelude.{◌≡◌, ◌+◌, Contains, [], IfOk, IfSome, OnOk};
 ghost use Rattle.std.specs.Io.KnownBytes.{IsAtEnd};
 ghost use Rattle.mb_edge.specs.Faults.{TellsFaults};
 ghost use Rattle.mb_edge.specs.Pieces.{ConsumesBetween};
 ghost use Rattle.mb_sched.specs.Records.{max_record};
-ghost use Rattle.mb_answer.specs.Devices.{device, IsLow};
+ghost use Rattle.mb_answer.specs.Devices.{IsLow};
 ghost use Rattle.mb_answer.specs.Records.{AnswersText};
-ghost use Rattle.mb_base.specs.Shapes.{Bytes};
-ghost use Rattle.mb_msg.specs.declared.event.Slot.{Slot as TheSlot};
 ghost use Rattle.mb_sched.specs.declared.records.Record.{Record as TheRecord};
 ghost use Rattle.mb_audit.specs.Stamps.{texts};
 ghost use Rattle.mb_learn.specs.Learners.{Represents};
-ghost use Rattle.mb_reviewing.specs.Learning.{machine, snapshots, state_behind, learnt_text, differs_text, LearnsAll, AnswersLearn, LearnsFrom, learn_statuses, learn_findings};
+ghost use Rattle.mb_reviewing.specs.Learning.{machine, snapshots, differs_text, LearnsAll, AnswersLearn, LearnsFrom, learn_statuses, learn_findings, TellsLearnt};
 
 use crate::given::given_in;
 use mb_answer::{Answer, DIFFERS, DONE, refusal, respond, tell_unread};
@@ -26,8 +24,7 @@ use std::alloc::Global;
 
 /// The history that was learnt: a line for each request, and the state behind them.
 fn learnt(alloc: Global, learner: &mut Learner<Kv>) -> Result<Answer, NoMemory>
-    ensures { (r : TheRecord) (given : List Bytes) (slots : List TheSlot) → Represents r.config.shape r.config.secret machine snapshots [] given slots learner.old
-        → IfOk result (λ a. (a.status ≡ 0) × (a.text.items ≡ learnt_text slots (state_behind r slots (length slots)))) }
+    ensures { (r : TheRecord) → TellsLearnt r learner.old result }
 {
     let state = learner.state(alloc)?;
     let state = hex::encode(alloc, state.as_slice())?;
@@ -99,14 +96,14 @@ fn answer_to_record(alloc: Global, text: &[u8]) -> Result<Answer, NoMemory>
 
 /// Reads a record, and writes the history that it proves.
 pub fn learn<S: Source, K: Sink>(alloc: Global, source: &mut S, sink: &mut K) -> u8
-    ensures told { IfSome (S.left source.old) (λ text. LearnsFrom text result (device (S.left source.old) (S.faults source.old)) (device (S.left source.new) (S.faults source.new))
-        (device (K.written sink.old) (K.faults sink.old)) (device (K.written sink.new) (K.faults sink.new))) }
-    ensures ended { Contains learn_findings result → IsAtEnd (S.left source.new) }
-    ensures limit { ConsumesBetween 0 (max_record + 1) (S.left source.old) (S.left source.new) }
+    ensures told { IfSome (S.seen source.old).bytes (λ text. LearnsFrom text result (S.seen source.old) (S.seen source.new)
+        (K.seen sink.old) (K.seen sink.new)) }
+    ensures ended { Contains learn_findings result → IsAtEnd (S.seen source.new).bytes }
+    ensures limit { ConsumesBetween 0 (max_record + 1) (S.seen source.old).bytes (S.seen source.new).bytes }
     ensures low { IsLow result }
     ensures statuses { Contains learn_statuses result }
-    ensures source { TellsFaults (S.never_fails source.old) (S.never_fails source.new) (S.faults source.old) (S.faults source.new) (result ≡ 5) }
-    ensures sink { TellsFaults (K.never_fails sink.old) (K.never_fails sink.new) (K.faults sink.old) (K.faults sink.new) (result ≡ 6) }
+    ensures source { TellsFaults (S.never_fails source.old) (S.never_fails source.new) (S.seen source.old).faults (S.seen source.new).faults (result ≡ 5) }
+    ensures sink { TellsFaults (K.never_fails sink.old) (K.never_fails sink.new) (K.seen sink.old).faults (K.seen sink.new).faults (result ≡ 6) }
 {
     match read_all(alloc, MAX_RECORD, source) {
         Ok(text) => respond(sink, answer_to_record(alloc, &text)),

@@ -13,6 +13,7 @@ use Rattle.std.proofs.lemmas.List.Sums.{count_by-le-length}
 use Rattle.hex.specs.Hex.{decode_of, decode_sized, decode_pairs, pair_value, ◌>>=◌ as ◌>>>=◌}
 use Rattle.hex.specs.declared.error.FromHexError.{FromHexError}
 use Rattle.hex.specs.declared.error.FromHexError.TheVariants.{OddLength, InvalidStringLength}
+use Rattle.mb_base.specs.Limits.{batch_limit, text_limit, most_faults, least_interval, most_interval, most_clients}
 use Rattle.mb_base.specs.Shapes.{Bytes, is_within, max_faults, host_count, client_count, tally}
 use Rattle.mb_base.specs.declared.shape.Shape.{Shape}
 use Rattle.mb_parts.specs.Fits.{IsCounter, IsPlace, IsPosition, IsDigest}
@@ -117,7 +118,7 @@ decoded text bytes e = elim (odd_or_even (eqb (length text % 2) 1)) [
   | inr even ↦ let f : result_ok (decode_pairs 0 text) ≡ Some bytes = rw even at e in let exact = pairs_length 0 text bytes (result_is (decode_pairs 0 text) bytes f) in omega (arith, exact)
 ]
 
-bytes_short : (word bytes : Bytes) → bytes_of word ≡ Some bytes → length word ≤ 2 * 1024 → length bytes ≤ 1024
+bytes_short : (word bytes : Bytes) → bytes_of word ≡ Some bytes → length word ≤ 2 * text_limit → length bytes ≤ text_limit
 bytes_short word bytes e short =
     let a = allowed (is_hex word) (cond (is "-" word) (Some []) (result_ok (decode_of word))) bytes e in
     elim (odd_or_even (is "-" word)) [
@@ -125,10 +126,10 @@ bytes_short word bytes e short =
       | inr other ↦ let f : result_ok (decode_of word) ≡ Some bytes = rw other at a.1 in let g = decoded word bytes f in omega (arith, g, short)
     ]
 
-operation_short : (word bytes : Bytes) → operation_of word ≡ Some bytes → length bytes ≤ 1024
+operation_short : (word bytes : Bytes) → operation_of word ≡ Some bytes → length bytes ≤ text_limit
 operation_short word bytes e =
     let a = allowed (is_operation word) (bytes_of word) bytes e in
-    let b = both (is_hex word) (leb (length word) (2 * 1024)) a.0 in
+    let b = both (is_hex word) (leb (length word) (2 * text_limit)) a.0 in
     bytes_short word bytes a.1 (leb-true _ _ b.1)
 
 no_value : {A : Type 0} (d : FromHexError) (x : A) → failed {A = A} d ≡ okay x → ⊥
@@ -274,10 +275,10 @@ module _ (s : Shape) where
 
   -- ---- what a faulty host stamps
 
-  messages_fit : (ws : List Bytes) (numbers : List ℕ) → messages_of ws ≡ Some numbers → (1 ≤ length numbers) × (length numbers ≤ 16)
+  messages_fit : (ws : List Bytes) (numbers : List ℕ) → messages_of ws ≡ Some numbers → (1 ≤ length numbers) × (length numbers ≤ batch_limit)
   messages_fit ws numbers e =
-      let a = allowed (leb 1 (length ws) && leb (length ws) 16) (numbers_of ws) numbers e in
-      let b = both (leb 1 (length ws)) (leb (length ws) 16) a.0 in
+      let a = allowed (leb 1 (length ws) && leb (length ws) batch_limit) (numbers_of ws) numbers e in
+      let b = both (leb 1 (length ws)) (leb (length ws) batch_limit) a.0 in
       let low = leb-true _ _ b.0 in
       let high = leb-true _ _ b.1 in
       let many = as_many message_in ws numbers a.1 in
@@ -436,9 +437,9 @@ header_fits : (title faults interval count key names : Option Bytes) (h : Header
 unfolding header_by
 header_fits title faults interval count key names h e =
     let t = bind_ok (read_line 1 (exact_line (codes "minbft schedule 2")) title) _ h e in
-    let f = bind_ok (read_line 2 (keyword_line (codes "f") (number_in 1 3)) faults) _ h t.2 in
-    let k = bind_ok (read_line 3 (keyword_line (codes "k") (number_in 4 32)) interval) _ h f.2 in
-    let clients = bind_ok (read_line 4 (keyword_line (codes "clients") (number_in 1 64)) count) _ h k.2 in
+    let f = bind_ok (read_line 2 (keyword_line (codes "f") (number_in 1 most_faults)) faults) _ h t.2 in
+    let k = bind_ok (read_line 3 (keyword_line (codes "k") (number_in least_interval most_interval)) interval) _ h f.2 in
+    let clients = bind_ok (read_line 4 (keyword_line (codes "clients") (number_in 1 most_clients)) count) _ h k.2 in
     let secret = bind_ok (read_line 5 (keyword_line (codes "secret") digest_of) key) _ h clients.2 in
     let faulty = bind_ok (read_line 6 (faulty_line f.0 clients.0) names) _ h secret.2 in
     let text = read_ok 6 (faulty_line f.0 clients.0) names faulty.0 faulty.1 in

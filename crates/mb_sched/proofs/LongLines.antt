@@ -1,6 +1,7 @@
 -- No event line has more than 21 words.
 use Rattle.std.proofs.Common.{◌≡◌, ℕ, ◌<◌, leb, Bool, true, false, cond, List, [], ◌∷◌, length, Option, Some, None, refl, arith}
 use Rattle.std.proofs.lemmas.Bool.{and_right, lt-leb}
+use Rattle.mb_base.specs.Limits.{batch_limit}
 use Rattle.mb_base.specs.Shapes.{Bytes}
 use denote.Ref.{Bor}
 use Rattle.mb_sched.specs.Words.{texts, is, host_in, client_in, ◌>>=◌}
@@ -83,8 +84,8 @@ module _ (hosts clients : ℕ) where
 
   -- ---- what is stamped
 
-  no_messages : (ws : List Bytes) → 16 < length ws → messages_of ws ≡ None
-  no_messages ws lt = rw (lt-leb (length ws) 16 lt, and_right (leb 1 (length ws)) false refl) refl
+  no_messages : (ws : List Bytes) → batch_limit < length ws → messages_of ws ≡ None
+  no_messages ws lt = rw (lt-leb (length ws) batch_limit lt, and_right (leb 1 (length ws)) false refl) refl
 
   no_prepare : (h : ℕ) (ws : List Bytes) → 18 < length ws → prepare_of h ws ≡ None
   no_prepare h [] lt = absurd (omega arith)

@@ -3,6 +3,7 @@ use Rattle.std.proofs.Common.{◌≡◌, ℕ, ◌+◌, ◌≤◌, Bool, List, []
 use Rattle.std.specs.List.{flat_map, AllByRecursion}
 use Rattle.std.proofs.lemmas.List.Concat.{flat_map-cons}
 use Rattle.hex.specs.Hex.{IsBytes}
+use Rattle.mb_base.specs.Limits.{text_limit}
 use Rattle.mb_base.specs.Shapes.{Bytes}
 use Rattle.mb_sched.specs.declared.configs.Config.{Config}
 use Rattle.mb_sched.specs.Words.{operation_of}
@@ -15,7 +16,7 @@ use Rattle.mb_sched.proofs.PrintedHex.{operation_of-hex_word, IsWord-hex_word}
 use Rattle.mb_sched.proofs.PrintedLines.{keyword_begins, keyword_again, settings_lines, settings_are, settings_again}
 
 -- all operations that are printed
-ops_again : (n : ℕ) (ops : List Bytes) → AllByRecursion (λ (op : Bytes). (length op ≤ 1024) × IsBytes op) ops
+ops_again : (n : ℕ) (ops : List Bytes) → AllByRecursion (λ (op : Bytes). (length op ≤ text_limit) × IsBytes op) ops
     → all_lines op_line (is_ended (flat_map op_text ops)) n (lines (flat_map op_text ops)) ≡ Ok ops
 unfolding all_lines
 ops_again n [] fit = refl

@@ -4,6 +4,7 @@ use Rattle.std.specs.List.{list_all}
 use Rattle.std.proofs.lemmas.Bool.{and_parts, and_from, and_right, leb-true, le-leb, lt-ltb, eq-eqb, cases_eq, or_cases}
 use Rattle.hex.specs.Hex.{IsBytes, encode_with, encode_lower, lower_digits}
 use Rattle.hex.proofs.HexLemmas.{length-encode_with, decode_of-encode_lower, decode_sized-encode_lower}
+use Rattle.mb_base.specs.Limits.{text_limit}
 use Rattle.mb_base.specs.Shapes.{Bytes}
 use Rattle.mb_sched.specs.Words.{is, is_lower_hex_digit, is_hex, bytes_of, operation_of, digest_of}
 use Rattle.mb_sched.specs.Printing.{hex_word}
@@ -54,15 +55,15 @@ bytes_of-hex_word (b ∷ bs) fits =
     let dash = no_dash (encode_lower (b ∷ bs)) (omega arith) in
     rw (is_hex-hex_word (b ∷ bs) fits, dash, decode_of-encode_lower (b ∷ bs) fits) refl
 
-short_word : (bytes : Bytes) → length bytes ≤ 1024 → leb (length (hex_word bytes)) (2 * 1024) ≡ true
+short_word : (bytes : Bytes) → length bytes ≤ text_limit → leb (length (hex_word bytes)) (2 * text_limit) ≡ true
 short_word [] le = refl
 short_word (b ∷ bs) le =
     let len : length (encode_lower (b ∷ bs)) ≡ 2 * length (b ∷ bs) = length-encode_with lower_digits (b ∷ bs) in
     le-leb _ _ (omega arith)
 
-pub operation_of-hex_word : (op : Bytes) → IsBytes op → length op ≤ 1024 → operation_of (hex_word op) ≡ Some op
+pub operation_of-hex_word : (op : Bytes) → IsBytes op → length op ≤ text_limit → operation_of (hex_word op) ≡ Some op
 operation_of-hex_word op fits le =
-    let allowed = and_from (is_hex (hex_word op)) (leb (length (hex_word op)) (2 * 1024)) (is_hex-hex_word op fits) (short_word op le) in
+    let allowed = and_from (is_hex (hex_word op)) (leb (length (hex_word op)) (2 * text_limit)) (is_hex-hex_word op fits) (short_word op le) in
     ap (λ (b : Bool). cond b (bytes_of (hex_word op)) None) allowed ∙ bytes_of-hex_word op fits
 
 pub digest_of-encode_lower : (bytes : Bytes) → IsBytes bytes → length bytes ≡ 32 → digest_of (encode_lower bytes) ≡ Some bytes

@@ -4,13 +4,14 @@ use Rattle.std.specs.Fmt.{decimal}
 use Rattle.std.specs.List.{join_with_byte, AllByRecursion}
 use Rattle.std.specs.Str.{bytes_eq}
 use Rattle.hex.specs.Hex.{IsBytes, encode_lower}
+use Rattle.mb_base.specs.Limits.{most_faults, least_interval, most_interval, most_clients}
 use Rattle.mb_base.specs.Shapes.{Bytes, max_faults, interval, client_count}
 use Rattle.mb_base.specs.declared.shape.Shape.{Shape}
 use Rattle.mb_sched.specs.Words.{pieces, number_in, digest_of}
 use Rattle.mb_sched.specs.Lines.{lines, is_ended}
 use Rattle.mb_sched.specs.ScheduleText.{line_text}
 use Rattle.mb_sched.specs.TextLines.{keyword_line}
-use Rattle.mb_sched.specs.Settings.{settings_by, settings_of, settings_text}
+use Rattle.mb_sched.specs.Settings.{settings_by, settings_of, settings_text, least_port, most_port}
 use Rattle.mb_sched.proofs.Pieces.{line_first, same_end}
 use Rattle.mb_sched.proofs.PrintedHex.{digest_of-encode_lower, IsWord-encode_lower}
 use Rattle.mb_sched.proofs.PrintedNumbers.{number_in-decimal, IsWord-decimal}
@@ -96,9 +97,9 @@ module _ (title titled : Bytes) (is_title : (behind : Bytes) → pieces 10 (titl
   settings_again len rest =
       rw (
         same_title,
-        number_again 1 3 (max_faults shape) (codes "f") refl refl (omega arith) (omega arith) (omega arith),
-        number_again 4 32 (interval shape) (codes "k") refl refl (omega arith) (omega arith) (omega arith),
-        number_again 1 64 (client_count shape) (codes "clients") refl refl (omega arith) (omega arith) (omega arith),
+        number_again 1 most_faults (max_faults shape) (codes "f") refl refl (omega arith) (omega arith) (omega arith),
+        number_again least_interval most_interval (interval shape) (codes "k") refl refl (omega arith) (omega arith) (omega arith),
+        number_again 1 most_clients (client_count shape) (codes "clients") refl refl (omega arith) (omega arith) (omega arith),
         keyword_again digest_of (codes "secret") (encode_lower secret) secret refl refl (IsWord-encode_lower secret fits) (digest_of-encode_lower secret fits len),
-        number_again 1024 60000 port (codes "port") refl refl (omega (arith, high_port)) low_port high_port,
+        number_again least_port most_port port (codes "port") refl refl (omega (arith, high_port)) low_port high_port,
       ) refl

@@ -7,6 +7,7 @@ use Rattle.std.proofs.lemmas.Bool.{and_from, le-leb}
 use Rattle.std.proofs.lemmas.List.{length-map}
 use Rattle.std.proofs.lemmas.List.Concat.{flat_map-cons}
 use Rattle.hex.specs.Hex.{IsBytes, encode_lower}
+use Rattle.mb_base.specs.Limits.{batch_limit, most_faults, least_interval, most_interval, most_clients}
 use Rattle.mb_base.specs.Shapes.{Bytes, max_faults, interval, client_count, host_count, tally}
 use Rattle.mb_base.specs.declared.shape.Shape.{Shape}
 use Rattle.mb_parts.specs.Fits.{IsCounter, IsPlace, IsPosition}
@@ -58,9 +59,9 @@ numbers_again : (numbers : List ℕ) → AllByRecursion (λ m. m < 2 ^ 64) numbe
 numbers_again [] fit = refl
 numbers_again (m ∷ more) fit = rw (number_in-decimal 0 (2 ^ 64 - 1) m fit.0 (omega arith) (let lt = fit.0 in omega (arith, lt)), numbers_again more fit.1) refl
 
-messages_again : (numbers : List ℕ) → AllByRecursion (λ m. m < 2 ^ 64) numbers → 1 ≤ length numbers → length numbers ≤ 16 → messages_of (map decimal numbers) ≡ Some numbers
+messages_again : (numbers : List ℕ) → AllByRecursion (λ m. m < 2 ^ 64) numbers → 1 ≤ length numbers → length numbers ≤ batch_limit → messages_of (map decimal numbers) ≡ Some numbers
 messages_again numbers fit low high =
-    rw (length-map numbers decimal, le-leb 1 (length numbers) low, le-leb (length numbers) 16 high) (numbers_again numbers fit)
+    rw (length-map numbers decimal, le-leb 1 (length numbers) low, le-leb (length numbers) batch_limit high) (numbers_again numbers fit)
 
 words_of_numbers : (numbers : List ℕ) → AllByRecursion (λ m. m < 2 ^ 64) numbers → AllByRecursion IsWord (map decimal numbers)
 words_of_numbers [] fit = tt
@@ -279,14 +280,14 @@ module _ (f k clients : ℕ) (secret : Bytes) (names : List Bytes) (rest : Bytes
       )
 
   header_again : (marks : Marks) → read_line 6 (faulty_line f clients) (Some (join_with_byte 32 (codes "faulty" ∷ names))) ≡ Ok marks
-      → 1 ≤ f → f ≤ 3 → 4 ≤ k → k ≤ 32 → 1 ≤ clients → clients ≤ 64 → length secret ≡ 32
+      → 1 ≤ f → f ≤ most_faults → least_interval ≤ k → k ≤ most_interval → 1 ≤ clients → clients ≤ most_clients → length secret ≡ 32
       → header_of (lines_of f k clients secret names ++ lines rest) ≡ Ok (record { f = f; k = k; clients = clients; secret = secret; faulty = marks })
   unfolding header_by
   header_again marks named f_low f_high k_low k_high c_low c_high len =
       rw (
-        number_again 1 3 f (codes "f") refl refl f_lt f_low f_high,
-        number_again 4 32 k (codes "k") refl refl k_lt k_low k_high,
-        number_again 1 64 clients (codes "clients") refl refl clients_lt c_low c_high,
+        number_again 1 most_faults f (codes "f") refl refl f_lt f_low f_high,
+        number_again least_interval most_interval k (codes "k") refl refl k_lt k_low k_high,
+        number_again 1 most_clients clients (codes "clients") refl refl clients_lt c_low c_high,
         keyword_again digest_of (codes "secret") (encode_lower secret) secret refl refl (IsWord-encode_lower secret fits) (digest_of-encode_lower secret fits len),
         named,
       ) refl
@@ -316,11 +317,11 @@ schedule_again s keeps =
     let rest : Bytes = flat_map event_text s.events in
     let text : Bytes = text_of f k clients s.secret names rest in
     let f_low : 1 ≤ f = omega arith in
-    let f_high : f ≤ 3 = omega arith in
-    let k_low : 4 ≤ k = omega arith in
-    let k_high : k ≤ 32 = omega arith in
+    let f_high : f ≤ most_faults = omega arith in
+    let k_low : least_interval ≤ k = omega arith in
+    let k_high : k ≤ most_interval = omega arith in
     let c_low : 1 ≤ clients = omega arith in
-    let c_high : clients ≤ 64 = omega arith in
+    let c_high : clients ≤ most_clients = omega arith in
     let ls = header_lines f k clients s.secret names rest (omega arith) (omega arith) (omega arith) keeps.secret_bytes are in
     let header = header_again f k clients s.secret names rest (omega arith) (omega arith) (omega arith) keeps.secret_bytes are (marks_in s) (faulty_again s keeps.fits) f_low f_high k_low k_high c_low c_high keeps.secret_length in
     let events = events_again shape 7 s.events keeps.fits.events keeps.printable in

@@ -2,6 +2,7 @@
 use Rattle.std.specs.Prelude.{◌≡◌, ℕ, ◌≤◌, length, codes, List, [], ◌∷◌, ◌++◌, drop, Option, Result, Ok}
 use Rattle.std.specs.List.{flat_map, AllByRecursion}
 use Rattle.hex.specs.Hex.{IsBytes}
+use Rattle.mb_base.specs.Limits.{text_limit}
 use Rattle.mb_base.specs.Shapes.{Bytes, max_faults, interval, client_count}
 use Rattle.mb_sched.specs.declared.configs.Config.{Config}
 use Rattle.mb_sched.specs.Words.{operation_of}
@@ -9,7 +10,7 @@ use Rattle.mb_sched.specs.Lines.{lines, is_ended, ◌>>=◌}
 use Rattle.mb_sched.specs.Printing.{hex_word}
 use Rattle.mb_sched.specs.ScheduleText.{line_text}
 use Rattle.mb_sched.specs.TextLines.{keyword_line, all_lines}
-use Rattle.mb_sched.specs.Settings.{SettingsContents, settings_of, settings_text}
+use Rattle.mb_sched.specs.Settings.{SettingsContents, settings_of, settings_text, least_port, most_port}
 
 -- the most bytes that the text of a config may have
 abbrev pub max_config : ℕ
@@ -60,9 +61,9 @@ config_text c = codes "minbft config 2\n" ++ (settings_text c.shape c.secret c.p
 pub record SettingsFit (c : Config) : Type 0 where
   pub secret_length : length c.secret ≡ 32
   pub secret_bytes : IsBytes c.secret
-  pub port : (1024 ≤ c.port) × (c.port ≤ 60000)
+  pub port : (least_port ≤ c.port) × (c.port ≤ most_port)
 
 -- the config keeps the limits of the grammar: so do its settings, and each operation has at most 1,024 bytes
 pub record ConfigFits (c : Config) : Type 0 where
   pub settings : SettingsFit c
-  pub ops : AllByRecursion (λ (op : Bytes). (length op ≤ 1024) × IsBytes op) c.ops
+  pub ops : AllByRecursion (λ (op : Bytes). (length op ≤ text_limit) × IsBytes op) c.ops

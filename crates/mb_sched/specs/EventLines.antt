@@ -1,5 +1,6 @@
 -- What an event line says.
 use Rattle.std.specs.Prelude.{ℕ, ◌-◌, ◌^◌, ◌&&◌, nat_le, if◌then◌else◌, List, [], ◌∷◌, length, Option, Some, None}
+use Rattle.mb_base.specs.Limits.{batch_limit}
 use Rattle.mb_base.specs.Shapes.{Bytes}
 use Rattle.mb_schedule.specs.declared.schedule.WorldEvent.{WorldEvent}
 use Rattle.mb_schedule.specs.declared.schedule.WorldEvent.TheVariants.{Ask, Give, Take, Raw, Patience, Nudge, Sign, TagReply, TagWish, StampPrepare, StampCommit, StampCheckpoint, StampChange, StampAs, StampRaw}
@@ -115,9 +116,9 @@ tag_of hosts clients _ = None
 abbrev pub numbers_of : List Bytes → Option (List ℕ)
 numbers_of words = all_of message_in words
 
--- 1 to 16 of them
+-- as many of them as a batch may have
 abbrev pub messages_of : List Bytes → Option (List ℕ)
-messages_of words = if nat_le 1 (length words) && nat_le (length words) 16 then numbers_of words else None
+messages_of words = if nat_le 1 (length words) && nat_le (length words) batch_limit then numbers_of words else None
 
 -- `stamp H prepare V P M..`, behind `prepare`
 abbrev pub prepare_of : ℕ → List Bytes → Option WorldEvent

@@ -1,6 +1,7 @@
 -- What the six lines of a header say.
 use Rattle.std.specs.Prelude.{ℕ, slice_get, codes, ◌+◌, ◌*◌, Bool, true, false, ◌&&◌, ◌==◌, nat_lt, nat_le, if◌then◌else◌, List, [], ◌∷◌, map, Option, Some, None, option_and_then, Result, Ok}
 use Rattle.std.specs.List.{list_any, count_by, range_with_len}
+use Rattle.mb_base.specs.Limits.{most_faults, least_interval, most_interval, most_clients}
 use Rattle.mb_base.specs.Shapes.{Bytes, max_faults, interval, client_count}
 use Rattle.mb_sched.specs.declared.header.Header.{Header}
 use Rattle.mb_sched.specs.declared.header.Marks.{Marks}
@@ -75,9 +76,9 @@ pub record HeaderContents : Type 0 where
 unfoldable pub header_by : Option Bytes → Option Bytes → Option Bytes → Option Bytes → Option Bytes → Option Bytes → Result HeaderContents ℕ
 header_by title faults interval count key names = do
   _ ← read_line 1 (exact_line (codes "minbft schedule 2")) title
-  f ← read_line 2 (keyword_line (codes "f") (number_in 1 3)) faults
-  k ← read_line 3 (keyword_line (codes "k") (number_in 4 32)) interval
-  clients ← read_line 4 (keyword_line (codes "clients") (number_in 1 64)) count
+  f ← read_line 2 (keyword_line (codes "f") (number_in 1 most_faults)) faults
+  k ← read_line 3 (keyword_line (codes "k") (number_in least_interval most_interval)) interval
+  clients ← read_line 4 (keyword_line (codes "clients") (number_in 1 most_clients)) count
   secret ← read_line 5 (keyword_line (codes "secret") digest_of) key
   faulty ← read_line 6 (faulty_line f clients) names
   Ok (record { f = f; k = k; clients = clients; secret = secret; faulty = faulty })

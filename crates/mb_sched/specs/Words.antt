@@ -8,6 +8,7 @@ use Rattle.std.specs.Option.{option_or}
 use Rattle.std.specs.Result.{result_ok}
 use Rattle.std.specs.Str.{byte, bytes_eq}
 use Rattle.hex.specs.Hex.{decode_of, decode_sized}
+use Rattle.mb_base.specs.Limits.{text_limit}
 use Rattle.mb_base.specs.Shapes.{Bytes, is_within}
 use Rattle.mb_schedule.specs.declared.schedule.Name.{Name}
 use Rattle.mb_schedule.specs.declared.schedule.Name.TheVariants as name
@@ -70,7 +71,7 @@ is_hex word = is "-" word || (list_all is_lower_hex_digit word && (nat_lt 0 (len
 
 -- the same, of at most 1,024 bytes: an operation or a result
 abbrev pub is_operation : Bytes → Bool
-is_operation word = is_hex word && nat_le (length word) (2 * 1024)
+is_operation word = is_hex word && nat_le (length word) (2 * text_limit)
 
 -- the bytes of a word in hexadecimal
 abbrev pub bytes_of : Bytes → Option Bytes

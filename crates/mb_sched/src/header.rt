@@ -1,7 +1,7 @@
 //! The header of a schedule: its first six lines.
 
 ghost use Rattle.std.specs.Prelude.{◌≡◌, ◌≤◌, ◌∷◌, drop, IfSome, IfOk, length, map};
-ghost use Rattle.std.specs.Option.{option_copied};
+ghost use Rattle.std.specs.Option.{option_copied as copied};
 ghost use Rattle.std.specs.List.{list_any, count_by, range_with_len};
 ghost use Rattle.mb_base.specs.Shapes.{max_faults, host_count, client_count};
 ghost use Rattle.mb_sched.specs.Words.{words, words_behind, all_of, name_in};
@@ -58,9 +58,7 @@ fn header_by(
     secret: Option<&[u8]>,
     faulty: Option<&[u8]>,
 ) -> Result<Header, BadText>
-    ensures { Answers header_contents result (header_by
-        (option_copied title.entry) (option_copied f.entry) (option_copied k.entry)
-        (option_copied clients.entry) (option_copied secret.entry) (option_copied faulty.entry)) }
+    ensures { Answers header_contents result (header_by (copied title.entry) (copied f.entry) (copied k.entry) (copied clients.entry) (copied secret.entry) (copied faulty.entry)) }
 {
     read_title(b"minbft schedule 2", title)?;
     let f = read_number(2, b"f", 1, u16::from(Shape::MAX_F), f)?;
@@ -81,7 +79,7 @@ fn header_by(
 /// Line 6: `faulty` and the names of whom is faulty.
 fn read_faulty(alloc: Global, shape: Shape, line: Option<&[u8]>) -> Result<Marks, BadText>
     ensures { Answers (λ marks. marks) result
-        (read_line 6 (faulty_line (max_faults shape) (client_count shape)) (option_copied line.entry)) }
+        (read_line 6 (faulty_line (max_faults shape) (client_count shape)) (copied line.entry)) }
 {
     let Some(line) = line else {
         return Err(BadText::BadLine { number: 6 });
@@ -111,7 +109,7 @@ fn faulty_line(alloc: Global, shape: Shape, line: &[u8]) -> Result<Option<Marks>
 
 /// The first word of a line, and what stands behind it if there is more.
 fn first_word(line: &[u8]) -> (&[u8], Option<&[u8]>)
-    ensures { words line.now ≡ result.0.now ∷ words_behind (option_copied result.1) }
+    ensures { words line.now ≡ result.0.now ∷ words_behind (copied result.1) }
 {
     cut(line, b' ')
 }
@@ -123,7 +121,7 @@ fn names_behind(
     behind: Option<&[u8]>,
 ) -> Result<Option<Items<Name>>, NoMemory>
     ensures { IfOk result (λ names. names ≡ all_of
-        (name_in (host_count shape) (client_count shape)) (words_behind (option_copied behind.entry))) }
+        (name_in (host_count shape) (client_count shape)) (words_behind (copied behind.entry))) }
 {
     let mut names = Items::new(alloc);
     let mut rest = behind;

@@ -1,7 +1,7 @@
 //! The lines that configs and records begin with.
 
 ghost use Rattle.std.specs.Prelude.{◌≡◌, ◌≤◌, ◌++◌, drop, length, OnOk, IfOk, string_bytes};
-ghost use Rattle.std.specs.Option.{option_copied};
+ghost use Rattle.std.specs.Option.{option_copied as copied};
 ghost use Rattle.mb_sched.specs.Lines.{lines, is_ended, Answers};
 ghost use Rattle.mb_sched.specs.Settings.{settings_by, settings_of, settings_contents, settings_text};
 
@@ -53,9 +53,7 @@ fn settings_by(
     secret: Option<&[u8]>,
     port: Option<&[u8]>,
 ) -> Result<Settings, BadText>
-    ensures { Answers settings_contents result (settings_by title.now (option_copied first.entry)
-        (option_copied f.entry) (option_copied k.entry) (option_copied clients.entry)
-        (option_copied secret.entry) (option_copied port.entry)) }
+    ensures { Answers settings_contents result (settings_by title.now (copied first.entry) (copied f.entry) (copied k.entry) (copied clients.entry) (copied secret.entry) (copied port.entry)) }
 {
     read_title(title, first)?;
     let f = read_number(2, b"f", 1, u16::from(Shape::MAX_F), f)?;

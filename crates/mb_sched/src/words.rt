@@ -10,6 +10,7 @@ ghost use Rattle.mb_sched.specs.Words.{pieces, words, texts, decimal_value, is_d
 use arrayvec::ArrayVec;
 use hex::{FromHex, FromHexError};
 use mb_base::{Client, Host, Items, Key, NoMemory, Shape};
+use mb_parts::TEXT_LIMIT;
 use mb_schedule::Name;
 use std::alloc::Global;
 
@@ -170,7 +171,7 @@ pub(crate) fn is_hex(word: &[u8]) -> bool
 pub(crate) fn is_operation(word: &[u8]) -> bool
     ensures { result ≡ is_operation word.now }
 {
-    is_hex(word) && word.len() <= 2 * 1024
+    is_hex(word) && word.len() <= 2 * TEXT_LIMIT as usize
 }
 
 /// The bytes of a word in hexadecimal.

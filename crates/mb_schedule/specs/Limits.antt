@@ -1,5 +1,6 @@
 -- What a schedule can hold.
 use Rattle.std.specs.Prelude.{◌≡◌, ℕ, ◌≤◌, ◌<◌, ◌^◌, Bool, false, length, Some, slice_get, unwrap_or}
+use Rattle.mb_base.specs.Limits.{batch_limit}
 use Rattle.mb_base.specs.Shapes.{host_count, client_count, max_faults, tally}
 use Rattle.mb_base.specs.declared.shape.Shape.{Shape}
 use Rattle.mb_parts.specs.Fits.{IsCounter, IsPlace, IsPosition, IsDigest, FitsText}
@@ -37,7 +38,7 @@ EventFits s (Nudge h) = h < host_count s
 EventFits s (Sign c seq op) = (c < client_count s) × (IsCounter seq × FitsText op)
 EventFits s (TagReply h c seq pos result) = (h < host_count s) × ((c < client_count s) × (IsCounter seq × (IsPlace pos × FitsText result)))
 EventFits s (TagWish h view) = (h < host_count s) × IsPosition view
-EventFits s (StampPrepare h view pos messages) = (h < host_count s) × (IsPlace view × (IsPosition pos × ((1 ≤ length messages) × (length messages ≤ 16))))
+EventFits s (StampPrepare h view pos messages) = (h < host_count s) × (IsPlace view × (IsPosition pos × ((1 ≤ length messages) × (length messages ≤ batch_limit))))
 EventFits s (StampCommit h m) = h < host_count s
 EventFits s (StampCheckpoint h pos digest) = (h < host_count s) × (IsPosition pos × IsDigest digest)
 EventFits s (StampChange h view counter) = (h < host_count s) × (IsPosition view × (counter < 2 ^ 64))

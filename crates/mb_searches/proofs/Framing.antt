@@ -4,12 +4,12 @@ use Rattle.std.specs.List.{range_with_len}
 use Rattle.std.specs.Prelude.{find, nat_lt, is_none, filter_map, option_and_then, if◌then◌else◌}
 use Rattle.std.specs.Option.{option_or}
 use Rattle.std.proofs.Math.Path.{fun_ext}
+use Rattle.mb_base.specs.Limits.{part_count}
 use Rattle.mb_base.specs.Shapes.{Bytes, host_count}
 use Rattle.mb_parts.specs.declared.floor.Floor.{Floor}
 use Rattle.mb_msg.specs.declared.message.Message.TheVariants as message
 use Rattle.mb_msg.specs.declared.stamped.Stamped.{Stamped as StampedMessage}
 use Rattle.mb_msg.specs.declared.stamped.Stamped.TheVariants as stamped
-use Rattle.mb_model.specs.States.{part_count}
 use Rattle.mb_model.specs.Histories.{floor_below, counter_of, Entry, Accepted, Stamped, Jumped, Closed, Served, Executed, Installed, DroppedParts, LostPatience, Nudged, History, Identity, onto, by_host, origin, taken_of, closed_at, gate_floors, gate, stamped as all_stamped, here, view_of}
 use Rattle.mb_model.specs.Execution.{missing, parts_held, state_of, pending, parts_after, snapshot_of, part_of, part_held, asked_host}
 use Rattle.mb_model.specs.EnabledRules.{greatest, greatest_in, greatest_in_slots}

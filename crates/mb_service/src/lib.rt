@@ -5,6 +5,6 @@ mod laws;
 mod restore;
 mod service;
 
-pub use laws::services_are_replicable;
+pub use laws::{service_limits_are_those_defined, services_are_replicable};
 pub use restore::Restore;
 pub use service::{MAX_PART, MAX_RESULT, PARTS, Service};

@@ -1,6 +1,6 @@
 ghost use Rattle.std.specs.Prelude.{◌≡◌, length, IfOk, OnOk};
+ghost use Rattle.mb_base.specs.Limits.{part_count};
 ghost use Rattle.mb_base.specs.Shapes.{client_count};
-ghost use Rattle.mb_model.specs.States.{part_count};
 
 use crate::samples::{bytes, request};
 use mb_base::{Client, Digest, Items, Pos, Seq, Shape};

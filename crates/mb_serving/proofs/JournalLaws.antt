@@ -46,14 +46,16 @@ use Rattle.std.specs.Fmt.{decimal}
 use Rattle.mb_answer.specs.declared.answer.Answer.{Answer}
 use Rattle.mb_answer.specs.Texts.{exists_text, bad_journal_text}
 use Rattle.mb_answer.specs.Configs.{used, unused, lack_statuses}
-use Rattle.mb_answer.specs.Devices.{Device, LinkState, Says, said, cut_short, IsToldBy}
+use Rattle.mb_edge.specs.Seen.{Device, LinkState, DiskState}
+use Rattle.mb_answer.specs.Devices.{Says, said, cut_short, IsToldBy}
 use Rattle.mb_answer.specs.Devices as devices
 use Rattle.mb_answer.proofs.Contained.{any_of}
 use Rattle.mb_answer.proofs.ConfigLaws.{same_config, lacks_none}
-use Rattle.mb_serving.specs.Nodes.{outside, served_status, HasListened, Fails, IsUnbegun, headless, unopened}
+use Rattle.mb_node.specs.Outside.{outside}
+use Rattle.mb_serving.specs.Nodes.{served_status, HasListened, Fails, IsUnbegun, headless, unopened}
 use Rattle.mb_serving.specs.Records.{host_of}
 use Rattle.mb_serving.specs.declared.journals.TheConstants.{JOURNAL_LIMIT}
-use Rattle.mb_serving.specs.Journals.{DiskState, SparesFile, IsNew, IsThere, Makes, made, exists, unmade, Opens, IsOpen, IsBad, Rises, start_of, kept_head, ServesBehind, served, unbegun, ServesKept, opened, bad, unread, no_host, KeptNodes, IsServedKept, making_statuses, kept_node_statuses, IsMade, IsOpened, IsOfWriting}
+use Rattle.mb_serving.specs.Journals.{SparesFile, IsNew, IsThere, Makes, made, exists, unmade, Opens, IsOpen, IsBad, Rises, start_of, kept_head, ServesMore, served, unbegun, ServesKept, opened, bad, unread, no_host, KeptNodes, IsServedKept, making_statuses, kept_node_statuses, IsMade, IsOpened, IsOfWriting}
 
 -- ---- entries are written
 
@@ -197,12 +199,12 @@ module _ (c : Config) (host : ℕ) (kept : List Event) where
   unbegun_longer head more status sink sink' l l' (unopened fails same opens received sent) = unopened fails same opens received sent
 
 pub starved_kept : (c : Config) (host : ℕ) (kept : List Event) (journal : JournalState) (budget : ℕ) (r : Result (Unit {0}) ServeStop) (e : ServeStop) → r ≡ Err e → e ≡ stop.NoMemory → (sink : Device) (l : LinkState) (disk : DiskState)
-    → ServesBehind c host kept journal budget (served_status r) sink sink l l disk disk
+    → ServesMore c host kept journal budget (served_status r) sink sink l l disk disk
 starved_kept c host kept journal budget r e is same sink l disk = rw (is, same) (unbegun (unopened (inr refl) refl refl refl refl) refl)
 
 -- beginning failed
 pub fails_behind : (c : Config) (host : ℕ) (kept : List Event) (journal : JournalState) (budget : ℕ) (r : Result (Unit {0}) ServeStop) (e : ServeStop) → r ≡ Err e → (sink sink' : Device) (l l' : LinkState) (disk : DiskState)
-    → IsUnbegun c host (kept_head c host kept) (served_status (Err e)) sink sink' l l' → ServesBehind c host kept journal budget (served_status r) sink sink' l l' disk disk
+    → IsUnbegun c host (kept_head c host kept) (served_status (Err e)) sink sink' l l' → ServesMore c host kept journal budget (served_status r) sink sink' l l' disk disk
 fails_behind c host kept journal budget r e is sink sink' l l' disk fails = rw is (unbegun fails refl)
 
 -- a stop of writing
@@ -249,7 +251,7 @@ pub serves_behind : (c : Config) (host : ℕ) (kept : List Event) (journal journ
     → Ends (host_of c host) (start_of c host kept) budget (record { written = begun; sent = sent }) (outside sink' l') r receives ended
     × EndsKept (host_of c host) (start_of c host kept) (record { written = begun; sent = sent }) (outside sink' l') r journal journal' between.moments after.moments (events (host_of c host) (start_of c host kept) receives) ended
     → (IsErrOf ended stop.LinkFault → Rose l.faults l'.faults) → (IsErrOf ended stop.SinkFault → Rose sink.faults sink'.faults) → (IsErrOf ended stop.DiskFault → Rose between.faults after.faults)
-    → ServesBehind c host kept journal budget (served_status ended) sink sink' l l' between after
+    → ServesMore c host kept journal budget (served_status ended) sink sink' l l' between after
 serves_behind c host kept journal journal' budget ended sink sink' l l' between after receives heard begun head r sent same is link sinks disk =
     let both = subst (λ (s : Option Sends). Ends (host_of c host) (start_of c host kept) budget (record { written = begun; sent = s }) (outside sink' l') r receives ended
     × EndsKept (host_of c host) (start_of c host kept) (record { written = begun; sent = s }) (outside sink' l') r journal journal' between.moments after.moments (events (host_of c host) (start_of c host kept) receives) ended) same is in
@@ -267,9 +269,9 @@ serves_behind c host kept journal journal' budget ended sink sink' l l' between 
 -- ---- a host by its number
 
 pub opened_as : (c : Config) (number host budget given status : ℕ) (kept : List Event) (journal : JournalState) (sink sink' : Device) (l l' : LinkState) (before between after : DiskState) → number ≡ host → status ≡ given → host < host_count c.shape
-    → IsOpen c number kept journal before between → ServesBehind c number kept journal budget given sink sink' l l' between after → ServesKept c host budget status sink sink' l l' before after
+    → IsOpen c number kept journal before between → ServesMore c number kept journal budget given sink sink' l l' between after → ServesKept c host budget status sink sink' l l' before after
 opened_as c number host budget given status kept journal sink sink' l l' before between after same is below is_open serves =
-    opened kept journal between below (subst (λ (h : ℕ). IsOpen c h kept journal before between) same is_open) (subst (λ (h : ℕ). ServesBehind c h kept journal budget status sink sink' l l' between after) same (rw is serves))
+    opened kept journal between below (subst (λ (h : ℕ). IsOpen c h kept journal before between) same is_open) (subst (λ (h : ℕ). ServesMore c h kept journal budget status sink sink' l l' between after) same (rw is serves))
 
 pub bad_as : (c : Config) (number host budget status at : ℕ) (sink sink' : Device) (l : LinkState) (before after : DiskState) → number ≡ host → host < host_count c.shape → Says 17 (bad_journal_text at) status sink sink' ⊎ ((status ≡ 4) × (sink ≡ sink'))
     → IsBad c number at before after → ServesKept c host budget status sink sink' l l before after
@@ -321,7 +323,7 @@ module _ (sink sink' : Device) (l l' : LinkState) (before after : DiskState) (we
   ended_unbroken still status (Err (stop.Full length)) is rose = inr (inr (inr is))
   ended_unbroken still status (Err stop.NoMemory) is rose = inr (inl is)
 
-  behind_unbroken : (c : Config) (host budget status : ℕ) (kept : List Event) (journal : JournalState) → ¬ Rose before.faults after.faults → ServesBehind c host kept journal budget status sink sink' l l' before after → IsUnbroken status
+  behind_unbroken : (c : Config) (host budget status : ℕ) (kept : List Event) (journal : JournalState) → ¬ Rose before.faults after.faults → ServesMore c host kept journal budget status sink sink' l l' before after → IsUnbroken status
   behind_unbroken c host budget status kept journal still (served journal' ended is on) = ended_unbroken still status ended is on.cause
   behind_unbroken c host budget status kept journal still (unbegun (headless fails heard sent part) same) = fails_not 6 status sink.faults sink'.faults well fails
   behind_unbroken c host budget status kept journal still (unbegun (unopened fails same_sink opens received sent) same) = fails_not 7 status l.faults l'.faults calm fails

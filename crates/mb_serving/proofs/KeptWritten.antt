@@ -21,17 +21,17 @@ use Rattle.mb_node.specs.declared.stops.ServeStop.TheVariants as stop
 use Rattle.mb_node.specs.Receives.{Receives}
 use Rattle.mb_node.specs.Events.{left_by, stops, has_stop, events}
 use Rattle.mb_node.specs.Recording.{end_line, entry_at, entries_of, lines_of}
-use Rattle.mb_node.specs.Outside.{Outside}
+use Rattle.mb_node.specs.Outside.{Outside, outside}
 use Rattle.mb_node.specs.Serving.{AreDone, AreCutOff, Ends}
 use Rattle.mb_node.proofs.OfBytes.{events_of_bytes}
 use Rattle.mb_node.proofs.Runs.{lines_more}
 use Rattle.mb_sched.specs.declared.configs.Config.{Config}
 use Rattle.mb_sched.specs.declared.records.Entry.{Entry}
 use Rattle.mb_sched.specs.Records.{record_head, entry_text, EventFits}
-use Rattle.mb_answer.specs.Devices.{Device, LinkState}
-use Rattle.mb_serving.specs.Nodes.{outside, headless, unopened}
+use Rattle.mb_edge.specs.Seen.{Device, LinkState, DiskState}
+use Rattle.mb_serving.specs.Nodes.{headless, unopened}
 use Rattle.mb_serving.specs.Records.{host_of}
-use Rattle.mb_serving.specs.Journals.{DiskState, start_of, kept_head, ServesOn, ServesBehind, served, unbegun}
+use Rattle.mb_serving.specs.Journals.{start_of, kept_head, ServesOn, ServesMore, served, unbegun}
 use Rattle.mb_serving.specs.Written.{WritesFront, KeptNodesLeaveRecords}
 use Rattle.mb_serving.proofs.ReadConfigs.{settings_fit}
 use Rattle.mb_serving.proofs.WrittenLaws.{appends_none, parts_are_left}
@@ -154,7 +154,7 @@ module _ (c : Config) (host : ℕ) (kept : List Event) where
     of_bytes : AllByRecursion EventFits (events me start receives)
     writes : WritesFront c host (events me start receives ++ reverse kept) old new
 
-  writes_kept : (journal : JournalState) (budget status : ℕ) (sink sink' : Device) (l l' : LinkState) (opened after : DiskState) → ServesBehind c host kept journal budget status sink sink' l l' opened after → WritesKept l l' sink.bytes sink'.bytes
+  writes_kept : (journal : JournalState) (budget status : ℕ) (sink sink' : Device) (l l' : LinkState) (opened after : DiskState) → ServesMore c host kept journal budget status sink sink' l l' opened after → WritesKept l l' sink.bytes sink'.bytes
   unfolding events
   writes_kept journal budget status sink sink' l l' opened after (served journal' ended is on) = record {
     receives = on.receives;

@@ -7,7 +7,7 @@ use Rattle.mb_answer.proofs.ConfigLaws.{same_config, lacks_none}
 use Rattle.mb_answer.specs.Clusters.{IsUnbroken}
 use Rattle.mb_answer.specs.Configs.{used, unused, lack_statuses}
 use Rattle.mb_answer.proofs.Contained.{any_of}
-use Rattle.mb_answer.specs.Devices.{Device, LinkState}
+use Rattle.mb_edge.specs.Seen.{Device, LinkState}
 use Rattle.mb_base.specs.Shapes.{Bytes, host_count}
 use Rattle.mb_replica.specs.Represents as Represented
 use Rattle.mb_core.specs.declared.replica.Replica.{Replica}
@@ -21,22 +21,20 @@ use Rattle.mb_edge.specs.Pieces.{AppendsPart}
 use Rattle.mb_edge.proofs.ToldLemmas.{with_more-nil}
 use Rattle.mb_edge.proofs.PieceLemmas.{appended_both}
 use Rattle.mb_kv.specs.Laws.StateLaws.{no_keys_is_state}
-use Rattle.mb_kv.specs.Operations.{after, answer}
+use Rattle.mb_kv.specs.Machine.{kv_machine}
 use Rattle.mb_kv.specs.Pairs.{Pairs}
-use Rattle.mb_kv.specs.Snapshots.{part_of, restored}
-use Rattle.mb_kv.specs.States.{IsState}
 use Rattle.mb_msg.specs.declared.event.Event.{Event}
 use Rattle.mb_node.specs.declared.stops.ServeStop.{ServeStop}
 use Rattle.mb_node.specs.declared.stops.ServeStop.TheVariants as stop
 use Rattle.mb_node.specs.Stops.{link_stop, sink_stop, IsOfDisk}
 use Rattle.mb_node.specs.Receives.{Receives, ReceiveFits}
 use Rattle.mb_node.specs.Sends.{Sends}
-use Rattle.mb_node.specs.Outside.{Outside}
+use Rattle.mb_node.specs.Outside.{Outside, outside}
 use Rattle.mb_node.specs.Serving.{AreDone, AreCutOff, Ends}
 use Rattle.mb_node.specs.Recording.{lines_of}
 use Rattle.mb_sched.specs.declared.configs.Config.{Config}
 use Rattle.mb_sched.specs.Records.{record_head}
-use Rattle.mb_serving.specs.Nodes.{outside, served_status, Fails, Begins, HasListened, events_of, IsWhole, IsServed, IsCutShort, IsUnbegun, headless, unopened, Serves, stopped, exhausted, cut_short, unbegun, HostServes, serves, no_host, Nodes, IsNodeStatus, serving_statuses, node_statuses}
+use Rattle.mb_serving.specs.Nodes.{served_status, Fails, Begins, HasListened, events_of, IsWhole, IsServed, IsCutShort, IsUnbegun, headless, unopened, Serves, stopped, exhausted, cut_short, unbegun, HostServes, serves, no_host, Nodes, IsNodeStatus, serving_statuses, node_statuses}
 use Rattle.mb_serving.specs.Records.{host_of}
 
 module _ (c : Config) (host budget : ℕ) (sink sink' : Device) (link link' : LinkState) (begun : Option Bytes) (head : Appends sink.bytes begun (record_head c host)) (receives : Receives) (heard : HasListened c host link link' receives) where
@@ -101,7 +99,7 @@ part_of_head c host text old new same part = subst (λ (t : Bytes). AppendsPart 
 pub whole_head : (c : Config) (host : ℕ) (text : Bytes) (old new : Option Bytes) → text ≡ record_head c host → Appends old new text → Appends old new (record_head c host)
 whole_head c host text old new same all = subst (λ (t : Bytes). Appends old new t) same all
 
-pub kv_serves : (c : Config) (host : ℕ) → Represented.Serves IsState after answer part_of restored (host_of c host)
+pub kv_serves : (c : Config) (host : ℕ) → Represented.Serves kv_machine (host_of c host)
 kv_serves c host = record { machine = refl; snapshots = refl; first = no_keys_is_state }
 
 -- ---- serving behind that

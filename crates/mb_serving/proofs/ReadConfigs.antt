@@ -6,12 +6,13 @@ use Rattle.std.proofs.lemmas.Bool.{leb-true, and_parts}
 use Rattle.hex.specs.Hex.{IsBytes, decode_sized}
 use Rattle.hex.specs.declared.error.FromHexError.{FromHexError}
 use Rattle.hex.proofs.HexLemmas.{decode_of-ok, decode_sized-ok, decode_sized-twice}
+use Rattle.mb_base.specs.Limits.{most_faults, least_interval, most_interval, most_clients}
 use Rattle.mb_base.specs.Shapes.{Bytes, is_within}
 use Rattle.mb_sched.specs.declared.configs.Config.{Config}
 use Rattle.mb_sched.specs.Words.{is_decimal, decimal_value, number_in, digest_of}
 use Rattle.mb_sched.specs.Lines.{read_line}
 use Rattle.mb_sched.specs.TextLines.{exact_line, word_behind, keyword_line}
-use Rattle.mb_sched.specs.Settings.{SettingsContents, settings_by}
+use Rattle.mb_sched.specs.Settings.{SettingsContents, settings_by, least_port, most_port}
 use Rattle.mb_sched.specs.Configs.{config_contents, SettingsFit}
 use Rattle.mb_sched.proofs.ReadSteps.{bind_ok, ok_is, line_ok, allowed}
 use Rattle.mb_sched.proofs.ReadWords.{some_is}
@@ -56,20 +57,20 @@ line_read keyword read (Some line) x e = word_read read (word_behind keyword lin
 
 record Keeps (s : SettingsContents) : Type 0 where
   key : IsKey s.secret
-  port : (1024 ≤ s.port) × (s.port ≤ 60000)
+  port : (least_port ≤ s.port) × (s.port ≤ most_port)
 
 settings_keep : (title : Bytes) (l0 l1 l2 l3 l4 l5 : Option Bytes) (s : SettingsContents) → settings_by title l0 l1 l2 l3 l4 l5 ≡ Ok s → Keeps s
 unfolding settings_by
 settings_keep title l0 l1 l2 l3 l4 l5 s e =
     let a0 = bind_ok (read_line 1 (exact_line title) l0) _ s e in
-    let a1 = bind_ok (read_line 2 (keyword_line (codes "f") (number_in 1 3)) l1) _ s a0.2 in
-    let a2 = bind_ok (read_line 3 (keyword_line (codes "k") (number_in 4 32)) l2) _ s a1.2 in
-    let a3 = bind_ok (read_line 4 (keyword_line (codes "clients") (number_in 1 64)) l3) _ s a2.2 in
+    let a1 = bind_ok (read_line 2 (keyword_line (codes "f") (number_in 1 most_faults)) l1) _ s a0.2 in
+    let a2 = bind_ok (read_line 3 (keyword_line (codes "k") (number_in least_interval most_interval)) l2) _ s a1.2 in
+    let a3 = bind_ok (read_line 4 (keyword_line (codes "clients") (number_in 1 most_clients)) l3) _ s a2.2 in
     let a4 = bind_ok (read_line 5 (keyword_line (codes "secret") digest_of) l4) _ s a3.2 in
-    let a5 = bind_ok (read_line 6 (keyword_line (codes "port") (number_in 1024 60000)) l5) _ s a4.2 in
+    let a5 = bind_ok (read_line 6 (keyword_line (codes "port") (number_in least_port most_port)) l5) _ s a4.2 in
     let key = line_read (codes "secret") digest_of l4 a4.0 (line_ok 5 (keyword_line (codes "secret") digest_of) l4 a4.0 a4.1) in
-    let port = line_read (codes "port") (number_in 1024 60000) l5 a5.0 (line_ok 6 (keyword_line (codes "port") (number_in 1024 60000)) l5 a5.0 a5.1) in
-    rw (← ok_is {E = ℕ} _ s a5.2) (record { key = digest_keeps key.0 a4.0 key.1; port = number_keeps 1024 60000 a5.0 port.0 port.1 })
+    let port = line_read (codes "port") (number_in least_port most_port) l5 a5.0 (line_ok 6 (keyword_line (codes "port") (number_in least_port most_port)) l5 a5.0 a5.1) in
+    rw (← ok_is {E = ℕ} _ s a5.2) (record { key = digest_keeps key.0 a4.0 key.1; port = number_keeps least_port most_port a5.0 port.0 port.1 })
 
 pub settings_fit : (text : Bytes) (c : Config) → IsConfigText text c → SettingsFit c
 settings_fit text c is =

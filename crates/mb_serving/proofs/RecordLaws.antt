@@ -11,7 +11,8 @@ use Rattle.mb_node.specs.Recording.{entry_at, entries_of}
 use Rattle.mb_node.specs.Retracing.{events_in, AreOwn, own_entry, Differs}
 use Rattle.mb_sched.specs.declared.records.Entry.{Entry}
 use Rattle.mb_sched.specs.declared.records.Record.{Record}
-use Rattle.mb_answer.specs.Devices.{Device, IsToldBy, answered, unread, starved}
+use Rattle.mb_edge.specs.Seen.{Device}
+use Rattle.mb_answer.specs.Devices.{IsToldBy, answered, unread, starved}
 use Rattle.mb_answer.specs.Records.{IsRecordText, too_long, bad_line, right}
 use Rattle.mb_serving.specs.Records.{recorded_host, IsOwnRecord, IsRetraced, Retraces, AnswersRecord, same, differs, AnswersRecordText, retrace_statuses}
 use Rattle.mb_answer.proofs.RecordTexts.{same_record}

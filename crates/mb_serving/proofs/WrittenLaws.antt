@@ -35,7 +35,8 @@ use Rattle.mb_sched.specs.declared.records.Record.{Record}
 use Rattle.mb_sched.specs.Configs.{SettingsFit}
 use Rattle.mb_sched.specs.Records.{max_record, record_head, entries_text, EventFits, EntryFits, RecordFits}
 use Rattle.mb_sched.proofs.CutRecords.{split_front, cut_record}
-use Rattle.mb_answer.specs.Devices.{Device, LinkState, Says, said, failed, cut_short as part_said, answered, unread, starved}
+use Rattle.mb_edge.specs.Seen.{Device, LinkState}
+use Rattle.mb_answer.specs.Devices.{Says, said, failed, cut_short as part_said, answered, unread, starved}
 use Rattle.mb_serving.specs.Nodes.{HasListened, events_of, Serves, stopped, exhausted, cut_short, unbegun, headless, unopened}
 use Rattle.mb_answer.specs.Records.{IsRecordText, too_long, bad_line, right}
 use Rattle.mb_answer.proofs.RecordTexts.{same_record}

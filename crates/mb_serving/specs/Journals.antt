@@ -1,5 +1,5 @@
 -- What a node with a journal does, and what making a journal does, with a config.
-use Rattle.std.specs.Prelude.{◌≡◌, ◌≢◌, ℕ, ◌≤◌, ◌<◌, ◌⊎◌, false, List, [], ◌∷◌, ◌++◌, length, reverse, Option, Some, Result, Ok, Err}
+use Rattle.std.specs.Prelude.{◌≡◌, ◌≢◌, ℕ, ◌≤◌, ◌<◌, ◌⊎◌, false, List, [], ◌∷◌, ◌++◌, length, reverse, Option, Some, IfSome, Result, Ok, Err}
 use Rattle.std.specs.List.{flat_map}
 use Rattle.std.specs.Io.KnownBytes.{Appends}
 use Rattle.mb_base.specs.Shapes.{Bytes, host_count}
@@ -29,19 +29,13 @@ use Rattle.mb_node.specs.Keeping.{EndsKept}
 use Rattle.mb_sched.specs.declared.configs.Config.{Config}
 use Rattle.mb_sched.specs.Records.{record_head, entry_text}
 use Rattle.mb_answer.specs.Configs.{IsConfigText, Uses}
-use Rattle.mb_answer.specs.Devices.{Device, LinkState, Says}
+use Rattle.mb_edge.specs.Seen.{Device, LinkState, DiskState}
+use Rattle.mb_answer.specs.Devices.{Says}
 use Rattle.mb_answer.specs.Texts.{usage_text, exists_text, bad_journal_text}
-use Rattle.mb_serving.specs.Nodes.{outside, served_status, HasListened, Fails, IsUnbegun}
+use Rattle.mb_node.specs.Outside.{outside}
+use Rattle.mb_serving.specs.Nodes.{served_status, HasListened, Fails, IsUnbegun}
 use Rattle.mb_serving.specs.Records.{host_of}
 use Rattle.mb_serving.specs.declared.journals.TheConstants.{JOURNAL_LIMIT}
-
--- a disk at a moment: what it tells of what stands on it, and its count of faults
-pub record DiskState : Type 0 where
-  pub moments : Option Moments
-  pub faults : ℕ
-
-abbrev pub disk_state : Option Moments → ℕ → DiskState
-disk_state moments faults = record { moments = moments; faults = faults }
 
 -- ---- a journal is made
 
@@ -124,15 +118,15 @@ module _ (c : Config) (host : ℕ) where
     pub cause : Rises ended sink sink' l l' opened after
 
   -- It served, or failed before the first receive and left the disk as it was.
-  pub data ServesBehind (kept : List Event) (journal : JournalState) (budget status : ℕ) (sink sink' : Device) (l l' : LinkState) (opened after : DiskState) : Type 0 where
+  pub data ServesMore (kept : List Event) (journal : JournalState) (budget status : ℕ) (sink sink' : Device) (l l' : LinkState) (opened after : DiskState) : Type 0 where
     served : (journal' : JournalState) (ended : Result (Unit {0}) ServeStop) → status ≡ served_status ended → ServesOn kept journal journal' budget ended sink sink' l l' opened after
-        → ServesBehind kept journal budget status sink sink' l l' opened after
-    unbegun : IsUnbegun c host (kept_head kept) status sink sink' l l' → opened ≡ after → ServesBehind kept journal budget status sink sink' l l' opened after
+        → ServesMore kept journal budget status sink sink' l l' opened after
+    unbegun : IsUnbegun c host (kept_head kept) status sink sink' l l' → opened ≡ after → ServesMore kept journal budget status sink sink' l l' opened after
 
 -- The journal of a host of the config's system is opened, and the host serves behind its events; or it is no journal, or the disk fails or memory runs out;
 -- or the system has no such host.
 pub data ServesKept (c : Config) (host budget status : ℕ) (sink sink' : Device) (l l' : LinkState) (before after : DiskState) : Type 0 where
-  opened : (kept : List Event) (journal : JournalState) (between : DiskState) → host < host_count c.shape → IsOpen c host kept journal before between → ServesBehind c host kept journal budget status sink sink' l l' between after
+  opened : (kept : List Event) (journal : JournalState) (between : DiskState) → host < host_count c.shape → IsOpen c host kept journal before between → ServesMore c host kept journal budget status sink sink' l l' between after
       → ServesKept c host budget status sink sink' l l' before after
   bad : (at : ℕ) → host < host_count c.shape → Says 17 (bad_journal_text at) status sink sink' ⊎ ((status ≡ 4) × (sink ≡ sink')) → IsBad c host at before after → l ≡ l' → ServesKept c host budget status sink sink' l l' before after
   unread : host < host_count c.shape → Fails 14 status before.faults after.faults → Opens c host before after → sink ≡ sink' → l ≡ l' → ServesKept c host budget status sink sink' l l' before after
@@ -174,3 +168,13 @@ abbrev pub IsOfWriting : ServeStop → Type 0
 IsOfWriting stop.SinkFault = Unit {0}
 IsOfWriting stop.NoMemory = Unit {0}
 IsOfWriting s = ⊥
+
+-- ---- with the text that the source tells
+
+abbrev pub KeepsWith : ℕ → ℕ → ℕ → Device → Device → Device → Device → LinkState → LinkState → DiskState → DiskState → Type 0
+KeepsWith host budget status source source' sink sink' link link' disk disk' = IfSome source.bytes (λ text. KeptNodes text host budget status source source' sink sink' link link' disk disk')
+
+-- Where no device fails it comes to one of its ends.
+abbrev pub KeepsServing : ℕ → ℕ → Device → Device → Device → Device → LinkState → LinkState → DiskState → DiskState → Type 0
+KeepsServing host status source source' sink sink' link link' disk disk' = IfSome source.bytes (λ text. IsServedKept text host status disk
+    (Rose source.faults source'.faults ⊎ (Rose sink.faults sink'.faults ⊎ (Rose link.faults link'.faults ⊎ Rose disk.faults disk'.faults))))

@@ -12,19 +12,16 @@ use Rattle.mb_node.specs.declared.stops.ServeStop.TheVariants as stop
 use Rattle.mb_node.specs.Receives.{Receives, ReceiveFits}
 use Rattle.mb_node.specs.Events.{has_stop, events}
 use Rattle.mb_node.specs.Recording.{lines_of}
-use Rattle.mb_node.specs.Outside.{Outside, Adds}
+use Rattle.mb_node.specs.Outside.{outside, Adds}
 use Rattle.mb_node.specs.Serving.{datagrams_of, AreCutOff, EndsByStop}
 use Rattle.mb_sched.specs.declared.configs.Config.{Config}
 use Rattle.mb_sched.specs.Records.{record_head}
 use Rattle.mb_answer.specs.Clusters.{IsUnbroken}
 use Rattle.mb_answer.specs.Configs.{IsConfigText, Uses}
-use Rattle.mb_answer.specs.Devices.{Device, LinkState, Says}
+use Rattle.mb_edge.specs.Seen.{Device, LinkState}
+use Rattle.mb_answer.specs.Devices.{Says}
 use Rattle.mb_serving.specs.Records.{host_of}
 use Rattle.mb_answer.specs.Texts.{usage_text}
-
--- what was written and sent
-abbrev pub outside : Device → LinkState → Outside
-outside sink l = record { written = sink.bytes; sent = l.sent }
 
 -- the status of how serving ended
 abbrev pub served_status : Result (Unit {0}) ServeStop → ℕ

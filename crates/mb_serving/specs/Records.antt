@@ -4,19 +4,19 @@ use Rattle.std.specs.Fmt.{decimal}
 use Rattle.hex.specs.Hex.{encode_lower}
 use Rattle.mb_base.specs.Shapes.{Bytes}
 use Rattle.mb_kv.specs.Pairs.{Pairs}
-use Rattle.mb_kv.specs.Operations.{after, answer}
-use Rattle.mb_kv.specs.Snapshots.{part_of, restored}
+use Rattle.mb_kv.specs.Machine.{kv_machine}
 use Rattle.mb_cache.specs.Represents.{machine_of, snapshots_of}
 use Rattle.mb_model.specs.Histories.{Identity}
 use Rattle.mb_node.specs.Retracing.{AreOwn, Differs}
 use Rattle.mb_sched.specs.declared.configs.Config.{Config}
 use Rattle.mb_sched.specs.declared.records.Record.{Record}
-use Rattle.mb_answer.specs.Devices.{Device, Responds}
+use Rattle.mb_edge.specs.Seen.{Device}
+use Rattle.mb_answer.specs.Devices.{Responds}
 use Rattle.mb_answer.specs.Records.{IsRecordText, AnswersText}
 
 -- a host of a config's system, made with the key-value service of no keys
 abbrev pub host_of : Config → ℕ → Identity Pairs
-host_of c host = record { shape = c.shape; host = host; secret = c.secret; machine = machine_of after answer; snapshots = snapshots_of part_of restored; initial = [] }
+host_of c host = record { shape = c.shape; host = host; secret = c.secret; machine = machine_of kv_machine; snapshots = snapshots_of kv_machine; initial = [] }
 
 -- the host of a record
 abbrev pub recorded_host : Record → Identity Pairs

@@ -15,11 +15,11 @@ use Rattle.mb_sched.specs.declared.records.Record.{Record}
 use Rattle.mb_sched.specs.Configs.{SettingsFit}
 use Rattle.mb_sched.specs.Records.{max_record, record_head, entry_text, EventFits, IsShort}
 use Rattle.mb_answer.specs.Configs.{IsConfigText}
-use Rattle.mb_answer.specs.Devices.{Device, LinkState}
+use Rattle.mb_edge.specs.Seen.{Device, LinkState, DiskState}
 use Rattle.mb_answer.specs.Records.{IsRecordText}
 use Rattle.mb_serving.specs.Nodes.{events_of, Serves}
 use Rattle.mb_serving.specs.Records.{host_of, IsOwnRecord, same_text}
-use Rattle.mb_serving.specs.Journals.{DiskState, start_of, ServesBehind}
+use Rattle.mb_serving.specs.Journals.{start_of, ServesMore}
 
 -- a host of a config
 module _ (c : Config) (host : ℕ) where
@@ -78,5 +78,10 @@ NodesLeaveRecords = (text : Bytes) (c : Config) (host budget status : ℕ) (sink
 -- So it is where the node has a journal: of the journal's events, where these are of bytes, and of those that it received behind them.
 abbrev pub KeptNodesLeaveRecords : Type 0
 KeptNodesLeaveRecords = (text : Bytes) (c : Config) (host budget status : ℕ) (kept : List Event) (journal : JournalState) (sink sink' : Device) (l l' : LinkState) (opened after : DiskState) (written : Bytes) → IsConfigText text c → host < host_count c.shape
-    → AllByRecursion EventFits kept → ServesBehind c host kept journal budget status sink sink' l l' opened after → sink.bytes ≡ Some [] → sink'.bytes ≡ Some written
+    → AllByRecursion EventFits kept → ServesMore c host kept journal budget status sink sink' l l' opened after → sink.bytes ≡ Some [] → sink'.bytes ≡ Some written
     → (receives : Receives) × (l'.received ≡ with_more l.received (reverse receives)) × LeavesParts c host (events (host_of c host) (start_of c host kept) receives ++ reverse kept) written
+
+-- From the end of the record's first lines on, each first part of what a host writes is read as a record of its own entries.
+abbrev pub WrittenRecordsAreOwn : Type 0
+WrittenRecordsAreOwn = (c : Config) (host : ℕ) (es : List Event) (part rest : Bytes) → SettingsFit c → host < host_count c.shape → AllByRecursion EventFits es
+    → part ++ rest ≡ lines_of (host_of c host) [] es → length (record_head c host ++ part) ≤ max_record → IsOwnSoFar c host es part

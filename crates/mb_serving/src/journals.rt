@@ -1,16 +1,15 @@
 //! The word `journal`, and the word `node` with the path of a journal: a host that keeps each event on a disk before it acts on it.
 
-ghost use Rattle.std.specs.Prelude.{◌≡◌, ◌+◌, ◌<◌, ◌⊎◌, Contains, OnOk, IfOk, IfErr, IfSome, IsErrOf, false};
+ghost use Rattle.std.specs.Prelude.{◌≡◌, ◌+◌, ◌<◌, Contains, OnOk, IfOk, IfErr, IfSome, IsErrOf, false};
 ghost use Rattle.std.specs.List.{flat_map};
 ghost use Rattle.std.specs.Io.KnownBytes.{IsAtEnd, Appends};
 ghost use Rattle.mb_base.specs.Shapes.{host_count};
-ghost use Rattle.mb_edge.specs.Faults.{TellsFaults, Rose};
+ghost use Rattle.mb_edge.specs.Faults.{TellsFaults};
 ghost use Rattle.mb_edge.specs.Pieces.{ConsumesBetween, AppendsPart};
 ghost use Rattle.mb_sched.specs.Configs.{max_config};
 ghost use Rattle.mb_sched.specs.Records.{entry_text};
-ghost use Rattle.mb_answer.specs.Devices.{device, link_state};
 ghost use Rattle.mb_serving.specs.Nodes.{served_status};
-ghost use Rattle.mb_serving.specs.Journals.{disk_state, IsMade, SparesFile, IsOpened, Makes, MakesBy, ServesBehind, ServesKept, KeptNodes, IsOfWriting, IsServedKept, making_statuses, kept_node_statuses};
+ghost use Rattle.mb_serving.specs.Journals.{IsMade, SparesFile, IsOpened, Makes, MakesBy, ServesMore, ServesKept, KeepsWith, IsOfWriting, KeepsServing, making_statuses, kept_node_statuses};
 
 use crate::node::{begin, served_status};
 use mb_answer::{
@@ -38,9 +37,9 @@ fn make_in<D: Disk>(
     disk: &mut D,
 ) -> Result<(), MakeStop>
     requires { host < host_count config.now.shape }
-    ensures made { IsMade config.now host result (disk_state (D.moments disk.old) (D.faults disk.old)) (disk_state (D.moments disk.new) (D.faults disk.new)) }
-    ensures crash { SparesFile config.now host (disk_state (D.moments disk.old) (D.faults disk.old)) (disk_state (D.moments disk.new) (D.faults disk.new)) }
-    ensures disk { TellsFaults (D.never_fails disk.old) (D.never_fails disk.new) (D.faults disk.old) (D.faults disk.new) (IsErrOf result MakeStop.DiskFault) }
+    ensures made { IsMade config.now host result (D.seen disk.old) (D.seen disk.new) }
+    ensures crash { SparesFile config.now host (D.seen disk.old) (D.seen disk.new) }
+    ensures disk { TellsFaults (D.never_fails disk.old) (D.never_fails disk.new) (D.seen disk.old).faults (D.seen disk.new).faults (IsErrOf result MakeStop.DiskFault) }
 {
     disk.open(path)?;
     Journal::make(alloc, disk, config, host)
@@ -55,11 +54,11 @@ fn make_as<K: Sink, D: Disk>(
     sink: &mut K,
     disk: &mut D,
 ) -> u8
-    ensures makes { Makes config.now host result (device (K.written sink.old) (K.faults sink.old)) (device (K.written sink.new) (K.faults sink.new)) (disk_state (D.moments disk.old) (D.faults disk.old)) (disk_state (D.moments disk.new) (D.faults disk.new)) }
+    ensures makes { Makes config.now host result (K.seen sink.old) (K.seen sink.new) (D.seen disk.old) (D.seen disk.new) }
     ensures statuses { Contains making_statuses result }
     ensures unread { ¬ (result ≡ 5) }
-    ensures sink { TellsFaults (K.never_fails sink.old) (K.never_fails sink.new) (K.faults sink.old) (K.faults sink.new) (result ≡ 6) }
-    ensures disk { TellsFaults (D.never_fails disk.old) (D.never_fails disk.new) (D.faults disk.old) (D.faults disk.new) (result ≡ 14) }
+    ensures sink { TellsFaults (K.never_fails sink.old) (K.never_fails sink.new) (K.seen sink.old).faults (K.seen sink.new).faults (result ≡ 6) }
+    ensures disk { TellsFaults (D.never_fails disk.old) (D.never_fails disk.new) (D.seen disk.old).faults (D.seen disk.new).faults (result ≡ 14) }
 {
     if host >= u64::from(config.shape.n()) {
         return say(sink, USAGE_TEXT, USAGE);
@@ -81,14 +80,14 @@ pub fn make_journal<S: Source, K: Sink, D: Disk>(
     sink: &mut K,
     disk: &mut D,
 ) -> u8
-    ensures told { IfSome (S.left source.old) (λ text. MakesBy text host result (device (S.left source.old) (S.faults source.old)) (device (S.left source.new) (S.faults source.new))
-        (device (K.written sink.old) (K.faults sink.old)) (device (K.written sink.new) (K.faults sink.new)) (disk_state (D.moments disk.old) (D.faults disk.old)) (disk_state (D.moments disk.new) (D.faults disk.new))) }
-    ensures ended { result ≡ 0 → IsAtEnd (S.left source.new) }
-    ensures limit { ConsumesBetween 0 (max_config + 1) (S.left source.old) (S.left source.new) }
+    ensures told { IfSome (S.seen source.old).bytes (λ text. MakesBy text host result (S.seen source.old) (S.seen source.new)
+        (K.seen sink.old) (K.seen sink.new) (D.seen disk.old) (D.seen disk.new)) }
+    ensures ended { result ≡ 0 → IsAtEnd (S.seen source.new).bytes }
+    ensures limit { ConsumesBetween 0 (max_config + 1) (S.seen source.old).bytes (S.seen source.new).bytes }
     ensures statuses { Contains making_statuses result }
-    ensures source { TellsFaults (S.never_fails source.old) (S.never_fails source.new) (S.faults source.old) (S.faults source.new) (result ≡ 5) }
-    ensures sink { TellsFaults (K.never_fails sink.old) (K.never_fails sink.new) (K.faults sink.old) (K.faults sink.new) (result ≡ 6) }
-    ensures disk { TellsFaults (D.never_fails disk.old) (D.never_fails disk.new) (D.faults disk.old) (D.faults disk.new) (result ≡ 14) }
+    ensures source { TellsFaults (S.never_fails source.old) (S.never_fails source.new) (S.seen source.old).faults (S.seen source.new).faults (result ≡ 5) }
+    ensures sink { TellsFaults (K.never_fails sink.old) (K.never_fails sink.new) (K.seen sink.old).faults (K.seen sink.new).faults (result ≡ 6) }
+    ensures disk { TellsFaults (D.never_fails disk.old) (D.never_fails disk.new) (D.seen disk.old).faults (D.seen disk.new).faults (result ≡ 14) }
 {
     match config_from(alloc, source, sink) {
         Ok(config) => make_as(alloc, &config, host, path, sink, disk),
@@ -105,9 +104,9 @@ fn open_in<D: Disk>(
     disk: &mut D,
 ) -> Result<Opened, OpenStop>
     requires { host < host_count config.now.shape }
-    ensures opened { IsOpened config.now host result (disk_state (D.moments disk.old) (D.faults disk.old)) (disk_state (D.moments disk.new) (D.faults disk.new)) }
+    ensures opened { IsOpened config.now host result (D.seen disk.old) (D.seen disk.new) }
     ensures runs { IfOk result (λ opened. opened.journal.halted ≡ false) }
-    ensures disk { TellsFaults (D.never_fails disk.old) (D.never_fails disk.new) (D.faults disk.old) (D.faults disk.new) (IsErrOf result OpenStop.DiskFault) }
+    ensures disk { TellsFaults (D.never_fails disk.old) (D.never_fails disk.new) (D.seen disk.old).faults (D.seen disk.new).faults (IsErrOf result OpenStop.DiskFault) }
 {
     disk.open(path)?;
     Journal::open(alloc, disk, config, host, JOURNAL_LIMIT)
@@ -115,9 +114,9 @@ fn open_in<D: Disk>(
 
 /// Writes entries.
 fn write_entries<K: Sink>(alloc: Global, entries: &[Entry], sink: &mut K) -> Result<(), ServeStop>
-    ensures all { OnOk result (Appends (K.written sink.old) (K.written sink.new) (flat_map entry_text entries.now)) }
-    ensures part { IfErr result (λ _. AppendsPart (flat_map entry_text entries.now) (K.written sink.old) (K.written sink.new)) }
-    ensures sink { TellsFaults (K.never_fails sink.old) (K.never_fails sink.new) (K.faults sink.old) (K.faults sink.new) (IsErrOf result ServeStop.SinkFault) }
+    ensures all { OnOk result (Appends (K.seen sink.old).bytes (K.seen sink.new).bytes (flat_map entry_text entries.now)) }
+    ensures part { IfErr result (λ _. AppendsPart (flat_map entry_text entries.now) (K.seen sink.old).bytes (K.seen sink.new).bytes) }
+    ensures sink { TellsFaults (K.never_fails sink.old) (K.never_fails sink.new) (K.seen sink.old).faults (K.seen sink.new).faults (IsErrOf result ServeStop.SinkFault) }
     ensures causes { IfErr result IsOfWriting }
 {
     for entry in entries {
@@ -141,11 +140,11 @@ fn run_kept<K: Sink, L: Link, D: Disk>(
 ) -> Result<(), ServeStop>
     requires host { host < host_count config.now.shape }
     requires runs { opened.journal.halted ≡ false }
-    ensures serves { ServesBehind config.now host opened.events.items opened.journal events (served_status result) (device (K.written sink.old) (K.faults sink.old)) (device (K.written sink.new) (K.faults sink.new))
-        (link_state (L.received link.old) (L.sent link.old) (L.opens link.old) (L.faults link.old)) (link_state (L.received link.new) (L.sent link.new) (L.opens link.new) (L.faults link.new)) (disk_state (D.moments disk.old) (D.faults disk.old)) (disk_state (D.moments disk.new) (D.faults disk.new)) }
-    ensures sink { TellsFaults (K.never_fails sink.old) (K.never_fails sink.new) (K.faults sink.old) (K.faults sink.new) (IsErrOf result ServeStop.SinkFault) }
-    ensures link { TellsFaults (L.never_fails link.old) (L.never_fails link.new) (L.faults link.old) (L.faults link.new) (IsErrOf result ServeStop.LinkFault) }
-    ensures disk { TellsFaults (D.never_fails disk.old) (D.never_fails disk.new) (D.faults disk.old) (D.faults disk.new) (IsErrOf result ServeStop.DiskFault) }
+    ensures serves { ServesMore config.now host opened.events.items opened.journal events (served_status result) (K.seen sink.old) (K.seen sink.new)
+        (L.seen link.old) (L.seen link.new) (D.seen disk.old) (D.seen disk.new) }
+    ensures sink { TellsFaults (K.never_fails sink.old) (K.never_fails sink.new) (K.seen sink.old).faults (K.seen sink.new).faults (IsErrOf result ServeStop.SinkFault) }
+    ensures link { TellsFaults (L.never_fails link.old) (L.never_fails link.new) (L.seen link.old).faults (L.seen link.new).faults (IsErrOf result ServeStop.LinkFault) }
+    ensures disk { TellsFaults (D.never_fails disk.old) (D.never_fails disk.new) (D.seen disk.old).faults (D.seen disk.new).faults (IsErrOf result ServeStop.DiskFault) }
 {
     let Opened {
         mut journal,
@@ -169,13 +168,13 @@ fn serve_as<K: Sink, L: Link, D: Disk>(
     link: &mut L,
     disk: &mut D,
 ) -> u8
-    ensures serves { ServesKept config.now host events result (device (K.written sink.old) (K.faults sink.old)) (device (K.written sink.new) (K.faults sink.new))
-        (link_state (L.received link.old) (L.sent link.old) (L.opens link.old) (L.faults link.old)) (link_state (L.received link.new) (L.sent link.new) (L.opens link.new) (L.faults link.new)) (disk_state (D.moments disk.old) (D.faults disk.old)) (disk_state (D.moments disk.new) (D.faults disk.new)) }
+    ensures serves { ServesKept config.now host events result (K.seen sink.old) (K.seen sink.new)
+        (L.seen link.old) (L.seen link.new) (D.seen disk.old) (D.seen disk.new) }
     ensures statuses { Contains kept_node_statuses result }
     ensures unread { ¬ (result ≡ 5) }
-    ensures sink { TellsFaults (K.never_fails sink.old) (K.never_fails sink.new) (K.faults sink.old) (K.faults sink.new) (result ≡ 6) }
-    ensures link { TellsFaults (L.never_fails link.old) (L.never_fails link.new) (L.faults link.old) (L.faults link.new) (result ≡ 7) }
-    ensures disk { TellsFaults (D.never_fails disk.old) (D.never_fails disk.new) (D.faults disk.old) (D.faults disk.new) (result ≡ 14) }
+    ensures sink { TellsFaults (K.never_fails sink.old) (K.never_fails sink.new) (K.seen sink.old).faults (K.seen sink.new).faults (result ≡ 6) }
+    ensures link { TellsFaults (L.never_fails link.old) (L.never_fails link.new) (L.seen link.old).faults (L.seen link.new).faults (result ≡ 7) }
+    ensures disk { TellsFaults (D.never_fails disk.old) (D.never_fails disk.new) (D.seen disk.old).faults (D.seen disk.new).faults (result ≡ 14) }
 {
     if host >= u64::from(config.shape.n()) {
         return say(sink, USAGE_TEXT, USAGE);
@@ -202,18 +201,15 @@ pub fn kept_node<S: Source, K: Sink, L: Link, D: Disk>(
     link: &mut L,
     disk: &mut D,
 ) -> u8
-    ensures told { IfSome (S.left source.old) (λ text. KeptNodes text host events result (device (S.left source.old) (S.faults source.old)) (device (S.left source.new) (S.faults source.new))
-        (device (K.written sink.old) (K.faults sink.old)) (device (K.written sink.new) (K.faults sink.new))
-        (link_state (L.received link.old) (L.sent link.old) (L.opens link.old) (L.faults link.old)) (link_state (L.received link.new) (L.sent link.new) (L.opens link.new) (L.faults link.new)) (disk_state (D.moments disk.old) (D.faults disk.old)) (disk_state (D.moments disk.new) (D.faults disk.new))) }
-    ensures complete { IfSome (S.left source.old) (λ text. IsServedKept text host result (disk_state (D.moments disk.old) (D.faults disk.old)) (Rose (S.faults source.old) (S.faults source.new)
-        ⊎ (Rose (K.faults sink.old) (K.faults sink.new) ⊎ (Rose (L.faults link.old) (L.faults link.new) ⊎ Rose (D.faults disk.old) (D.faults disk.new))))) }
-    ensures ended { result ≡ 0 → IsAtEnd (S.left source.new) }
-    ensures limit { ConsumesBetween 0 (max_config + 1) (S.left source.old) (S.left source.new) }
+    ensures told { KeepsWith host events result (S.seen source.old) (S.seen source.new) (K.seen sink.old) (K.seen sink.new) (L.seen link.old) (L.seen link.new) (D.seen disk.old) (D.seen disk.new) }
+    ensures complete { KeepsServing host result (S.seen source.old) (S.seen source.new) (K.seen sink.old) (K.seen sink.new) (L.seen link.old) (L.seen link.new) (D.seen disk.old) (D.seen disk.new) }
+    ensures ended { result ≡ 0 → IsAtEnd (S.seen source.new).bytes }
+    ensures limit { ConsumesBetween 0 (max_config + 1) (S.seen source.old).bytes (S.seen source.new).bytes }
     ensures statuses { Contains kept_node_statuses result }
-    ensures source { TellsFaults (S.never_fails source.old) (S.never_fails source.new) (S.faults source.old) (S.faults source.new) (result ≡ 5) }
-    ensures sink { TellsFaults (K.never_fails sink.old) (K.never_fails sink.new) (K.faults sink.old) (K.faults sink.new) (result ≡ 6) }
-    ensures link { TellsFaults (L.never_fails link.old) (L.never_fails link.new) (L.faults link.old) (L.faults link.new) (result ≡ 7) }
-    ensures disk { TellsFaults (D.never_fails disk.old) (D.never_fails disk.new) (D.faults disk.old) (D.faults disk.new) (result ≡ 14) }
+    ensures source { TellsFaults (S.never_fails source.old) (S.never_fails source.new) (S.seen source.old).faults (S.seen source.new).faults (result ≡ 5) }
+    ensures sink { TellsFaults (K.never_fails sink.old) (K.never_fails sink.new) (K.seen sink.old).faults (K.seen sink.new).faults (result ≡ 6) }
+    ensures link { TellsFaults (L.never_fails link.old) (L.never_fails link.new) (L.seen link.old).faults (L.seen link.new).faults (result ≡ 7) }
+    ensures disk { TellsFaults (D.never_fails disk.old) (D.never_fails disk.new) (D.seen disk.old).faults (D.seen disk.new).faults (result ≡ 14) }
 {
     match config_from(alloc, source, sink) {
         Ok(config) => serve_as(alloc, &config, host, events, path, sink, link, disk),

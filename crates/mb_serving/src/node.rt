@@ -7,7 +7,6 @@ ghost use Rattle.mb_edge.specs.Faults.{TellsFaults};
 ghost use Rattle.mb_edge.specs.Pieces.{ConsumesBetween};
 ghost use Rattle.mb_sched.specs.Configs.{max_config};
 ghost use Rattle.mb_node.specs.Stops.{IsOfDisk};
-ghost use Rattle.mb_answer.specs.Devices.{device, link_state};
 ghost use Rattle.mb_serving.specs.Nodes.{served_status, Begins, Serves, HostServes, Nodes, IsNodeStatus, serving_statuses, node_statuses};
 
 use mb_answer::{
@@ -45,11 +44,11 @@ pub(crate) fn begin<K: Sink, L: Link>(
     sink: &mut K,
     link: &mut L,
 ) -> Result<(), ServeStop>
-    ensures begins { Begins config.now host result (device (K.written sink.old) (K.faults sink.old)) (device (K.written sink.new) (K.faults sink.new))
-        (link_state (L.received link.old) (L.sent link.old) (L.opens link.old) (L.faults link.old)) (link_state (L.received link.new) (L.sent link.new) (L.opens link.new) (L.faults link.new)) }
+    ensures begins { Begins config.now host result (K.seen sink.old) (K.seen sink.new)
+        (L.seen link.old) (L.seen link.new) }
     ensures alone { IfErr result (λ s. ¬ IsOfDisk s) }
-    ensures sink { TellsFaults (K.never_fails sink.old) (K.never_fails sink.new) (K.faults sink.old) (K.faults sink.new) (IsErrOf result ServeStop.SinkFault) }
-    ensures link { TellsFaults (L.never_fails link.old) (L.never_fails link.new) (L.faults link.old) (L.faults link.new) (IsErrOf result ServeStop.LinkFault) }
+    ensures sink { TellsFaults (K.never_fails sink.old) (K.never_fails sink.new) (K.seen sink.old).faults (K.seen sink.new).faults (IsErrOf result ServeStop.SinkFault) }
+    ensures link { TellsFaults (L.never_fails link.old) (L.never_fails link.new) (L.seen link.old).faults (L.seen link.new).faults (IsErrOf result ServeStop.LinkFault) }
 {
     let head = print_record_head(alloc, config, host)?;
     link.open(config.port, host)?;
@@ -67,11 +66,11 @@ fn run_node<K: Sink, L: Link>(
     link: &mut L,
 ) -> Result<(), ServeStop>
     requires { host < host_count config.now.shape }
-    ensures serves { Serves config.now host events (served_status result) (device (K.written sink.old) (K.faults sink.old)) (device (K.written sink.new) (K.faults sink.new))
-        (link_state (L.received link.old) (L.sent link.old) (L.opens link.old) (L.faults link.old)) (link_state (L.received link.new) (L.sent link.new) (L.opens link.new) (L.faults link.new)) }
+    ensures serves { Serves config.now host events (served_status result) (K.seen sink.old) (K.seen sink.new)
+        (L.seen link.old) (L.seen link.new) }
     ensures alone { IfErr result (λ s. ¬ IsOfDisk s) }
-    ensures sink { TellsFaults (K.never_fails sink.old) (K.never_fails sink.new) (K.faults sink.old) (K.faults sink.new) (IsErrOf result ServeStop.SinkFault) }
-    ensures link { TellsFaults (L.never_fails link.old) (L.never_fails link.new) (L.faults link.old) (L.faults link.new) (IsErrOf result ServeStop.LinkFault) }
+    ensures sink { TellsFaults (K.never_fails sink.old) (K.never_fails sink.new) (K.seen sink.old).faults (K.seen sink.new).faults (IsErrOf result ServeStop.SinkFault) }
+    ensures link { TellsFaults (L.never_fails link.old) (L.never_fails link.new) (L.seen link.old).faults (L.seen link.new).faults (IsErrOf result ServeStop.LinkFault) }
 {
     let mut replica = Replica::make(alloc, config.shape, host, &config.secret, Kv::new(alloc))?;
     begin(alloc, config, host, sink, link)?;
@@ -87,12 +86,12 @@ fn serve_as<K: Sink, L: Link>(
     sink: &mut K,
     link: &mut L,
 ) -> u8
-    ensures serves { HostServes config.now host events result (device (K.written sink.old) (K.faults sink.old)) (device (K.written sink.new) (K.faults sink.new))
-        (link_state (L.received link.old) (L.sent link.old) (L.opens link.old) (L.faults link.old)) (link_state (L.received link.new) (L.sent link.new) (L.opens link.new) (L.faults link.new)) }
+    ensures serves { HostServes config.now host events result (K.seen sink.old) (K.seen sink.new)
+        (L.seen link.old) (L.seen link.new) }
     ensures known { IsNodeStatus result }
     ensures statuses { Contains serving_statuses result }
-    ensures sink { TellsFaults (K.never_fails sink.old) (K.never_fails sink.new) (K.faults sink.old) (K.faults sink.new) (result ≡ 6) }
-    ensures link { TellsFaults (L.never_fails link.old) (L.never_fails link.new) (L.faults link.old) (L.faults link.new) (result ≡ 7) }
+    ensures sink { TellsFaults (K.never_fails sink.old) (K.never_fails sink.new) (K.seen sink.old).faults (K.seen sink.new).faults (result ≡ 6) }
+    ensures link { TellsFaults (L.never_fails link.old) (L.never_fails link.new) (L.seen link.old).faults (L.seen link.new).faults (result ≡ 7) }
 {
     if host >= u64::from(config.shape.n()) {
         return say(sink, USAGE_TEXT, USAGE);
@@ -109,16 +108,16 @@ pub fn node<S: Source, K: Sink, L: Link>(
     sink: &mut K,
     link: &mut L,
 ) -> u8
-    ensures told { IfSome (S.left source.old) (λ text. Nodes text host events result (device (S.left source.old) (S.faults source.old)) (device (S.left source.new) (S.faults source.new))
-        (device (K.written sink.old) (K.faults sink.old)) (device (K.written sink.new) (K.faults sink.new))
-        (link_state (L.received link.old) (L.sent link.old) (L.opens link.old) (L.faults link.old)) (link_state (L.received link.new) (L.sent link.new) (L.opens link.new) (L.faults link.new))) }
-    ensures ended { result ≡ 0 → IsAtEnd (S.left source.new) }
-    ensures limit { ConsumesBetween 0 (max_config + 1) (S.left source.old) (S.left source.new) }
+    ensures told { IfSome (S.seen source.old).bytes (λ text. Nodes text host events result (S.seen source.old) (S.seen source.new)
+        (K.seen sink.old) (K.seen sink.new)
+        (L.seen link.old) (L.seen link.new)) }
+    ensures ended { result ≡ 0 → IsAtEnd (S.seen source.new).bytes }
+    ensures limit { ConsumesBetween 0 (max_config + 1) (S.seen source.old).bytes (S.seen source.new).bytes }
     ensures known { ¬ (result ≡ 8) × ¬ (result ≡ 18) }
     ensures statuses { Contains node_statuses result }
-    ensures source { TellsFaults (S.never_fails source.old) (S.never_fails source.new) (S.faults source.old) (S.faults source.new) (result ≡ 5) }
-    ensures sink { TellsFaults (K.never_fails sink.old) (K.never_fails sink.new) (K.faults sink.old) (K.faults sink.new) (result ≡ 6) }
-    ensures link { TellsFaults (L.never_fails link.old) (L.never_fails link.new) (L.faults link.old) (L.faults link.new) (result ≡ 7) }
+    ensures source { TellsFaults (S.never_fails source.old) (S.never_fails source.new) (S.seen source.old).faults (S.seen source.new).faults (result ≡ 5) }
+    ensures sink { TellsFaults (K.never_fails sink.old) (K.never_fails sink.new) (K.seen sink.old).faults (K.seen sink.new).faults (result ≡ 6) }
+    ensures link { TellsFaults (L.never_fails link.old) (L.never_fails link.new) (L.seen link.old).faults (L.seen link.new).faults (result ≡ 7) }
 {
     match config_from(alloc, source, sink) {
         Ok(config) => serve_as(alloc, &config, host, events, sink, link),

@@ -1,18 +1,13 @@
 //! What is true of all that nodes write. It holds no code.
 
-ghost use Rattle.std.specs.Prelude.{◌≡◌, ◌≤◌, ◌<◌, ◌++◌, ℕ, List, [], length};
-ghost use Rattle.std.specs.List.{AllByRecursion};
-ghost use Rattle.mb_base.specs.Shapes.{Bytes, host_count};
-ghost use Rattle.mb_msg.specs.declared.event.Event.{Event};
-ghost use Rattle.mb_node.specs.Recording.{lines_of};
+ghost use Rattle.std.specs.Prelude.{ℕ};
+ghost use Rattle.mb_base.specs.Shapes.{Bytes};
+ghost use Rattle.mb_edge.specs.Seen.{Device, LinkState};
 ghost use Rattle.mb_sched.specs.declared.configs.Config.{Config};
 ghost use Rattle.mb_sched.specs.Configs.{SettingsFit};
-ghost use Rattle.mb_sched.specs.Records.{max_record, record_head, EventFits};
 ghost use Rattle.mb_answer.specs.Configs.{IsConfigText};
-ghost use Rattle.mb_answer.specs.Devices.{Device, LinkState};
 ghost use Rattle.mb_serving.specs.Nodes.{Serves};
-ghost use Rattle.mb_serving.specs.Records.{host_of};
-ghost use Rattle.mb_serving.specs.Written.{IsOwnSoFar, WritesReceived, NodesLeaveRecords, KeptNodesLeaveRecords};
+ghost use Rattle.mb_serving.specs.Written.{WrittenRecordsAreOwn, WritesReceived, NodesLeaveRecords, KeptNodesLeaveRecords};
 
 /// The config of a text keeps the limits of its lines.
 pub fn read_configs_keep_limits()
@@ -27,8 +22,7 @@ pub fn nodes_write_records()
 
 /// From the end of the record's first lines on, each first part of what a host writes is read as a record of its own entries.
 pub fn written_records_are_own()
-    ensures { (c : Config) (host : ℕ) (es : List Event) (part rest : Bytes) → SettingsFit c → host < host_count c.shape → AllByRecursion EventFits es
-        → part ++ rest ≡ lines_of (host_of c host) [] es → length (record_head c host ++ part) ≤ max_record → IsOwnSoFar c host es part }
+    ensures { WrittenRecordsAreOwn }
 {}
 
 /// What a node writes by the text of a config is what its host left, wherever it is cut off behind the record's first lines: `retrace` answers it with how many

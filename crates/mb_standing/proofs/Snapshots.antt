@@ -7,10 +7,11 @@ use Rattle.std.proofs.lemmas.Bool.{cases_Bool, leb-true, le-leb}
 use Rattle.std.proofs.lemmas.Bool.Decides.{eqb_tells}
 use Rattle.std.proofs.lemmas.List.{length-append, length-map}
 use Rattle.std.proofs.lemmas.List.FromFn.{length-range_with_len}
+use Rattle.mb_base.specs.Limits.{part_count, service_parts}
 use Rattle.mb_base.specs.Shapes.{Bytes, interval, span}
 use Rattle.mb_msg.specs.declared.event.Slot.{Slot}
 use Rattle.mb_model.specs.Service.{Served}
-use Rattle.mb_model.specs.States.{part_count, service_parts, table_bytes, parts_of}
+use Rattle.mb_model.specs.States.{table_bytes, parts_of}
 use Rattle.mb_model.specs.Histories.{Entry, Executed, History, Identity, is_open}
 use Rattle.mb_model.specs.Stable.{low_of}
 use Rattle.mb_model.specs.Positions.{exec_of}
@@ -39,7 +40,7 @@ module _ {S : Type 0} (self : Identity S) where
   unfolding parts_of
   parts_count x =
       let l : List Bytes = map (self.snapshots.part x.state) (range_with_len 0 service_parts) in
-      let many : length l ≡ 64 = length-map (range_with_len 0 service_parts) (self.snapshots.part x.state) ∙ length-range_with_len 0 service_parts in
+      let many : length l ≡ service_parts = length-map (range_with_len 0 service_parts) (self.snapshots.part x.state) ∙ length-range_with_len 0 service_parts in
       omega (arith, length-append l (table_bytes x.table ∷ []), many)
 
   -- ---- what an entry leaves

@@ -3,6 +3,7 @@
 use Rattle.std.proofs.Common.{◌≡◌, ℕ, zero, suc, ◌+◌, true, false, List, [], ◌∷◌, length, replicate, refl, sym, ap, ◌∙◌, inl, inr, arith, Option, Some, None, Result, Ok, Err}
 use Rattle.std.specs.Prelude.{◌==◌, nat_lt, slice_get, unwrap_or, take, if◌then◌else◌}
 use Rattle.std.proofs.lemmas.Bool.{cases_Bool, ltb-true}
+use Rattle.mb_base.specs.Limits.{table_part, service_parts}
 use Rattle.mb_base.specs.Shapes.{Bytes, client_count}
 use Rattle.mb_base.specs.Reading.{Cursor, cursor, Reads, ◌>>=◌, repeat_at}
 use Rattle.mb_base.proofs.Laws.{bind_ok, allow_ok, ok_is}
@@ -13,7 +14,7 @@ use Rattle.mb_msg.specs.declared.event.Slot.{Slot}
 use Rattle.mb_msg.specs.declared.stamped.Stamped.{Stamped as StampedMessage}
 use Rattle.mb_model.specs.declared.known.LastReply.{LastReply}
 use Rattle.mb_model.specs.Service.{Served, no_reply, served}
-use Rattle.mb_model.specs.States.{last_reply_at, ended, table_of, table_part, service_parts, joined_state, restored}
+use Rattle.mb_model.specs.States.{last_reply_at, ended, table_of, joined_state, restored}
 use Rattle.mb_model.specs.Histories.{Entry, Accepted, Stamped, Executed, Installed, Nudged, History, Identity, counter_of}
 use Rattle.mb_model.specs.Histories as entry
 use Rattle.mb_model.specs.Stable.{stable_of, low_of, learnt_in, further}

@@ -2,6 +2,7 @@
 use Rattle.std.proofs.Common.{◌≡◌, ℕ, ◌+◌, Bool, true, ◌&&◌, ◌||◌, not, refl, sym, ap, subst, ◌∙◌, inl, inr, List, Option, Some, None}
 use Rattle.std.specs.Prelude.{nat_lt, nat_le, option_map}
 use Rattle.std.proofs.lemmas.Bool.{and_parts}
+use Rattle.mb_base.specs.Limits.{ahead_limit}
 use Rattle.mb_parts.specs.declared.batch.Batch.{Batch}
 use Rattle.mb_parts.specs.declared.certificates.Evidence.{Evidence}
 use Rattle.mb_msg.specs.declared.change.NewView.{NewView}
@@ -14,7 +15,7 @@ use Rattle.mb_model.specs.Stable.{low_of}
 use Rattle.mb_model.specs.OwnLog.{has_room, has_other_room}
 use Rattle.mb_model.specs.Positions.{exec_of, slot_at, in_window}
 use Rattle.mb_model.specs.Batches.{first_batch}
-use Rattle.mb_model.specs.EnabledRules.{Rule, ChangeView, Announce, Enter, Open, Join, Commit, Execute, Prepare, next_rule, target, change_enabled, announce_enabled, enter_enabled, open_enabled, join_enabled, commit_enabled, execute_enabled, prepare_enabled, next_position, with_batch, may_order, ahead_limit, unordered, open_with, may_open, is_evidence_of, has_evidence, lags_behind, is_past_plan, if_committed, is_committed}
+use Rattle.mb_model.specs.EnabledRules.{Rule, ChangeView, Announce, Enter, Open, Join, Commit, Execute, Prepare, next_rule, target, change_enabled, announce_enabled, enter_enabled, open_enabled, join_enabled, commit_enabled, execute_enabled, prepare_enabled, next_position, with_batch, may_order, unordered, open_with, may_open, is_evidence_of, has_evidence, lags_behind, is_past_plan, if_committed, is_committed}
 use Rattle.mb_model.proofs.Options.{or_some, if_some, map_some}
 
 module _ {S : Type 0} (self : Identity S) (d : History) (P : Rule → Type 0) where

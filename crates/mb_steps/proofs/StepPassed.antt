@@ -4,6 +4,7 @@ use Rattle.std.specs.Prelude.{not, ◌&&◌, ◌||◌, ◌==◌, nat_lt, nat_le,
 use Rattle.std.specs.Bool.{then_some}
 use Rattle.std.specs.Option.{option_or}
 use Rattle.std.proofs.lemmas.Bool.{not-false, eqb-false, ltb-false, leb-false, lt-ltb}
+use Rattle.mb_base.specs.Limits.{part_count}
 use Rattle.mb_base.specs.declared.names.Ui.{Ui}
 use Rattle.mb_parts.specs.declared.request.Request.{Request}
 use Rattle.mb_parts.specs.declared.batch.Batch.{Batch}
@@ -177,7 +178,7 @@ module _ {S : Type 0} (self : Identity S) where
   unfolding state_refusal
   passes_state d m e =
       let idle : Option Outcome = then_some (not (is_wanted self d m.pos)) outcome.Idle in
-      let list : Option Outcome = then_some (not (is_list_right self d m)) (outcome.WrongDigest 65) in
+      let list : Option Outcome = then_some (not (is_list_right self d m)) (outcome.WrongDigest part_count) in
       let parts : Option Outcome = wrong_digest (wrong_part m.digests m.first m.parts) in
       let held : Option Outcome = then_some (are_all_held self d m) outcome.Idle in
       let bad : Option Outcome = bad_state self (Accepted (message.State m) ∷ d) in

@@ -4,6 +4,7 @@ use Rattle.std.specs.Prelude.{◌==◌, nat_lt, nat_le, option_map, if◌then◌
 use Rattle.std.specs.Option.{option_or}
 use Rattle.std.proofs.lemmas.Bool.{and_parts, cases_Bool, eqb-true, eq-eqb, eqb-false, ltb-true, ltb-false, leb-true}
 use Rattle.std.proofs.lemmas.List.Sums.{sum_by-cons}
+use Rattle.mb_base.specs.Limits.{other_limit, ahead_limit}
 use Rattle.mb_base.specs.Shapes.{IsShape, tally, host_count, interval, quorum, span}
 use Rattle.mb_parts.specs.declared.request.Request.{Request}
 use Rattle.mb_parts.specs.declared.batch.Batch.{Batch}
@@ -27,7 +28,7 @@ use Rattle.mb_model.specs.declared.known.KnownSlot.{KnownSlot}
 use Rattle.mb_model.specs.Votes.{is_vote}
 use Rattle.mb_model.specs.Service.{is_fresh}
 use Rattle.mb_model.specs.States.{state_digest}
-use Rattle.mb_model.specs.UsableLogs.{normal_limit, other_limit}
+use Rattle.mb_model.specs.UsableLogs.{normal_limit}
 use Rattle.mb_model.specs.Histories.{Entry, Accepted, Stamped, Served, Executed, History, Identity, origin, taken_of, stamped as all_stamped, counter_of, here, view_of, is_open, is_changing, is_primary}
 use Rattle.mb_model.specs.Held.{wish_of, quorum_wish, new_view_of, evidence_of, plan_held, plan_at, opened_by}
 use Rattle.mb_model.specs.Stable.{stable_of, low_of, learnt_in, further, log_floor, floor_counter, cut_by, floor_from, is_kept, checkpoint_in}
@@ -37,7 +38,7 @@ use Rattle.mb_model.specs.Batches.{first_batch}
 use Rattle.mb_model.specs.Execution.{state_of}
 use Rattle.mb_model.specs.Sending.{Progress, signed, no_ui}
 use Rattle.mb_model.specs.Making.{present_parts, floors_under}
-use Rattle.mb_model.specs.EnabledRules.{Commit as CommitAt, Execute as ExecuteAt, Prepare as PrepareAt, target, commit_enabled, execute_enabled, prepare_enabled, with_batch, next_position, ahead_limit, may_order, unordered, if_committed, is_committed}
+use Rattle.mb_model.specs.EnabledRules.{Commit as CommitAt, Execute as ExecuteAt, Prepare as PrepareAt, target, commit_enabled, execute_enabled, prepare_enabled, with_batch, next_position, may_order, unordered, if_committed, is_committed}
 use Rattle.mb_model.specs.CarriedOut.{placed_in, serve, serve_all, slot_for, carry_out, execute, with_checkpoint}
 use Rattle.mb_model.proofs.Options.{or_some, if_some, map_some}
 use Rattle.mb_model.proofs.Quorums.{tally_some}

@@ -4,6 +4,7 @@ use Rattle.std.specs.Prelude.{◌==◌, nat_lt, nat_le, option_and_then, if◌th
 use Rattle.std.specs.List.{list_any}
 use Rattle.std.proofs.lemmas.Bool.{and_parts, cases_Bool, eqb-true, eq-eqb, eqb-false, ltb-true, ltb-false, leb-true, leb-false, lt-ltb, le-leb}
 use Rattle.std.proofs.lemmas.List.Sums.{sum_by-cons}
+use Rattle.mb_base.specs.Limits.{other_limit, plan_limit}
 use Rattle.mb_base.specs.Shapes.{IsShape, tally, host_count, max_faults, quorum, primary}
 use Rattle.mb_base.specs.declared.names.Ui.{Ui}
 use Rattle.mb_parts.specs.declared.floor.Floor.{Floor}
@@ -21,7 +22,6 @@ use Rattle.mb_msg.specs.declared.stamped.Stamped.{Stamped as StampedMessage}
 use Rattle.mb_msg.specs.declared.stamped.Stamped.TheVariants as stamped
 use Rattle.mb_msg.specs.Stamps.{bare_of, ui_of, with_ui}
 use Rattle.mb_msg.specs.Plans.{plan_end, plan_digest}
-use Rattle.mb_model.specs.UsableLogs.{other_limit}
 use Rattle.mb_model.specs.Histories.{Stamped, History, Identity, origin, taken_of, view_of, is_changing, is_primary}
 use Rattle.mb_model.specs.Held.{wish_of, quorum_wish, new_view_of, evidence_of, evidence_view, plan_held, plan_from, new_view_in_view, evidence_in, evidence_for, evidence_with, enters_for}
 use Rattle.mb_model.specs.Stable.{stable_of, low_of, log_floor}
@@ -129,7 +129,7 @@ module _ {S : Type 0} (self : Identity S) where
       let log : own_log self (Stamped m ∷ d) ≡ m ∷ own_log self d = log_with self d m same in
       let fewer : normal_in self (Stamped m ∷ d) ≡ 0 + normal_in self d = ap (λ l. count_by is_normal l) log ∙ sum_by-cons (λ x. cond (is_normal x) 1 0) m (own_log self d) ∙ ap (λ b. cond b 1 0 + normal_in self d) kind in
       let more : others_in self (Stamped m ∷ d) ≡ 1 + others_in self d = ap (λ l. count_by (λ x. not (is_normal x)) l) log ∙ sum_by-cons (λ x. cond (not (is_normal x)) 1 0) m (own_log self d) ∙ ap (λ b. cond (not b) 1 0 + others_in self d) kind in
-      let free : others_in self d < other_limit = ltb-true (others_in self d) other_limit (and_parts (nat_lt (others_in self d) 768) (is_unspent self d) room).0 in
+      let free : others_in self d < other_limit = ltb-true (others_in self d) other_limit (and_parts (nat_lt (others_in self d) other_limit) (is_unspent self d) room).0 in
       omega (arith, more, fewer, free)
 
   -- ---- ENTER, OPEN and JOIN: a place less, and no more calls
@@ -202,9 +202,9 @@ module _ {S : Type 0} (self : Identity S) where
 
   -- ---- the potential is small
 
-  few_ahead : IsShape self.shape → (d : History) → ahead self d ≤ 64
+  few_ahead : IsShape self.shape → (d : History) → ahead self d ≤ plan_limit
   few_ahead k d = at_most (nat_lt (exec_of d) (low_of self d)) refl where
-    at_most : (t : Bool) → nat_lt (exec_of d) (low_of self d) ≡ t → (if t then 0 else reach self d - exec_of d) ≤ 64
+    at_most : (t : Bool) → nat_lt (exec_of d) (low_of self d) ≡ t → (if t then 0 else reach self d - exec_of d) ≤ plan_limit
     at_most true e = omega arith
     at_most false e = omega (arith, k.intervals.1, ltb-false (exec_of d) (low_of self d) e, reach_within self d)
 

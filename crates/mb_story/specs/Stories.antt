@@ -1,6 +1,6 @@
 -- The story of a schedule: what is told of each event, up to the first that something stands in the way of.
-use Rattle.std.specs.Prelude.{◌≡◌, ℕ, ◌+◌, true, List, length, is_some, Some, Result, slice_get}
-use Rattle.mb_base.specs.Shapes.{Bytes}
+use Rattle.std.specs.Prelude.{◌≡◌, ℕ, ◌+◌, true, List, length, is_some, Some, slice_get}
+use Rattle.mb_service.specs.Machine.{ServiceMachine}
 use Rattle.mb_schedule.specs.declared.schedule.Schedule.{Schedule}
 use Rattle.mb_schedule.specs.declared.schedule.WorldEvent.{WorldEvent}
 use Rattle.mb_world_model.specs.World.{System}
@@ -17,9 +17,9 @@ use Rattle.mb_story.specs.declared.telling.Telling.{Telling}
 use Rattle.mb_story.specs.Telling.{IsTelling}
 
 -- There is a system with this schedule, whose hosts are made with these services.
-pub record HasSystem {V : Type 0} (is_state : V → Type 0) (after : V → Bytes → V) (result : V → Bytes → Bytes) (part : V → ℕ → Bytes) (restored : List Bytes → Result V (ℕ × ℕ)) (s : Schedule) (services : List V) : Type 0 where
+pub record HasSystem {V : Type 0} (machine : ServiceMachine V) (s : Schedule) (services : List V) : Type 0 where
   pub system : System V
-  pub is : IsSystem is_state after result part restored system
+  pub is : IsSystem machine system
   pub plays : system.schedule ≡ s
   pub alike : AreServices system.initial services
 

@@ -76,13 +76,13 @@ pub fn tell<V: Service + Drop>(
     requires fits { EventFits world.old.shape event.now }
     requires few { world.old.events < 2 ^ 64 - 1 }
     requires runs { world.old.halted ≡ false }
-    requires has { HasWorld V.is_state V.after V.answer V.part_of V.restored world.old }
-    ensures tells { (y : System V) (x : WorldState) → IsSystem V.is_state V.after V.answer V.part_of V.restored y → IsReached y x → RepresentsWorld y world.old x
+    requires has { HasWorld V.machine world.old }
+    ensures tells { (y : System V) (x : WorldState) → IsSystem V.machine y → IsReached y x → RepresentsWorld y world.old x
         → IfOk result (IsTelling y x (happens y x event.now) event.now) }
-    ensures stands { (y : System V) (x : WorldState) → IsSystem V.is_state V.after V.answer V.part_of V.restored y → IsReached y x → RepresentsWorld y world.old x
+    ensures stands { (y : System V) (x : WorldState) → IsSystem V.machine y → IsReached y x → RepresentsWorld y world.old x
         → OnOk result (RepresentsWorld y world.new (happens y x event.now)) }
     ensures stops { (y : System V) (x : WorldState) → RepresentsWorld y world.old x → Tells (stop_of y.schedule x event.now) result }
-    ensures has { OnOk result (HasWorld V.is_state V.after V.answer V.part_of V.restored world.new) }
+    ensures has { OnOk result (HasWorld V.machine world.new) }
     ensures runs { OnOk result (world.new.halted ≡ false) }
     ensures shape { world.new.shape ≡ world.old.shape }
     ensures counts { OnOk result (world.new.events ≡ world.old.events + 1) }

@@ -63,8 +63,8 @@ fn story_in<V: Service + Drop>(
     requires few { length events.now < 2 ^ 64 - 1 }
     requires none { world.old.events ≡ 0 }
     requires runs { world.old.halted ≡ false }
-    requires has { HasWorld V.is_state V.after V.answer V.part_of V.restored world.old }
-    ensures { (y : System V) → IsSystem V.is_state V.after V.answer V.part_of V.restored y → y.schedule.events ≡ events.now → RepresentsWorld y world.old nothing_happened
+    requires has { HasWorld V.machine world.old }
+    ensures { (y : System V) → IsSystem V.machine y → y.schedule.events ≡ events.now → RepresentsWorld y world.old nothing_happened
         → IfOk result (IsStory y) }
 {
     let mut told = Items::new(alloc);
@@ -89,8 +89,8 @@ pub fn play<V: Service + Drop>(
 ) -> Result<Story, NoMemory>
     requires fits { IsSchedule schedule.now }
     requires services { length services.items ≡ host_count schedule.now.shape }
-    requires system { HasSystem V.is_state V.after V.answer V.part_of V.restored schedule.now services.items }
-    ensures { (y : System V) → IsSystem V.is_state V.after V.answer V.part_of V.restored y → y.schedule ≡ schedule.now → AreServices y.initial services.items
+    requires system { HasSystem V.machine schedule.now services.items }
+    ensures { (y : System V) → IsSystem V.machine y → y.schedule ≡ schedule.now → AreServices y.initial services.items
         → IfOk result (IsStory y) }
 {
     let mut world = World::make(

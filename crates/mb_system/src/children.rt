@@ -294,13 +294,9 @@ impl<'a, R: Files<File = File> + Processes + Clock + Eprint> ChildSpawner<'a, R>
 }
 
 impl<'a, R: Files<File = File> + Processes + Clock + Eprint> Spawner for ChildSpawner<'a, R> {
-    ghost starts = { λ _. None };
+    ghost use Rattle.mb_edge.specs.Seen.{spawner_state};
 
-    ghost waits = { λ _. None };
-
-    ghost faults = { λ s. s.faults };
-
-    ghost bad_ends = { λ s. s.bad_ends };
+    ghost seen = { λ s. spawner_state None None s.faults s.bad_ends };
 
     ghost waits_without_memory = { Unit {0} };
 

@@ -64,10 +64,9 @@ fn sync_folder_of<R: Files<File = File>>(rt: &R, path: &str) -> io::Result<()> {
 
 impl<R: Files<File = File>> Disk for FileDisk<R> {
     ghost use Rattle.mb_edge.specs.DiskLaws.{untold};
+    ghost use Rattle.mb_edge.specs.Seen.{disk_state};
 
-    ghost moments = { λ _. None };
-
-    ghost faults = { λ d. d.faults };
+    ghost seen = { λ d. disk_state None d.faults };
 
     ghost reads_back = { λ d m is. untold m is };
 

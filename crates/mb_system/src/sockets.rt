@@ -143,13 +143,9 @@ fn received(socket: &UdpSocket, into: &mut [u8]) -> io::Result<Option<usize>>
 }
 
 impl<R: Net + Clock> Link for UdpLink<R> {
-    ghost received = { λ _. None };
+    ghost use Rattle.mb_edge.specs.Seen.{link_state};
 
-    ghost sent = { λ _. None };
-
-    ghost opens = { λ _. None };
-
-    ghost faults = { λ l. l.faults };
+    ghost seen = { λ l. link_state None None None l.faults };
 
     ghost sends_without_memory = { Unit {0} };
 

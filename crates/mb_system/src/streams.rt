@@ -25,9 +25,9 @@ impl<R: Read> StdSource<R> {
 }
 
 impl<R: Read> Source for StdSource<R> {
-    ghost left = { λ s. R.remaining s.reader };
+    ghost use Rattle.mb_edge.specs.Seen.{device};
 
-    ghost faults = { λ s. s.faults };
+    ghost seen = { λ s. device (R.remaining s.reader) s.faults };
 
     /// An interrupted read is made again.
     fn read(&mut self, into: &mut [u8]) -> Result<usize, Failed> {
@@ -72,9 +72,9 @@ impl<W: Write> StdSink<W> {
 }
 
 impl<W: Write> Sink for StdSink<W> {
-    ghost written = { λ s. W.contents s.writer };
+    ghost use Rattle.mb_edge.specs.Seen.{device};
 
-    ghost faults = { λ s. s.faults };
+    ghost seen = { λ s. device (W.contents s.writer) s.faults };
 
     /// An interrupted write is made again, and one that takes nothing has failed.
     fn write(&mut self, from: &[u8]) -> Result<usize, Failed> {

@@ -1,5 +1,5 @@
 ghost use Rattle.std.specs.Prelude.{◌≡◌, [], length};
-ghost use Rattle.mb_model.specs.States.{part_count};
+ghost use Rattle.mb_base.specs.Limits.{part_count};
 
 use mb_base::{Digest, Items, NoMemory};
 use mb_fetch::{Kept, Parts, Shelf};

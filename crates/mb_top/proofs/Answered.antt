@@ -10,7 +10,8 @@ use Rattle.mb_sched.specs.Schedules.{IsScheduleText}
 use Rattle.mb_world_model.specs.Stops.{WorldStop}
 use Rattle.mb_top.specs.Runs.{AreUnstopped, IsFirstStopped}
 use Rattle.mb_top.specs.Answers.{IsForgedText, certificate, tag, AnswersSchedule, bad_event, forged, replayed, Answers, too_long, bad_line, right}
-use Rattle.mb_answer.specs.Devices.{Device, Says, said, failed, cut_short, IsToldBy, answered, unread, starved}
+use Rattle.mb_edge.specs.Seen.{Device}
+use Rattle.mb_answer.specs.Devices.{Says, said, failed, cut_short, IsToldBy, answered, unread, starved}
 use Rattle.mb_top.specs.Responses.{Replays}
 use Rattle.mb_top.specs.Doings.{replay_statuses}
 use Rattle.mb_top.specs.Outcomes.{ReportsOn, TellsForged, IsComplete}

@@ -14,7 +14,8 @@ use Rattle.mb_schedule.specs.declared.schedule.Schedule.{Schedule}
 use Rattle.mb_schedule.specs.Limits.{is_faulty}
 use Rattle.mb_sched.specs.declared.records.Record.{Record}
 use Rattle.mb_world_model.specs.World.{World}
-use Rattle.mb_answer.specs.Devices.{Device, Says, said, failed, cut_short, answered, unread, starved}
+use Rattle.mb_edge.specs.Seen.{Device}
+use Rattle.mb_answer.specs.Devices.{Says, said, failed, cut_short, answered, unread, starved}
 use Rattle.mb_answer.specs.Records.{IsRecordText, AnswersText, too_long, bad_line, right}
 use Rattle.mb_answer.proofs.RecordTexts.{same_record}
 use Rattle.mb_reviewing.specs.Given.{given_in}

@@ -1,48 +1,22 @@
 -- What a command does, by its words.
-use Rattle.std.proofs.Common.{◌≡◌, ℕ, ◌≤◌, true, List, Option, Some, None, IfSome, refl, sym, subst, arith}
+use Rattle.std.proofs.Common.{◌≡◌, ℕ, ◌≤◌, List, Option, Some, None, IfSome, refl, sym, subst, arith}
 use Rattle.std.specs.Prelude.{Contains}
 use Rattle.std.specs.Io.KnownBytes.{IsAtEnd}
 use Rattle.mb_base.specs.Shapes.{Bytes}
 use Rattle.mb_top.specs.declared.command.Command.{Command}
-use Rattle.mb_top.specs.declared.command.Command.TheVariants.{Replay, Soak, Node, KeptNode, Journal, Retrace, Cluster, Audit, Learn}
-use Rattle.mb_top.specs.Commands.{reads}
+use Rattle.mb_top.specs.declared.command.Command.TheVariants.{Replay, Soak, Node, Retrace, Cluster, Audit, Learn}
 use Rattle.mb_answer.specs.Clusters.{StayIdle, Clusters}
-use Rattle.mb_answer.specs.Devices.{Device, Devices, Says}
+use Rattle.mb_edge.specs.Seen.{Device, LinkState, DiskState}
+use Rattle.mb_answer.specs.Devices.{Devices, Says}
 use Rattle.mb_top.specs.Responses.{Replays, Soaks, summed_up, exhausted}
 use Rattle.mb_top.specs.Soaks.{soak_text}
 use Rattle.mb_answer.proofs.Statuses.{said_is}
 use Rattle.mb_serving.specs.Records.{Retraces}
-use Rattle.mb_serving.specs.Journals.{DiskState}
-use Rattle.mb_top.specs.Doings.{DoesWith, DoesWithRecord, Does, DoesAtDisk, IsIdle, IsDiskIdle, statuses}
+use Rattle.mb_top.specs.Doings.{DoesWith, DoesWithRecord, Does, DoesAtDisk, statuses}
 use Rattle.mb_serving.specs.Nodes.{Nodes}
 use Rattle.mb_reviewing.specs.Audits.{Audits, audit_findings}
 use Rattle.mb_reviewing.specs.Learning.{LearnsFrom, learn_findings}
 use Rattle.mb_answer.specs.Texts.{usage_text}
-
--- At the end of a word that reads, the source was read.
-pub reads_all : (o : Option Command) (status : ℕ) (old new : Devices) → Does o status old new → IfSome o (λ c. reads c ≡ true → status ≡ 0 → IsAtEnd new.source.bytes)
-reads_all None status old new does = tt
-reads_all (Some Replay) status old new does = λ it zero. does.0.ended zero
-reads_all (Some (Soak seed n)) status old new does = λ it zero. absurd cc
-reads_all (Some (Node host n)) status old new does = λ it zero. does.0.ended zero
-reads_all (Some (KeptNode host n)) status old new does = λ it zero. does.0 zero
-reads_all (Some (Journal host)) status old new does = λ it zero. does.0 zero
-reads_all (Some Retrace) status old new does = λ it zero. does.0.ended zero
-reads_all (Some (Cluster n)) status old new does = λ it zero. does.ended zero
-reads_all (Some (Audit host)) status old new does = λ it zero. does.0.ended (subst (Contains audit_findings) (sym zero) (0, omega arith, refl))
-reads_all (Some Learn) status old new does = λ it zero. does.0.ended (subst (Contains learn_findings) (sym zero) (0, omega arith, refl))
-
-pub is_idle : (o : Option Command) (status : ℕ) (old new : Devices) → Does o status old new → IsIdle o old new
-is_idle None status old new does = does.1
-is_idle (Some Replay) status old new does = does.1
-is_idle (Some (Soak seed n)) status old new does = does.1.1
-is_idle (Some (Node host n)) status old new does = does.1
-is_idle (Some (KeptNode host n)) status old new does = does.1
-is_idle (Some (Journal host)) status old new does = does.1
-is_idle (Some Retrace) status old new does = does.1
-is_idle (Some (Cluster n)) status old new does = tt
-is_idle (Some (Audit host)) status old new does = does.1
-is_idle (Some Learn) status old new does = does.1
 
 module _ (o : Option Command) (status : ℕ) (old new : Devices) (does : Does o status old new) where
   does_as : (p : Option Command) → o ≡ p → Does p status old new
@@ -72,34 +46,14 @@ module _ (o : Option Command) (status : ℕ) (old new : Devices) (does : Does o 
   pub audits : (host : ℕ) → o ≡ Some (Audit host) → IfSome old.source.bytes (λ text. Audits text host status old.source new.source old.sink new.sink)
   audits host is = (does_as (Some (Audit host)) is).0.told
 
-  pub audit_ends : (host : ℕ) → o ≡ Some (Audit host) → Contains audit_findings status → IsAtEnd new.source.bytes
-  audit_ends host is = (does_as (Some (Audit host)) is).0.ended
-
   pub learns : o ≡ Some Learn → IfSome old.source.bytes (λ text. LearnsFrom text status old.source new.source old.sink new.sink)
   learns is = (does_as (Some Learn) is).0.told
 
-  pub learn_ends : o ≡ Some Learn → Contains learn_findings status → IsAtEnd new.source.bytes
-  learn_ends is = (does_as (Some Learn) is).0.ended
-
-  pub tells_usage : o ≡ None → Says 1 usage_text status old.sink new.sink
-  tells_usage is = (does_as None is).0
-
 -- ---- the disk
 
-pub disk_idle : (o : Option Command) (status : ℕ) (old new : Devices) (disk disk' : DiskState) → DoesAtDisk o status old new disk disk' → IsDiskIdle o disk disk'
-disk_idle None status old new disk disk' does = does
-disk_idle (Some Replay) status old new disk disk' does = does
-disk_idle (Some (Soak seed n)) status old new disk disk' does = does
-disk_idle (Some (Node host n)) status old new disk disk' does = does
-disk_idle (Some (KeptNode host n)) status old new disk disk' does = tt
-disk_idle (Some (Journal host)) status old new disk disk' does = tt
-disk_idle (Some Retrace) status old new disk disk' does = does
-disk_idle (Some (Cluster n)) status old new disk disk' does = does
-disk_idle (Some (Audit host)) status old new disk disk' does = does
-disk_idle (Some Learn) status old new disk disk' does = does
-
-pub at_disk_as : (o p : Option Command) (status : ℕ) (old new : Devices) (disk disk' : DiskState) → o ≡ p → DoesAtDisk o status old new disk disk' → DoesAtDisk p status old new disk disk'
-at_disk_as o p status old new disk disk' is does = subst (λ (q : Option Command). DoesAtDisk q status old new disk disk') is does
+pub at_disk_as : (o p : Option Command) (status : ℕ) (source source' sink sink' : Device) (link link' : LinkState) (disk disk' : DiskState) → o ≡ p
+    → DoesAtDisk o status source source' sink sink' link link' disk disk' → DoesAtDisk p status source source' sink sink' link link' disk disk'
+at_disk_as o p status source source' sink sink' link link' disk disk' is does = subst (λ (q : Option Command). DoesAtDisk q status source source' sink sink' link link' disk disk') is does
 
 -- what a source tells of two things
 pub told_both : {X : Type 0} (o : Option X) (P Q : X → Type 0) → IfSome o P → IfSome o Q → IfSome o (λ x. P x × Q x)

@@ -4,8 +4,8 @@ use Rattle.std.specs.List.{slice_get}
 use Rattle.std.proofs.lemmas.Option.{same_Some}
 use Rattle.mb_base.specs.Shapes.{Bytes}
 use Rattle.mb_kv.specs.Pairs.{Pairs}
-use Rattle.mb_kv.specs.Operations.{after, answer}
-use Rattle.mb_kv.specs.Snapshots.{part_of, restored}
+use Rattle.mb_kv.specs.Machine.{kv_machine}
+use Rattle.mb_kv.specs.Operations.{after}
 use Rattle.mb_kv.specs.States.{IsState}
 use Rattle.mb_kv.specs.Laws.StateLaws.{no_keys_is_state, states_stay, answers_are_short}
 use Rattle.mb_kv.specs.Laws.SnapshotLaws.{parts_give_the_state}
@@ -16,22 +16,22 @@ use Rattle.mb_parties.specs.Hosts.{IsSystem, AreServices}
 use Rattle.mb_top.specs.Systems.{system_of}
 
 abbrev after_all : List Bytes → Pairs
-after_all ops = state_after (machine_of after answer) [] ops
+after_all ops = state_after (machine_of kv_machine) [] ops
 
 -- a state stays a state
-stays_state : (ops : List Bytes) (x : Pairs) → IsState x → IsState (state_after (machine_of after answer) x ops)
+stays_state : (ops : List Bytes) (x : Pairs) → IsState x → IsState (state_after (machine_of kv_machine) x ops)
 unfolding state_after
 stays_state [] x is = is
 stays_state (op ∷ ops) x is = stays_state ops (after x op) (states_stay x op is)
 
-pub kv_is_service : IsService (machine_of after answer) (snapshots_of part_of restored) []
+pub kv_is_service : IsService (machine_of kv_machine) (snapshots_of kv_machine) []
 kv_is_service = record {
   short = λ ops op fit fits. answers_are_short (after_all ops) op (stays_state ops [] no_keys_is_state);
   whole = λ ops fit. parts_give_the_state (after_all ops) (stays_state ops [] no_keys_is_state);
 }
 
 -- Hosts are made with it.
-pub is_system : (s : Schedule) → IsSystem IsState after answer part_of restored (system_of s)
+pub is_system : (s : Schedule) → IsSystem kv_machine (system_of s)
 is_system s = record { machine = refl; snapshots = refl; first = no_keys_is_state }
 
 -- Some of them that are made alike are each made so.

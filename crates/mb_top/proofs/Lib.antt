@@ -9,6 +9,7 @@ pub mod Answered
 pub mod Summaries
 pub mod SoakLaws
 pub mod Doing
+pub mod Ending
 pub mod Blamed
 pub mod Learnt
 pub mod Rerun

@@ -3,8 +3,7 @@ use Rattle.std.proofs.Common.{◌≡◌, ℕ, List, [], ◌∷◌, subst}
 use Rattle.mb_base.specs.Shapes.{Bytes}
 use Rattle.mb_journal.specs.Headers.{header_text}
 use Rattle.mb_kv.specs.Pairs.{Pairs}
-use Rattle.mb_kv.specs.Operations.{after, answer}
-use Rattle.mb_kv.specs.Snapshots.{part_of, restored}
+use Rattle.mb_kv.specs.Machine.{kv_machine}
 use Rattle.mb_cache.specs.Represents.{machine_of, snapshots_of}
 use Rattle.mb_model.specs.Histories.{Identity}
 use Rattle.mb_restart.specs.Runs.{Run, AreRuns}
@@ -14,7 +13,7 @@ use Rattle.mb_top.specs.Reruns.{HostsAreOne, NodesAreInWorlds}
 
 pub hosts_are_one : HostsAreOne
 hosts_are_one c s h shape secret =
-    λ i. record { shape = shape i; host = h; secret = secret i; machine = machine_of after answer; snapshots = snapshots_of part_of restored; initial = [] }
+    λ i. record { shape = shape i; host = h; secret = secret i; machine = machine_of kv_machine; snapshots = snapshots_of kv_machine; initial = [] }
 
 pub nodes_are_in_worlds : NodesAreInWorlds
 nodes_are_in_worlds c s h k made last runs shape secret correct are came_is =

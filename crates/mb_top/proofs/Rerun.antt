@@ -12,18 +12,18 @@ use Rattle.mb_journal.specs.Opening.{StaysWhole}
 use Rattle.mb_journal.proofs.Crashes.{leaves_same}
 use Rattle.mb_node.specs.declared.stops.ServeStop.{ServeStop}
 use Rattle.mb_node.specs.Events.{left_by, events}
-use Rattle.mb_node.specs.Outside.{Outside}
+use Rattle.mb_node.specs.Outside.{Outside, outside}
 use Rattle.mb_node.specs.Serving.{Ends}
 use Rattle.mb_node.specs.Keeping.{EndsKept}
 use Rattle.mb_restart.specs.Servings.{EndsRun}
 use Rattle.mb_restart.proofs.Served.{ends_run}
 use Rattle.mb_sched.specs.declared.configs.Config.{Config}
 use Rattle.mb_answer.specs.Configs.{used, unused}
-use Rattle.mb_answer.specs.Devices.{Device, LinkState}
+use Rattle.mb_edge.specs.Seen.{Device, LinkState, DiskState}
 use Rattle.mb_answer.proofs.ConfigLaws.{same_config}
-use Rattle.mb_serving.specs.Nodes.{outside, served_status, IsUnbegun, headless, unopened}
+use Rattle.mb_serving.specs.Nodes.{served_status, IsUnbegun, headless, unopened}
 use Rattle.mb_serving.specs.Records.{host_of}
-use Rattle.mb_serving.specs.Journals.{DiskState, IsOpen, ServesOn, ServesBehind, served, unbegun, ServesKept, opened, bad, unread, no_host, KeptNodes}
+use Rattle.mb_serving.specs.Journals.{IsOpen, ServesOn, ServesMore, served, unbegun, ServesKept, opened, bad, unread, no_host, KeptNodes}
 use Rattle.mb_top.specs.Reruns.{KeepsFile, IsRerun, IsUnsent, Reruns}
 
 -- where a host stands to which these events came
@@ -67,7 +67,7 @@ module _ (c : Config) (host : ℕ) where
         }
 
     behind : (kept : List Event) (journal : JournalState) (budget status : ℕ) (sink sink' : Device) (between : DiskState) → IsOpen c host kept journal before between
-        → ServesBehind c host kept journal budget status sink sink' l l' between after' → IsRerun c host status l l' old after' ⊎ IsUnsent c host l l' old after'
+        → ServesMore c host kept journal budget status sink sink' l l' between after' → IsRerun c host status l l' old after' ⊎ IsUnsent c host l l' old after'
     behind kept journal budget status sink sink' between is_open (served journal' ended is on) = inl (is_rerun kept journal journal' budget status ended is sink sink' between is_open on)
     behind kept journal budget status sink sink' between is_open (unbegun is same) = inr (record {
       unsent = unbegun_sends _ status sink sink' l l' is;

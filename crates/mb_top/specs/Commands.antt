@@ -1,5 +1,5 @@
 -- What the words of a command ask for.
-use Rattle.std.specs.Prelude.{◌-◌, ◌^◌, ◌≤◌, Bool, true, false, List, [], ◌∷◌, Option, Some, None, if◌then◌else◌}
+use Rattle.std.specs.Prelude.{◌≡◌, ◌-◌, ◌^◌, ◌≤◌, List, [], ◌∷◌, map, Option, Some, None, if◌then◌else◌, String, string_bytes}
 use Rattle.mb_base.specs.Shapes.{Bytes}
 use Rattle.mb_sched.specs.Words.{◌>>=◌, is, number_in}
 use Rattle.mb_top.specs.declared.command.Command.{Command}
@@ -55,6 +55,14 @@ command_of (name ∷ first ∷ second ∷ []) = if is "soak" name then soak_of f
 command_of (name ∷ host ∷ events ∷ path ∷ []) = with_path_of name host events
 command_of _ = None
 
+-- what the program's words ask for
+abbrev pub asked : {Z : Type 0} → List (String Z) → Option Command
+asked words = command_of (map string_bytes words)
+
+-- They ask for this.
+abbrev pub Asks : {Z : Type 0} → List (String Z) → Command → Type 0
+Asks words command = asked words ≡ Some command
+
 -- Its numbers are within their limits.
 abbrev pub IsWithin : Command → Type 0
 IsWithin Replay = Unit {0}
@@ -66,8 +74,3 @@ IsWithin Retrace = Unit {0}
 IsWithin (Cluster n) = (1 ≤ n) × (n ≤ 1000000)
 IsWithin (Audit h) = h ≤ 6
 IsWithin Learn = Unit {0}
-
--- It reads a text.
-abbrev pub reads : Command → Bool
-reads (Soak seed n) = false
-reads _ = true

@@ -9,11 +9,12 @@ use Rattle.mb_sched.specs.Records.{max_record}
 use Rattle.mb_top.specs.declared.command.Command.{Command}
 use Rattle.mb_top.specs.declared.command.Command.TheVariants.{Replay, Soak, Node, KeptNode, Journal, Retrace, Cluster, Audit, Learn}
 use Rattle.mb_answer.specs.Clusters.{StayIdle, Clusters, cluster_statuses}
-use Rattle.mb_answer.specs.Devices.{Device, Devices, Says}
+use Rattle.mb_edge.specs.Seen.{Device, LinkState, DiskState}
+use Rattle.mb_answer.specs.Devices.{Devices, Says}
 use Rattle.mb_top.specs.Responses.{Replays, Soaks}
 use Rattle.mb_serving.specs.Records.{Retraces, retrace_statuses}
 use Rattle.mb_serving.specs.Nodes.{Nodes, node_statuses}
-use Rattle.mb_serving.specs.Journals.{DiskState, KeptNodes, MakesBy, IsServedKept, kept_node_statuses, making_statuses}
+use Rattle.mb_serving.specs.Journals.{KeptNodes, MakesBy, IsServedKept, kept_node_statuses, making_statuses}
 use Rattle.mb_reviewing.specs.Audits.{Audits, audit_statuses, audit_findings}
 use Rattle.mb_reviewing.specs.Learning.{LearnsFrom, learn_statuses, learn_findings}
 use Rattle.mb_answer.specs.Texts.{usage_text}
@@ -73,22 +74,9 @@ Does (Some (Cluster n)) status old new = DoesWith (λ text. Clusters text n stat
 Does (Some (Audit host)) status old new = DoesWithRecord (λ text. Audits text host status old.source new.source old.sink new.sink) audit_findings status old.source new.source × StayIdle old new
 Does (Some Learn) status old new = DoesWithRecord (λ text. LearnsFrom text status old.source new.source old.sink new.sink) learn_findings status old.source new.source × StayIdle old new
 
--- Only a node and a cluster use the link, and only a cluster the spawner.
-abbrev pub IsIdle : Option Command → Devices → Devices → Type 0
-IsIdle (Some (Cluster n)) old new = Unit {0}
-IsIdle (Some (Node host n)) old new = old.spawner ≡ new.spawner
-IsIdle (Some (KeptNode host n)) old new = old.spawner ≡ new.spawner
-IsIdle _ old new = StayIdle old new
-
 -- What each command does at the disk, with the text that the source tells. Only a node with a journal and the making of one use it.
-abbrev pub DoesAtDisk : Option Command → ℕ → Devices → Devices → DiskState → DiskState → Type 0
-DoesAtDisk (Some (KeptNode host n)) status old new disk disk' =
-    IfSome old.source.bytes (λ text. KeptNodes text host n status old.source new.source old.sink new.sink old.link new.link disk disk'
-    × IsServedKept text host status disk (Rose old.source.faults new.source.faults ⊎ (Rose old.sink.faults new.sink.faults ⊎ (Rose old.link.faults new.link.faults ⊎ Rose disk.faults disk'.faults))))
-DoesAtDisk (Some (Journal host)) status old new disk disk' = IfSome old.source.bytes (λ text. MakesBy text host status old.source new.source old.sink new.sink disk disk')
-DoesAtDisk _ status old new disk disk' = disk ≡ disk'
-
-abbrev pub IsDiskIdle : Option Command → DiskState → DiskState → Type 0
-IsDiskIdle (Some (KeptNode host n)) disk disk' = Unit {0}
-IsDiskIdle (Some (Journal host)) disk disk' = Unit {0}
-IsDiskIdle _ disk disk' = disk ≡ disk'
+abbrev pub DoesAtDisk : Option Command → ℕ → Device → Device → Device → Device → LinkState → LinkState → DiskState → DiskState → Type 0
+DoesAtDisk (Some (KeptNode host n)) status source source' sink sink' link link' disk disk' = IfSome source.bytes (λ text. KeptNodes text host n status source source' sink sink' link link' disk disk'
+    × IsServedKept text host status disk (Rose source.faults source'.faults ⊎ (Rose sink.faults sink'.faults ⊎ (Rose link.faults link'.faults ⊎ Rose disk.faults disk'.faults))))
+DoesAtDisk (Some (Journal host)) status source source' sink sink' link link' disk disk' = IfSome source.bytes (λ text. MakesBy text host status source source' sink sink' disk disk')
+DoesAtDisk _ status source source' sink sink' link link' disk disk' = disk ≡ disk'

@@ -9,7 +9,7 @@ use Rattle.mb_sched.specs.declared.records.Record.{Record}
 use Rattle.mb_world_model.specs.Hashed.{HashesApart}
 use Rattle.mb_world_model.specs.Stops.{IsUnstopped}
 use Rattle.mb_world_model.specs.World.{World}
-use Rattle.mb_answer.specs.Devices.{Device}
+use Rattle.mb_edge.specs.Seen.{Device}
 use Rattle.mb_reviewing.specs.Given.{given_in}
 use Rattle.mb_reviewing.specs.Learning.{LearntInTurn, learnt_text, state_behind}
 use Rattle.mb_learned.specs.Learned.{BeginsWith, IsCommittedAt, strings}

@@ -6,6 +6,7 @@ pub mod Soaks
 pub mod Responses
 pub mod Outcomes
 pub mod Doings
+pub mod Ends
 pub mod Blames
 pub mod Histories
 pub mod Reruns

@@ -14,10 +14,10 @@ use Rattle.mb_schedule.specs.declared.schedule.Schedule.{Schedule}
 use Rattle.mb_world_model.specs.World.{self_of}
 use Rattle.mb_world_model.specs.WorldEvents.{IsCorrect}
 use Rattle.mb_answer.specs.Configs.{IsConfigText}
-use Rattle.mb_answer.specs.Devices.{LinkState}
+use Rattle.mb_edge.specs.Seen.{LinkState, DiskState}
 use Rattle.mb_serving.specs.Nodes.{served_status, HasListened}
 use Rattle.mb_serving.specs.Records.{host_of}
-use Rattle.mb_serving.specs.Journals.{DiskState, start_of}
+use Rattle.mb_serving.specs.Journals.{start_of}
 use Rattle.mb_restart.specs.Runs.{Run, events_of, AreRuns}
 use Rattle.mb_restart.specs.Restarts.{came, AreInWorld}
 use Rattle.mb_restart.specs.Servings.{EndsRun}

@@ -1,7 +1,8 @@
 -- What is answered to a schedule, and to a soak.
 use Rattle.std.specs.Prelude.{◌≡◌, ℕ}
 use Rattle.mb_base.specs.Shapes.{Bytes}
-use Rattle.mb_answer.specs.Devices.{Device, Says, Responds}
+use Rattle.mb_edge.specs.Seen.{Device}
+use Rattle.mb_answer.specs.Devices.{Says, Responds}
 use Rattle.mb_top.specs.Answers.{Answers}
 use Rattle.mb_top.specs.Soaks.{soak_text}
 

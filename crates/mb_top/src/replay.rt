@@ -2,7 +2,7 @@
 
 ghost use Rattle.std.specs.Prelude.{◌≡◌, ◌+◌, [], false, replicate, Contains, IfOk, IfSome};
 ghost use Rattle.std.specs.Io.KnownBytes.{IsAtEnd};
-ghost use Rattle.mb_answer.specs.Devices.{device, IsLow};
+ghost use Rattle.mb_answer.specs.Devices.{IsLow};
 ghost use Rattle.mb_edge.specs.Faults.{TellsFaults};
 ghost use Rattle.mb_edge.specs.Pieces.{ConsumesBetween};
 ghost use Rattle.mb_schedule.specs.Limits.{IsSchedule};
@@ -173,14 +173,14 @@ fn answer_to(alloc: Global, text: &[u8]) -> Result<Answer, NoMemory>
 
 /// Reads a schedule, and writes the answer to it.
 pub(crate) fn replay<S: Source, K: Sink>(alloc: Global, source: &mut S, sink: &mut K) -> u8
-    ensures told { IfSome (S.left source.old) (λ text. Replays text result (device (S.left source.old) (S.faults source.old)) (device (S.left source.new) (S.faults source.new))
-        (device (K.written sink.old) (K.faults sink.old)) (device (K.written sink.new) (K.faults sink.new))) }
-    ensures ended { result ≡ 0 → IsAtEnd (S.left source.new) }
-    ensures limit { ConsumesBetween 0 (max_text + 1) (S.left source.old) (S.left source.new) }
+    ensures told { IfSome (S.seen source.old).bytes (λ text. Replays text result (S.seen source.old) (S.seen source.new)
+        (K.seen sink.old) (K.seen sink.new)) }
+    ensures ended { result ≡ 0 → IsAtEnd (S.seen source.new).bytes }
+    ensures limit { ConsumesBetween 0 (max_text + 1) (S.seen source.old).bytes (S.seen source.new).bytes }
     ensures low { IsLow result }
     ensures statuses { Contains replay_statuses result }
-    ensures source { TellsFaults (S.never_fails source.old) (S.never_fails source.new) (S.faults source.old) (S.faults source.new) (result ≡ 5) }
-    ensures sink { TellsFaults (K.never_fails sink.old) (K.never_fails sink.new) (K.faults sink.old) (K.faults sink.new) (result ≡ 6) }
+    ensures source { TellsFaults (S.never_fails source.old) (S.never_fails source.new) (S.seen source.old).faults (S.seen source.new).faults (result ≡ 5) }
+    ensures sink { TellsFaults (K.never_fails sink.old) (K.never_fails sink.new) (K.seen sink.old).faults (K.seen sink.new).faults (result ≡ 6) }
 {
     match read_all(alloc, MAX_TEXT, source) {
         Ok(text) => respond(sink, answer_to(alloc, &text)),

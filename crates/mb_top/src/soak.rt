@@ -8,7 +8,7 @@ ghost use Rattle.mb_world_model.specs.World.{World as WorldState, System, nothin
 ghost use Rattle.mb_world.specs.Tables.{RepresentsWorld};
 ghost use Rattle.mb_world.specs.declared.seen.WorldStop.TheVariants as stop;
 ghost use Rattle.mb_edge.specs.Faults.{TellsFaults};
-ghost use Rattle.mb_answer.specs.Devices.{device, IsLow};
+ghost use Rattle.mb_answer.specs.Devices.{IsLow};
 ghost use Rattle.mb_top.specs.Responses.{Soaks};
 ghost use Rattle.mb_top.specs.Systems.{system_of, world};
 ghost use Rattle.mb_top.specs.Soaks.{soak_shape, soak_of, summed_up, summary_text, soak_text};
@@ -198,10 +198,10 @@ fn answer_soak(alloc: Global, seed: u64, events: u64) -> Result<Answer, NoMemory
 /// Runs drawn events, and writes the line that sums them up.
 pub(crate) fn soak<K: Sink>(alloc: Global, seed: u64, events: u64, sink: &mut K) -> u8
     requires { events ≤ 100000 }
-    ensures told { Soaks seed events result (device (K.written sink.old) (K.faults sink.old)) (device (K.written sink.new) (K.faults sink.new)) }
+    ensures told { Soaks seed events result (K.seen sink.old) (K.seen sink.new) }
     ensures low { IsLow result }
     ensures unread { ¬ (result ≡ 5) }
-    ensures sink { TellsFaults (K.never_fails sink.old) (K.never_fails sink.new) (K.faults sink.old) (K.faults sink.new) (result ≡ 6) }
+    ensures sink { TellsFaults (K.never_fails sink.old) (K.never_fails sink.new) (K.seen sink.old).faults (K.seen sink.new).faults (result ≡ 6) }
 {
     respond(sink, answer_soak(alloc, seed, events))
 }

@@ -1,37 +1,19 @@
 //! The call that `main` makes: the whole program, over any source, sink, link, spawner and disk.
 
-ghost use Rattle.std.specs.Prelude.{◌≡◌, ℕ, ◌≤◌, ◌<◌, ◌⊎◌, true, length, map, string_bytes, Option, Some, None, Contains, IfSome};
+ghost use Rattle.std.specs.Prelude.{◌≡◌, ℕ, ◌≤◌, length, Contains, IfSome};
 ghost use Rattle.std.specs.Io.KnownBytes.{IsAtEnd};
-ghost use Rattle.mb_base.specs.Shapes.{Bytes};
-ghost use Rattle.mb_edge.specs.Faults.{Rose, TellsFaults};
+ghost use Rattle.mb_edge.specs.Faults.{TellsFaults};
 ghost use Rattle.mb_edge.specs.Pieces.{ConsumesBetween};
-ghost use Rattle.mb_schedule.specs.declared.schedule.Schedule.{Schedule};
-ghost use Rattle.mb_sched.specs.Schedules.{IsScheduleText};
-ghost use Rattle.mb_sched.specs.declared.records.Record.{Record};
-ghost use Rattle.mb_world_model.specs.Hashed.{HashesApart};
-ghost use Rattle.mb_promise.specs.Headline.{Promises};
-ghost use Rattle.mb_top.specs.Commands.{command_of, IsWithin, reads};
-ghost use Rattle.mb_answer.specs.Texts.{usage_text};
-ghost use Rattle.mb_answer.specs.Records.{IsRecordText};
-ghost use Rattle.mb_top.specs.Systems.{system_of, world};
-ghost use Rattle.mb_top.specs.Runs.{AreUnstopped};
-ghost use Rattle.mb_top.specs.Answers.{IsFirstForged};
-ghost use Rattle.mb_answer.specs.Devices.{device, link_state, spawner_state, devices, Says};
-ghost use Rattle.mb_top.specs.Responses.{Replays, Soaks};
-ghost use Rattle.mb_serving.specs.Written.{RetracesLeft};
-ghost use Rattle.mb_serving.specs.Records.{Retraces, IsRetraced};
+ghost use Rattle.mb_answer.specs.Devices.{edge};
+ghost use Rattle.mb_answer.specs.Clusters.{TellsStops, AwaitsNodes, TellsBadEnds};
+ghost use Rattle.mb_top.specs.Commands.{asked, Asks, IsWithin};
+ghost use Rattle.mb_top.specs.Doings.{Does, DoesAtDisk, most_read, statuses};
+ghost use Rattle.mb_top.specs.Ends.{Ends};
+ghost use Rattle.mb_top.specs.Outcomes.{ReportsOn, TellsForged, WithSchedule, WithRecord, HoldsWhere, HoldsSoFar, HoldsBeforeForged};
 ghost use Rattle.mb_top.specs.Soaks.{soak_of};
-ghost use Rattle.mb_serving.specs.Nodes.{Nodes, IsServed};
-ghost use Rattle.mb_serving.specs.Journals.{disk_state, MakesBy, KeptNodes, IsServedKept};
-ghost use Rattle.mb_reviewing.specs.Audits.{Audits, IsAudited, audit_findings};
-ghost use Rattle.mb_reviewing.specs.Learning.{LearnsFrom, IsLearntFrom, learn_findings};
-ghost use Rattle.mb_cluster.specs.Nodes.{spawned};
-ghost use Rattle.mb_answer.specs.Clusters.{Clusters, TellsToStop, AwaitsStarted, TellsBadEnds, IsRun};
-ghost use Rattle.mb_top.specs.Outcomes.{ReportsOn, TellsForged, IsComplete};
 ghost use Rattle.mb_top.specs.Blames.{ConvictsRightly, TellsDisorder};
 ghost use Rattle.mb_top.specs.Histories.{LearnsTheLine};
 ghost use Rattle.mb_top.specs.Reruns.{Reruns};
-ghost use Rattle.mb_top.specs.Doings.{Does, DoesAtDisk, IsIdle, IsDiskIdle, most_read, statuses};
 
 use crate::command::{Command, command_in, path_in};
 use crate::replay::replay;
@@ -54,29 +36,18 @@ fn run<S: Source, K: Sink, L: Link, P: Spawner, D: Disk>(
     disk: &mut D,
 ) -> u8
     requires { IfSome command IsWithin }
-    ensures does { Does command result
-        (devices (device (S.left source.old) (S.faults source.old)) (device (K.written sink.old) (K.faults sink.old)) (link_state (L.received link.old) (L.sent link.old) (L.opens link.old) (L.faults link.old))
-        (spawner_state (P.starts spawner.old) (P.waits spawner.old) (P.faults spawner.old) (P.bad_ends spawner.old)))
-        (devices (device (S.left source.new) (S.faults source.new)) (device (K.written sink.new) (K.faults sink.new)) (link_state (L.received link.new) (L.sent link.new) (L.opens link.new) (L.faults link.new))
-        (spawner_state (P.starts spawner.new) (P.waits spawner.new) (P.faults spawner.new) (P.bad_ends spawner.new))) }
-    ensures at_disk { DoesAtDisk command result
-        (devices (device (S.left source.old) (S.faults source.old)) (device (K.written sink.old) (K.faults sink.old)) (link_state (L.received link.old) (L.sent link.old) (L.opens link.old) (L.faults link.old))
-        (spawner_state (P.starts spawner.old) (P.waits spawner.old) (P.faults spawner.old) (P.bad_ends spawner.old)))
-        (devices (device (S.left source.new) (S.faults source.new)) (device (K.written sink.new) (K.faults sink.new)) (link_state (L.received link.new) (L.sent link.new) (L.opens link.new) (L.faults link.new))
-        (spawner_state (P.starts spawner.new) (P.waits spawner.new) (P.faults spawner.new) (P.bad_ends spawner.new)))
-        (disk_state (D.moments disk.old) (D.faults disk.old)) (disk_state (D.moments disk.new) (D.faults disk.new)) }
+    ensures does { Does command result (edge (S.seen source.old) (K.seen sink.old) (L.seen link.old) (P.seen spawner.old)) (edge (S.seen source.new) (K.seen sink.new) (L.seen link.new) (P.seen spawner.new)) }
+    ensures at_disk { DoesAtDisk command result (S.seen source.old) (S.seen source.new) (K.seen sink.old) (K.seen sink.new) (L.seen link.old) (L.seen link.new) (D.seen disk.old) (D.seen disk.new) }
     ensures statuses { Contains (statuses command) result }
-    ensures disk { TellsFaults (D.never_fails disk.old) (D.never_fails disk.new) (D.faults disk.old) (D.faults disk.new) (result ≡ 14) }
-    ensures limit { ConsumesBetween 0 (most_read command) (S.left source.old) (S.left source.new) }
-    ensures source { TellsFaults (S.never_fails source.old) (S.never_fails source.new) (S.faults source.old) (S.faults source.new) (result ≡ 5) }
-    ensures sink { TellsFaults (K.never_fails sink.old) (K.never_fails sink.new) (K.faults sink.old) (K.faults sink.new) (result ≡ 6) }
-    ensures link { TellsFaults (L.never_fails link.old) (L.never_fails link.new) (L.faults link.old) (L.faults link.new) (result ≡ 7) }
-    ensures spawner { TellsFaults (P.never_fails spawner.old) (P.never_fails spawner.new) (P.faults spawner.old) (P.faults spawner.new) (result ≡ 8) }
-    ensures bad_ends { TellsBadEnds (P.all_end_well spawner.old) (P.bad_ends spawner.old) (P.bad_ends spawner.new) (result ≡ 18) }
-    ensures stops { L.sends_without_memory
-        → TellsToStop (S.left source.old) (spawned (P.starts spawner.old) (P.waits spawner.old)) (spawned (P.starts spawner.new) (P.waits spawner.new)) (L.faults link.old) (L.faults link.new) (L.sent link.old) (L.sent link.new) }
-    ensures waits { P.waits_without_memory
-        → AwaitsStarted (S.left source.old) (P.faults spawner.old) (P.faults spawner.new) (spawned (P.starts spawner.old) (P.waits spawner.old)) (spawned (P.starts spawner.new) (P.waits spawner.new)) }
+    ensures disk { TellsFaults (D.never_fails disk.old) (D.never_fails disk.new) (D.seen disk.old).faults (D.seen disk.new).faults (result ≡ 14) }
+    ensures limit { ConsumesBetween 0 (most_read command) (S.seen source.old).bytes (S.seen source.new).bytes }
+    ensures source { TellsFaults (S.never_fails source.old) (S.never_fails source.new) (S.seen source.old).faults (S.seen source.new).faults (result ≡ 5) }
+    ensures sink { TellsFaults (K.never_fails sink.old) (K.never_fails sink.new) (K.seen sink.old).faults (K.seen sink.new).faults (result ≡ 6) }
+    ensures link { TellsFaults (L.never_fails link.old) (L.never_fails link.new) (L.seen link.old).faults (L.seen link.new).faults (result ≡ 7) }
+    ensures spawner { TellsFaults (P.never_fails spawner.old) (P.never_fails spawner.new) (P.seen spawner.old).faults (P.seen spawner.new).faults (result ≡ 8) }
+    ensures bad_ends { TellsBadEnds (P.all_end_well spawner.old) (P.seen spawner.old).bad_ends (P.seen spawner.new).bad_ends (result ≡ 18) }
+    ensures stops { L.sends_without_memory → TellsStops (S.seen source.old) (P.seen spawner.old) (P.seen spawner.new) (L.seen link.old) (L.seen link.new) }
+    ensures waits { P.waits_without_memory → AwaitsNodes (S.seen source.old) (P.seen spawner.old) (P.seen spawner.new) }
 {
     match command {
         Some(Command::Replay) => replay(alloc, source, sink),
@@ -112,153 +83,74 @@ pub fn minbft<S: Source, K: Sink, L: Link, P: Spawner, D: Disk>(
     spawner: &mut P,
     disk: &mut D,
 ) -> u8
-    // At status 0 the source was read to its end, its bytes are the text of a schedule, nothing stood in the way of any of its events, and the
-    // report after all of them was written.
-    ensures report { command_of (map string_bytes words.now) ≡ Some Command.Replay → result ≡ 0
-        → IsAtEnd (S.left source.new) × IfSome (S.left source.old) (λ text. ReportsOn text (K.written sink.old) (K.written sink.new)) }
+    // What the words ask for is done with the text that the source tells, and a word that reads has read it to its end at status 0, or where a finding is told.
+    // Only a node and a cluster use the link, and only a cluster the spawner.
+    //
+    // With the word `replay` each answer has its cause in the text or in a device. With `soak`, a seed and a number: so many events, each drawn as the world
+    // stands before it, and the line that sums up the world behind them. With `retrace`: `same` comes where each entry is that of its host's own step, and
+    // `differs` at the first that isn't. With `node`, a host and a number: that host of the config's system serves, for at most so many receives; its events
+    // are those of what was received, none left out, the record has the entry of each, and what each sends was sent; it ends by a right STOP, at its last
+    // receive, or where a device fails. With `cluster` and a number: a node of each host is started, and then each operation is asked, with at most so many
+    // receives; each result that is written rests on the replies of f+1 different hosts. With `audit` and a host: the verdict is that on the host's stamps in all
+    // that the record's host was given. With `learn`: the history is one that is proved by what the record's host was given, or hosts say that their states
+    // differ from it. Other words are told how the program is used.
+    ensures does { Does (asked words.now) result (edge (S.seen source.old) (K.seen sink.old) (L.seen link.old) (P.seen spawner.old)) (edge (S.seen source.new) (K.seen sink.new) (L.seen link.new) (P.seen spawner.new)) }
+    // With the word `journal`, a host and a path: a journal of that host of the config's system is made in a file without bytes. With `node`, a host, a number
+    // and the path of its journal: that host goes on where the events of the journal lead, whose entries its record begins with. Each event that follows is kept
+    // in the journal before it is acted on, so that a crash at any moment leaves a journal of the acknowledged ones in their order, with the next one or without
+    // it. No other word uses the disk.
+    ensures at_disk { DoesAtDisk (asked words.now) result (S.seen source.old) (S.seen source.new) (K.seen sink.old) (K.seen sink.new) (L.seen link.old) (L.seen link.new) (D.seen disk.old) (D.seen disk.new) }
+    // Each command has its statuses, whatever the source tells.
+    ensures statuses { Contains (statuses (asked words.now)) result }
+    // Where no device fails it comes to one of its ends, unless memory runs out.
+    ensures ends { Ends (asked words.now) result (edge (S.seen source.old) (K.seen sink.old) (L.seen link.old) (P.seen spawner.old)) (edge (S.seen source.new) (K.seen sink.new) (L.seen link.new) (P.seen spawner.new)) }
+    // At status 0 of the word `replay` the source was read to its end, its bytes are the text of a schedule, nothing stood in the way of any of its events, and
+    // the report after all of them was written.
+    ensures report { Asks words.now Command.Replay → result ≡ 0
+        → IsAtEnd (S.seen source.new).bytes × IfSome (S.seen source.old).bytes (λ text. ReportsOn text (K.seen sink.old).bytes (K.seen sink.new).bytes) }
     // Whoever is faulty, and whatever is lost, repeated and reordered: after each event, if no two of the strings that were hashed so far share
     // a digest, views agree, correct hosts have executed beginnings of one list, accepted results are the service's there, and all the rest
     // that is promised holds.
-    ensures history { command_of (map string_bytes words.now) ≡ Some Command.Replay → result ≡ 0
-        → (text : Bytes) (s : Schedule) → S.left source.old ≡ Some text → IsScheduleText text s
-        → (k : ℕ) → k ≤ length s.events → HashesApart (world s k).hashed → Promises (system_of s) (world s k) }
+    ensures history { Asks words.now Command.Replay → result ≡ 0 → WithSchedule (S.seen source.old).bytes (λ s. HoldsWhere (λ k. k ≤ length s.events) s) }
     // Whatever the status, also where memory runs out or the sink fails: behind events none of which something stood in the way of, the same holds.
-    ensures history_so_far { command_of (map string_bytes words.now) ≡ Some Command.Replay
-        → (text : Bytes) (s : Schedule) → S.left source.old ≡ Some text → IsScheduleText text s
-        → (k : ℕ) → k ≤ length s.events → AreUnstopped s k → HashesApart (world s k).hashed → Promises (system_of s) (world s k) }
+    ensures history_so_far { Asks words.now Command.Replay → WithSchedule (S.seen source.old).bytes HoldsSoFar }
     // At status 3 the first event that something stands in the way of delivers what is forged, and it was told. Up to it the same holds.
-    ensures forged { command_of (map string_bytes words.now) ≡ Some Command.Replay → result ≡ 3
-        → IfSome (S.left source.old) (λ text. TellsForged text (K.written sink.old) (K.written sink.new)) }
-    ensures history_before { command_of (map string_bytes words.now) ≡ Some Command.Replay → result ≡ 3
-        → (text : Bytes) (s : Schedule) (e : ℕ) → S.left source.old ≡ Some text → IsScheduleText text s → IsFirstForged s e
-        → (k : ℕ) → k < e → HashesApart (world s k).hashed → Promises (system_of s) (world s k) }
-    // Each answer to a text has its cause in the text or in a device.
-    ensures replay { command_of (map string_bytes words.now) ≡ Some Command.Replay
-        → IfSome (S.left source.old) (λ text. Replays text result (device (S.left source.old) (S.faults source.old)) (device (S.left source.new) (S.faults source.new))
-        (device (K.written sink.old) (K.faults sink.old)) (device (K.written sink.new) (K.faults sink.new))) }
-    ensures complete { command_of (map string_bytes words.now) ≡ Some Command.Replay
-        → IfSome (S.left source.old) (λ text. IsComplete text result (Rose (S.faults source.old) (S.faults source.new) ⊎ Rose (K.faults sink.old) (K.faults sink.new))) }
-    // With the word `soak`, a seed and a number: so many events, each drawn as the world stands before it, and the line that sums up the world
-    // behind them; or want of memory, or a fault of the sink. After each event the same holds.
-    ensures soak { (seed n : ℕ) → command_of (map string_bytes words.now) ≡ Some (Command.Soak seed n)
-        → Soaks seed n result (device (K.written sink.old) (K.faults sink.old)) (device (K.written sink.new) (K.faults sink.new)) }
-    ensures soak_history { (seed n : ℕ) → command_of (map string_bytes words.now) ≡ Some (Command.Soak seed n) → result ≡ 0
-        → (k : ℕ) → k ≤ n → HashesApart (world (soak_of seed n) k).hashed → Promises (system_of (soak_of seed n)) (world (soak_of seed n) k) }
-    // With the word `retrace` each answer to the text of a record has its cause in the text or in a device: `same` comes where each entry is that of
-    // its host's own step, and `differs` at the first that isn't.
-    ensures retrace { command_of (map string_bytes words.now) ≡ Some Command.Retrace
-        → IfSome (S.left source.old) (λ text. Retraces text result (device (S.left source.old) (S.faults source.old)) (device (S.left source.new) (S.faults source.new))
-        (device (K.written sink.old) (K.faults sink.old)) (device (K.written sink.new) (K.faults sink.new))) }
-    ensures retrace_complete { command_of (map string_bytes words.now) ≡ Some Command.Retrace
-        → IfSome (S.left source.old) (λ text. IsRetraced text result (Rose (S.faults source.old) (S.faults source.new) ⊎ Rose (K.faults sink.old) (K.faults sink.new))) }
-    // So it is with what a node left, however it ended: a record that was cut off anywhere behind its first lines is answered by `same` and how many of the
-    // node's events have whole pairs of lines in it, unless memory runs out or a device fails.
-    ensures retrace_left { command_of (map string_bytes words.now) ≡ Some Command.Retrace
-        → IfSome (S.left source.old) (λ text. RetracesLeft text result (Rose (S.faults source.old) (S.faults source.new) ⊎ Rose (K.faults sink.old) (K.faults sink.new))
-        (device (K.written sink.old) (K.faults sink.old)) (device (K.written sink.new) (K.faults sink.new))) }
-    // The other words.
-    ensures usage { command_of (map string_bytes words.now) ≡ None → Says 1 usage_text result (device (K.written sink.old) (K.faults sink.old)) (device (K.written sink.new) (K.faults sink.new)) }
-    // With the word `node`, a host and a number: that host of the config's system serves, for at most so many receives. Its events are those of what
-    // was received, none left out; the record has the entry of each; what each sends was sent. It ends by a right STOP, at its last receive, or
-    // where a device fails; or there is no such host, or no config.
-    ensures node { (host n : ℕ) → command_of (map string_bytes words.now) ≡ Some (Command.Node host n)
-        → IfSome (S.left source.old) (λ text. Nodes text host n result (device (S.left source.old) (S.faults source.old)) (device (S.left source.new) (S.faults source.new))
-        (device (K.written sink.old) (K.faults sink.old)) (device (K.written sink.new) (K.faults sink.new))
-        (link_state (L.received link.old) (L.sent link.old) (L.opens link.old) (L.faults link.old)) (link_state (L.received link.new) (L.sent link.new) (L.opens link.new) (L.faults link.new))) }
-    ensures node_complete { (host n : ℕ) → command_of (map string_bytes words.now) ≡ Some (Command.Node host n)
-        → IfSome (S.left source.old) (λ text. IsServed text host result (Rose (S.faults source.old) (S.faults source.new) ⊎ (Rose (K.faults sink.old) (K.faults sink.new) ⊎ Rose (L.faults link.old) (L.faults link.new)))) }
-    // With the word `journal`, a host and a path: a journal of that host of the config's system is made in a file without bytes.
-    ensures journal { (host : ℕ) → command_of (map string_bytes words.now) ≡ Some (Command.Journal host)
-        → IfSome (S.left source.old) (λ text. MakesBy text host result (device (S.left source.old) (S.faults source.old)) (device (S.left source.new) (S.faults source.new))
-        (device (K.written sink.old) (K.faults sink.old)) (device (K.written sink.new) (K.faults sink.new))
-        (disk_state (D.moments disk.old) (D.faults disk.old)) (disk_state (D.moments disk.new) (D.faults disk.new))) }
-    // With the word `node`, a host, a number and the path of its journal: that host goes on where the events of the journal lead, whose entries its record
-    // begins with. Each event that follows is kept in the journal before it is acted on, so that a crash at any moment leaves a journal of the acknowledged
-    // ones in their order, with the next one or without it.
-    ensures kept_node { (host n : ℕ) → command_of (map string_bytes words.now) ≡ Some (Command.KeptNode host n)
-        → IfSome (S.left source.old) (λ text. KeptNodes text host n result (device (S.left source.old) (S.faults source.old)) (device (S.left source.new) (S.faults source.new))
-        (device (K.written sink.old) (K.faults sink.old)) (device (K.written sink.new) (K.faults sink.new))
-        (link_state (L.received link.old) (L.sent link.old) (L.opens link.old) (L.faults link.old)) (link_state (L.received link.new) (L.sent link.new) (L.opens link.new) (L.faults link.new))
-        (disk_state (D.moments disk.old) (D.faults disk.old)) (disk_state (D.moments disk.new) (D.faults disk.new))) }
-    ensures kept_node_complete { (host n : ℕ) → command_of (map string_bytes words.now) ≡ Some (Command.KeptNode host n)
-        → IfSome (S.left source.old) (λ text. IsServedKept text host result (disk_state (D.moments disk.old) (D.faults disk.old)) (Rose (S.faults source.old) (S.faults source.new)
-        ⊎ (Rose (K.faults sink.old) (K.faults sink.new) ⊎ (Rose (L.faults link.old) (L.faults link.new) ⊎ Rose (D.faults disk.old) (D.faults disk.new))))) }
-    // Where the disk tells what stands on it, that was a run of the host behind the events that the file said, with those of what was received. Whatever a
-    // crash leaves of the file, in the end or at a moment before, says the acknowledged events in their order, and behind them none but the one whose append
-    // had begun: at statuses 0 and 9 all in the end, and else all but perhaps the last one. What was sent is a first part of what acknowledged events send.
-    // Or nothing was sent, and the file kept its events. What follows of all runs together, `mb_restart` says, and of the host in a world
-    // `nodes_are_hosts_of_worlds`.
-    ensures kept_node_runs { (host n : ℕ) → command_of (map string_bytes words.now) ≡ Some (Command.KeptNode host n)
-        → IfSome (S.left source.old) (λ text. Reruns text host result
-        (link_state (L.received link.old) (L.sent link.old) (L.opens link.old) (L.faults link.old)) (link_state (L.received link.new) (L.sent link.new) (L.opens link.new) (L.faults link.new))
-        (disk_state (D.moments disk.old) (D.faults disk.old)) (disk_state (D.moments disk.new) (D.faults disk.new))) }
-    // With the word `cluster` and a number: a node of each host is started, and then each operation is asked, with at most so many receives. Each
-    // result that is written rests on the replies of f+1 different hosts.
-    ensures cluster { (n : ℕ) → command_of (map string_bytes words.now) ≡ Some (Command.Cluster n)
-        → IfSome (S.left source.old) (λ text. Clusters text n result
-        (devices (device (S.left source.old) (S.faults source.old)) (device (K.written sink.old) (K.faults sink.old)) (link_state (L.received link.old) (L.sent link.old) (L.opens link.old) (L.faults link.old))
-        (spawner_state (P.starts spawner.old) (P.waits spawner.old) (P.faults spawner.old) (P.bad_ends spawner.old)))
-        (devices (device (S.left source.new) (S.faults source.new)) (device (K.written sink.new) (K.faults sink.new)) (link_state (L.received link.new) (L.sent link.new) (L.opens link.new) (L.faults link.new))
-        (spawner_state (P.starts spawner.new) (P.waits spawner.new) (P.faults spawner.new) (P.bad_ends spawner.new)))) }
-    ensures cluster_complete { (n : ℕ) → command_of (map string_bytes words.now) ≡ Some (Command.Cluster n)
-        → IfSome (S.left source.old) (λ text. IsRun text result (Rose (S.faults source.old) (S.faults source.new) ⊎ (Rose (K.faults sink.old) (K.faults sink.new) ⊎ (Rose (L.faults link.old) (L.faults link.new)
-        ⊎ (Rose (P.faults spawner.old) (P.faults spawner.new) ⊎ Rose (P.bad_ends spawner.old) (P.bad_ends spawner.new)))))) }
-    // With the word `audit` and a host each answer to the text of a record has its cause in the text or in a device: the verdict is that on the host's
-    // stamps in all that the record's host was given.
-    ensures audit { (host : ℕ) → command_of (map string_bytes words.now) ≡ Some (Command.Audit host)
-        → IfSome (S.left source.old) (λ text. Audits text host result (device (S.left source.old) (S.faults source.old)) (device (S.left source.new) (S.faults source.new))
-        (device (K.written sink.old) (K.faults sink.old)) (device (K.written sink.new) (K.faults sink.new))) }
-    ensures audit_complete { (host : ℕ) → command_of (map string_bytes words.now) ≡ Some (Command.Audit host)
-        → IfSome (S.left source.old) (λ text. IsAudited text host result (Rose (S.faults source.old) (S.faults source.new) ⊎ Rose (K.faults sink.old) (K.faults sink.new))) }
-    // Where the record says what a correct host was given in a world in which nothing was forged, however many hosts are faulty there: at status 12 the host is
-    // faulty, and no host is found to have two messages at one counter.
-    ensures audit_blame { (host : ℕ) → command_of (map string_bytes words.now) ≡ Some (Command.Audit host)
-        → (text : Bytes) (r : Record) → S.left source.old ≡ Some text → IsRecordText text r → ConvictsRightly host result r }
+    ensures forged { Asks words.now Command.Replay → result ≡ 3 → IfSome (S.seen source.old).bytes (λ text. TellsForged text (K.seen sink.old).bytes (K.seen sink.new).bytes) }
+    ensures history_before { Asks words.now Command.Replay → result ≡ 3 → HoldsBeforeForged (S.seen source.old).bytes }
+    // After each event of a soak the same holds.
+    ensures soak_history { (seed n : ℕ) → Asks words.now (Command.Soak seed n) → result ≡ 0 → HoldsWhere (λ k. k ≤ n) (soak_of seed n) }
+    // Where the disk tells what stands on it, a node with a journal was a run of the host behind the events that the file said, with those of what was
+    // received. Whatever a crash leaves of the file, in the end or at a moment before, says the acknowledged events in their order, and behind them none but
+    // the one whose append had begun: at statuses 0 and 9 all in the end, and else all but perhaps the last one. What was sent is a first part of what
+    // acknowledged events send. Or nothing was sent, and the file kept its events. What follows of all runs together, `mb_restart` says, and of the host in a
+    // world `nodes_are_hosts_of_worlds`.
+    ensures kept_node_runs { (host n : ℕ) → Asks words.now (Command.KeptNode host n)
+        → IfSome (S.seen source.old).bytes (λ text. Reruns text host result (L.seen link.old) (L.seen link.new) (D.seen disk.old) (D.seen disk.new)) }
+    // Where the record says what a correct host was given in a world in which nothing was forged, however many hosts are faulty there: at status 12 of an audit
+    // the host is faulty, and no host is found to have two messages at one counter.
+    ensures audit_blame { (host : ℕ) → Asks words.now (Command.Audit host) → WithRecord (S.seen source.old).bytes (λ r. ConvictsRightly host result r) }
     // At status 12, whatever was forged, the text that was written tells a counter up to which the host's stamps, in all that the record's host was given, are
     // no list in order.
-    ensures audit_disorder { (host : ℕ) → command_of (map string_bytes words.now) ≡ Some (Command.Audit host) → result ≡ 12
-        → (text : Bytes) (r : Record) → S.left source.old ≡ Some text → IsRecordText text r → TellsDisorder host r (K.written sink.old) (K.written sink.new) }
-    ensures audit_ended { (host : ℕ) → command_of (map string_bytes words.now) ≡ Some (Command.Audit host) → Contains audit_findings result → IsAtEnd (S.left source.new) }
-    // With the word `learn` the history is one that is proved by what the record's host was given, or hosts say that their states differ from it.
-    ensures learn { command_of (map string_bytes words.now) ≡ Some Command.Learn
-        → IfSome (S.left source.old) (λ text. LearnsFrom text result (device (S.left source.old) (S.faults source.old)) (device (S.left source.new) (S.faults source.new))
-        (device (K.written sink.old) (K.faults sink.old)) (device (K.written sink.new) (K.faults sink.new))) }
-    ensures learn_complete { command_of (map string_bytes words.now) ≡ Some Command.Learn
-        → IfSome (S.left source.old) (λ text. IsLearntFrom text result (Rose (S.faults source.old) (S.faults source.new) ⊎ Rose (K.faults sink.old) (K.faults sink.new))) }
+    ensures audit_disorder { (host : ℕ) → Asks words.now (Command.Audit host) → result ≡ 12
+        → WithRecord (S.seen source.old).bytes (λ r. TellsDisorder host r (K.seen sink.old).bytes (K.seen sink.new).bytes) }
     // Where the record says what a correct host was given in a world of at most f faulty hosts, in which nothing was forged and no two of the strings share a
     // digest: each batch that is written is committed, the history that is written and that of the world are beginnings of one another, and no f+1 hosts say
     // that their states differ from it.
-    ensures learn_history { command_of (map string_bytes words.now) ≡ Some Command.Learn
-        → (text : Bytes) (r : Record) → S.left source.old ≡ Some text → IsRecordText text r → LearnsTheLine result r (device (K.written sink.old) (K.faults sink.old)) (device (K.written sink.new) (K.faults sink.new)) }
-    ensures learn_ended { command_of (map string_bytes words.now) ≡ Some Command.Learn → Contains learn_findings result → IsAtEnd (S.left source.new) }
+    ensures learn_history { Asks words.now Command.Learn → WithRecord (S.seen source.old).bytes (λ r. LearnsTheLine result r (K.seen sink.old) (K.seen sink.new)) }
     // However a cluster ends: where a node was started no more STOPs are missing than the link failed, and no more waits for the nodes that were started than
     // the spawner failed, unless a send or a wait may be refused memory.
-    ensures stops { L.sends_without_memory
-        → TellsToStop (S.left source.old) (spawned (P.starts spawner.old) (P.waits spawner.old)) (spawned (P.starts spawner.new) (P.waits spawner.new)) (L.faults link.old) (L.faults link.new) (L.sent link.old) (L.sent link.new) }
-    ensures waits { P.waits_without_memory
-        → AwaitsStarted (S.left source.old) (P.faults spawner.old) (P.faults spawner.new) (spawned (P.starts spawner.old) (P.waits spawner.old)) (spawned (P.starts spawner.new) (P.waits spawner.new)) }
-    // Each command has its statuses, whatever the source tells.
-    ensures statuses { Contains (statuses (command_of (map string_bytes words.now))) result }
-    // At status 0 of a word that reads, the source was read to its end.
-    ensures ended { IfSome (command_of (map string_bytes words.now)) (λ c. reads c ≡ true → result ≡ 0 → IsAtEnd (S.left source.new)) }
-    // Only a node and a cluster use the link, and only a cluster the spawner.
-    ensures idle { IsIdle (command_of (map string_bytes words.now))
-        (devices (device (S.left source.old) (S.faults source.old)) (device (K.written sink.old) (K.faults sink.old)) (link_state (L.received link.old) (L.sent link.old) (L.opens link.old) (L.faults link.old))
-        (spawner_state (P.starts spawner.old) (P.waits spawner.old) (P.faults spawner.old) (P.bad_ends spawner.old)))
-        (devices (device (S.left source.new) (S.faults source.new)) (device (K.written sink.new) (K.faults sink.new)) (link_state (L.received link.new) (L.sent link.new) (L.opens link.new) (L.faults link.new))
-        (spawner_state (P.starts spawner.new) (P.waits spawner.new) (P.faults spawner.new) (P.bad_ends spawner.new))) }
-    // Only a node with a journal and the making of one use the disk.
-    ensures disk_idle { IsDiskIdle (command_of (map string_bytes words.now)) (disk_state (D.moments disk.old) (D.faults disk.old)) (disk_state (D.moments disk.new) (D.faults disk.new)) }
+    ensures stops { L.sends_without_memory → TellsStops (S.seen source.old) (P.seen spawner.old) (P.seen spawner.new) (L.seen link.old) (L.seen link.new) }
+    ensures waits { P.waits_without_memory → AwaitsNodes (S.seen source.old) (P.seen spawner.old) (P.seen spawner.new) }
     // At most the bytes of the longest text and one more are taken from the source.
-    ensures limit { ConsumesBetween 0 (most_read (command_of (map string_bytes words.now))) (S.left source.old) (S.left source.new) }
+    ensures limit { ConsumesBetween 0 (most_read (asked words.now)) (S.seen source.old).bytes (S.seen source.new).bytes }
     // A device's status comes only where its count of faults rose, and never where the device is known not to fail.
-    ensures source_faults { TellsFaults (S.never_fails source.old) (S.never_fails source.new) (S.faults source.old) (S.faults source.new) (result ≡ 5) }
-    ensures sink_faults { TellsFaults (K.never_fails sink.old) (K.never_fails sink.new) (K.faults sink.old) (K.faults sink.new) (result ≡ 6) }
-    ensures link_faults { TellsFaults (L.never_fails link.old) (L.never_fails link.new) (L.faults link.old) (L.faults link.new) (result ≡ 7) }
-    ensures spawner_faults { TellsFaults (P.never_fails spawner.old) (P.never_fails spawner.new) (P.faults spawner.old) (P.faults spawner.new) (result ≡ 8) }
-    ensures disk_faults { TellsFaults (D.never_fails disk.old) (D.never_fails disk.new) (D.faults disk.old) (D.faults disk.new) (result ≡ 14) }
+    ensures source_faults { TellsFaults (S.never_fails source.old) (S.never_fails source.new) (S.seen source.old).faults (S.seen source.new).faults (result ≡ 5) }
+    ensures sink_faults { TellsFaults (K.never_fails sink.old) (K.never_fails sink.new) (K.seen sink.old).faults (K.seen sink.new).faults (result ≡ 6) }
+    ensures link_faults { TellsFaults (L.never_fails link.old) (L.never_fails link.new) (L.seen link.old).faults (L.seen link.new).faults (result ≡ 7) }
+    ensures spawner_faults { TellsFaults (P.never_fails spawner.old) (P.never_fails spawner.new) (P.seen spawner.old).faults (P.seen spawner.new).faults (result ≡ 8) }
+    ensures disk_faults { TellsFaults (D.never_fails disk.old) (D.never_fails disk.new) (D.seen disk.old).faults (D.seen disk.new).faults (result ≡ 14) }
     // Status 18 comes only where a node that was started ended with another status than 0.
-    ensures bad_ends { TellsBadEnds (P.all_end_well spawner.old) (P.bad_ends spawner.old) (P.bad_ends spawner.new) (result ≡ 18) }
+    ensures bad_ends { TellsBadEnds (P.all_end_well spawner.old) (P.seen spawner.old).bad_ends (P.seen spawner.new).bad_ends (result ≡ 18) }
 {
     run(
         alloc,

@@ -2,6 +2,7 @@
 -- step: a host that stopped there would break the promise. Of the others: what the statement gives somewhere, and that it is so.
 use Rattle.std.proofs.Common.{inl, inr, ◌⊎◌, ap, sym, ◌≡◌, ◌≤◌, ◌<◌, ℕ, Bool, true, false, List, [], ◌∷◌, ◌++◌, refl, arith, Some, None}
 use Rattle.std.specs.Prelude.{if◌then◌else◌, ◌^◌, ◌-◌, Contains}
+use Rattle.mb_base.specs.Limits.{batch_limit, batch_bytes_limit}
 use Rattle.mb_parts.specs.declared.request.Request.{Request}
 use Rattle.mb_parts.specs.declared.batch.Batch.{Batch}
 use Rattle.mb_parts.specs.Bares.{batch_digest}
@@ -106,7 +107,7 @@ behind_first : List Request → List Request
 behind_first [] = []
 behind_first (r ∷ l) = l
 
-too_few : (n bytes : ℕ) → (n ≡ 16) ⊎ (2048 < bytes) → n < 16 → bytes ≤ 2048 → ⊥
+too_few : (n bytes : ℕ) → (n ≡ batch_limit) ⊎ (batch_bytes_limit < bytes) → n < batch_limit → bytes ≤ batch_bytes_limit → ⊥
 too_few n bytes (inl many) few short = absurd (omega (arith, many, few))
 too_few n bytes (inr long) few short = absurd (omega (arith, long, short))
 
@@ -115,8 +116,8 @@ unfolding host_on_literals behind_first
 one_alone_is_not_full fills =
     let it : IsFull (unordered (host 0) two_wait) first_alone = fills [] two_wait (record prepare_1 { body = Whole first_alone }) first_alone refl refl in
     let rest : asked_1 ∷ [] ≡ it.rest = ap behind_first it.begins in
-    let few : 1 < 16 = omega arith in
-    let short : 95 ≤ 2048 = omega arith in
+    let few : 1 < batch_limit = omega arith in
+    let short : 95 ≤ batch_bytes_limit = omega arith in
     too_few 1 95 (it.full asked_1 [] (sym rest)) few short
 
 -- ---- what was taken is a slot and a vote

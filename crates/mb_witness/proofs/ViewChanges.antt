@@ -2,6 +2,7 @@
 -- middle of a step: a host that stopped there would break the promise.
 use Rattle.std.proofs.Common.{inl, inr, ◌≡◌, ◌≤◌, ◌<◌, true, false, [], ◌∷◌, refl, arith, Some, None}
 use Rattle.std.specs.Prelude.{◌^◌, ◌-◌, is_some}
+use Rattle.mb_base.specs.Limits.{other_limit}
 use Rattle.mb_parts.specs.Bares.{batch_digest}
 use Rattle.mb_msg.specs.declared.message.Message.TheVariants as message
 use Rattle.mb_msg.specs.declared.change.Join.{Join}
@@ -25,7 +26,7 @@ a_wished_view_is_left_for : LeavesView (host 2) two_wish → ⊥
 unfolding host_on_literals
 a_wished_view_is_left_for leaves =
     let above : 0 < 1 = omega arith in
-    let few : 0 < 768 = omega arith in
+    let few : 0 < other_limit = omega arith in
     let left : 0 < 2 ^ 64 - 1 = omega arith in
     let two : 2 ≤ 2 = omega arith in
     leaves 1 above (record { place = few; counter = left }) (inl two)
@@ -38,7 +39,7 @@ an_announced_view_is_left_for : LeavesView (host 2) announced → ⊥
 unfolding host_on_literals
 an_announced_view_is_left_for leaves =
     let above : 0 < 1 = omega arith in
-    let few : 0 < 768 = omega arith in
+    let few : 0 < other_limit = omega arith in
     let left : 0 < 2 ^ 64 - 1 = omega arith in
     leaves 1 above (record { place = few; counter = left }) (inr (inl (new_view_1, refl, refl)))
 
@@ -50,7 +51,7 @@ an_evident_view_is_left_for : LeavesView (host 0) evident → ⊥
 unfolding host_on_literals
 an_evident_view_is_left_for leaves =
     let above : 0 < 1 = omega arith in
-    let few : 0 < 768 = omega arith in
+    let few : 0 < other_limit = omega arith in
     let left : 0 < 2 ^ 64 - 1 = omega arith in
     leaves 1 above (record { place = few; counter = left }) (inr (inr (evidence_1, refl, refl)))
 
@@ -66,7 +67,7 @@ two_changed = Accepted (message.ViewChange change_2) ∷ changed_1
 a_view_is_announced : AnnouncesView (host 1) two_changed → ⊥
 unfolding host_on_literals
 a_view_is_announced announces =
-    let few : 1 < 768 = omega arith in
+    let few : 1 < other_limit = omega arith in
     let left : 2 < 2 ^ 64 - 1 = omega arith in
     let two : 2 ≤ 2 = omega arith in
     announces refl refl (record { place = few; counter = left }) two
@@ -78,7 +79,7 @@ changed_2 = Accepted (message.NewView new_view_1) ∷ Stamped (stamped.ViewChang
 a_view_is_entered : EntersView (host 2) changed_2 → ⊥
 unfolding host_on_literals
 a_view_is_entered enters =
-    let few : 1 < 768 = omega arith in
+    let few : 1 < other_limit = omega arith in
     let left : 1 < 2 ^ 64 - 1 = omega arith in
     enters refl refl (record { place = few; counter = left }) (new_view_1, refl, refl)
 
@@ -90,7 +91,7 @@ evidence_opens : OpensByEvidence (host 0) evident_and_planned → ⊥
 unfolding host_on_literals
 evidence_opens opens =
     let above : 0 < 1 = omega arith in
-    let few : 1 < 768 = omega arith in
+    let few : 1 < other_limit = omega arith in
     let left : 1 < 2 ^ 64 - 1 = omega arith in
     opens evidence_1 (record { above = above; closed = refl; entered = λ e. let is : false ≡ true = e in absurd cc; room = record { place = few; counter = left } }) refl refl (carried, refl, refl)
 
@@ -102,7 +103,7 @@ enters_open : OpensByEnters (host 1) answered → ⊥
 unfolding host_on_literals
 enters_open opens =
     let above : 0 < 1 = omega arith in
-    let few : 2 < 768 = omega arith in
+    let few : 2 < other_limit = omega arith in
     let left : 3 < 2 ^ 64 - 1 = omega arith in
     let one : 1 ≤ 1 = omega arith in
     opens new_view_1 (record { above = above; closed = refl; entered = λ e. refl; room = record { place = few; counter = left } }) (λ held. let no : None ≡ Some held.0 = held.1 in absurd cc) refl refl one (carried, refl, refl)
@@ -131,7 +132,7 @@ unfolding host_on_literals
 a_view_is_joined_behind joins =
     let all : 4 ≤ 4 = omega arith in
     let below : 0 < 4 = omega arith in
-    let few : 0 < 768 = omega arith in
+    let few : 0 < other_limit = omega arith in
     let left : 0 < 2 ^ 64 - 1 = omega arith in
     joins (record { executed = all; evident = inl refl; room = record { place = few; counter = left } }) refl below
 
@@ -149,7 +150,7 @@ a_view_is_joined_past_its_plan joins =
     let above : 0 < 1 = omega arith in
     let some : 0 < 4 = omega arith in
     let past : 1 ≤ 4 = omega arith in
-    let few : 1 < 768 = omega arith in
+    let few : 1 < other_limit = omega arith in
     let left : 1 < 2 ^ 64 - 1 = omega arith in
     joins (record { executed = all; evident = inr (evidence_1, refl, refl); room = record { place = few; counter = left } }) above refl (λ e. let is : false ≡ true = e in absurd cc) some past
 

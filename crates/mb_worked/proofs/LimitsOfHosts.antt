@@ -1,6 +1,7 @@
 -- The limits of what hosts order, keep, show and send, each as its number and at its edge; and a host that leaves the view in which it joined.
 use Rattle.std.proofs.Common.{◌≡◌, ℕ, true, List, [], ◌∷◌, length, map, refl, Option, Some, None}
 use Rattle.std.specs.Prelude.{◌+◌, ◌-◌, replicate}
+use Rattle.mb_base.specs.Limits.{batch_limit, batch_bytes_limit, other_limit, service_parts, part_count, table_part, entry_limit, entry_bytes_limit, part_bytes_limit, ahead_limit}
 use Rattle.mb_base.specs.Shapes.{Bytes}
 use Rattle.mb_usig.specs.Tags.{certificate}
 use Rattle.mb_parts.specs.declared.certificates.StableCert.{StableCert}
@@ -14,17 +15,15 @@ use Rattle.mb_msg.specs.declared.stamped.Stamped.{Stamped as StampedMessage}
 use Rattle.mb_msg.specs.declared.stamped.Stamped.TheVariants as stamped
 use Rattle.mb_msg.specs.Spelling.{stamped_bytes}
 use Rattle.mb_model.specs.declared.known.KnownSlot.{KnownSlot}
-use Rattle.mb_model.specs.Batches.{batch_limit, batch_bytes_limit}
-use Rattle.mb_model.specs.UsableLogs.{Fault, normal_limit, other_limit, log_fault}
+use Rattle.mb_model.specs.UsableLogs.{Fault, normal_limit, log_fault}
 use Rattle.mb_model.specs.Plans.{no_base}
-use Rattle.mb_model.specs.States.{service_parts, part_count, table_part}
 use Rattle.mb_model.specs.Histories.{Accepted}
 use Rattle.mb_model.specs.Held.{changes_of, view_limit}
 use Rattle.mb_model.specs.Positions.{position_limit}
-use Rattle.mb_model.specs.OwnLog.{entry_limit, entry_bytes_limit, packed}
-use Rattle.mb_model.specs.Making.{part_bytes_limit, fitting}
+use Rattle.mb_model.specs.OwnLog.{packed}
+use Rattle.mb_model.specs.Making.{fitting}
 use Rattle.mb_model.specs.Sending.{Progress, begin, write}
-use Rattle.mb_model.specs.EnabledRules.{ChangeView, Join, Commit, ahead_limit}
+use Rattle.mb_model.specs.EnabledRules.{ChangeView, Join, Commit}
 use Rattle.mb_model.specs.CarriedOut.{carry_out}
 use Rattle.mb_model.proofs.StepOnLiterals.{host_on_literals}
 use Rattle.mb_worked.proofs.AgreeingCheckpoints.{secret, shape, host, alone}

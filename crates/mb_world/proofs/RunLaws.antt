@@ -1,7 +1,7 @@
 -- A world before an event, while it runs, and behind it: the tables are the same, or those of the next world.
-use Rattle.std.proofs.Common.{◌≡◌, ℕ, List, Result}
-use Rattle.mb_base.specs.Shapes.{Bytes}
+use Rattle.std.proofs.Common.{◌≡◌}
 use Rattle.mb_service.specs.declared.service.Service.{Ghosts}
+use Rattle.mb_service.specs.Machine.{ServiceMachine}
 use Rattle.mb_world_model.specs.World.{World as WorldState, System, Seen as Answer}
 use Rattle.mb_world.specs.declared.world.World.{World}
 use Rattle.mb_world.specs.Tables.{RepresentsWorld, HasWorld, Leaves}
@@ -25,6 +25,6 @@ module _ {V : Type 0} {g : Ghosts V} (v w : World V g) where
   pub still_left : (y : System V) (a : Answer) (x z : WorldState) → Leaves y v a x z → HasTables v w → Leaves y w a x z
   still_left y a x z left same = record { stands = still_stands y z left.stands same; answered = left.answered }
 
-  pub still_has : (is_state : V → Type 0) (after : V → Bytes → V) (result : V → Bytes → Bytes) (part : V → ℕ → Bytes) (restored : List Bytes → Result V (ℕ × ℕ)) → HasWorld is_state after result part restored v → HasTables v w
-      → HasWorld is_state after result part restored w
-  still_has is_state after result part restored old same = record { system = old.system; state = old.state; is = old.is; reached = old.reached; represents = still_stands old.system old.state old.represents same }
+  pub still_has : (machine : ServiceMachine V) → HasWorld machine v → HasTables v w
+      → HasWorld machine w
+  still_has machine old same = record { system = old.system; state = old.state; is = old.is; reached = old.reached; represents = still_stands old.system old.state old.represents same }

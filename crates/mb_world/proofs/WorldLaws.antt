@@ -7,6 +7,7 @@ use Rattle.std.proofs.lemmas.Bool.{cases_Bool}
 use Rattle.std.proofs.lemmas.Option.{same_Some}
 use Rattle.mb_base.specs.Shapes.{Bytes}
 use Rattle.mb_base.specs.declared.shape.Shape.{Shape}
+use Rattle.mb_service.specs.Machine.{ServiceMachine}
 use Rattle.mb_msg.specs.declared.event.Event.TheVariants as event
 use Rattle.mb_model.specs.Clients.{Asker}
 use Rattle.mb_model.specs.Given.{Answer}
@@ -269,9 +270,9 @@ module _ {V : Type 0} {g : Ghosts V} (y : System V) where
         subst (λ (b : Bytes). KnowsBytes y.schedule.shape (Some k) b) (same (numbered x.pool n) is.bytes bytes is.made (ap (λ (p : List Bytes). numbered p n) (sym rep.rest.pool) ∙ there)) is.knows
 
   -- Each correct host is between two events.
-  pub all_rest : (is_state : V → Type 0) (after : V → Bytes → V) (result : V → Bytes → Bytes) (part : V → ℕ → Bytes) (restored : List Bytes → Result V (ℕ × ℕ)) (w : World V g) (x : WorldState)
-      → IsSystem is_state after result part restored y → RepresentsWorld y w x → AllRest is_state after result part restored w.members.items
-  all_rest is_state after result part restored w x is rep = λ h r at.
+  pub all_rest : (machine : ServiceMachine V) (w : World V g) (x : WorldState)
+      → IsSystem machine y → RepresentsWorld y w x → AllRest machine w.members.items
+  all_rest machine w x is rep = λ h r at.
       let host : IsCorrectHost y h r (x.histories h) = rep.members h (member.Correct r) at in
       record {
         me = self_of y h;

@@ -1,6 +1,6 @@
 -- What the code's world is: a world of the definitions, table by table.
-use Rattle.std.specs.Prelude.{◌≡◌, ℕ, true, false, List, ◌∷◌, length, Result, Ok, Err}
-use Rattle.mb_base.specs.Shapes.{Bytes}
+use Rattle.std.specs.Prelude.{◌≡◌, true, false, ◌∷◌, length, Result, Ok, Err}
+use Rattle.mb_service.specs.Machine.{ServiceMachine}
 use Rattle.mb_schedule.specs.declared.schedule.Schedule.{Schedule}
 use Rattle.mb_world_model.specs.Refusals.{refusals}
 use Rattle.mb_world_model.specs.World.{World as WorldState, System, Seen as Answer}
@@ -36,10 +36,10 @@ pub record RepresentsWorld {V : Type 0} {g : Ghosts V} (y : System V) (w : World
   pub rest : RepresentsRest y.schedule w x
 
 -- There is a world of the definitions that it represents, of hosts with this service, to which events lead that nothing stopped.
-pub record HasWorld {V : Type 0} {g : Ghosts V} (is_state : V → Type 0) (after : V → Bytes → V) (result : V → Bytes → Bytes) (part : V → ℕ → Bytes) (restored : List Bytes → Result V (ℕ × ℕ)) (w : World V g) : Type 0 where
+pub record HasWorld {V : Type 0} {g : Ghosts V} (machine : ServiceMachine V) (w : World V g) : Type 0 where
   pub system : System V
   pub state : WorldState
-  pub is : IsSystem is_state after result part restored system
+  pub is : IsSystem machine system
   pub reached : IsReached system state
   pub represents : RepresentsWorld system w state
 

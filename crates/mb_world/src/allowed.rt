@@ -10,7 +10,7 @@ use mb_base::{Counter, Host, Items, MESSAGE_LIMIT, NoMemory, View};
 use mb_forged::{Checker, ForgedClaim, change_with, checkpoint_with, commit_for, prepare_with};
 use mb_msg::{Batch, Message, Stamped, Undecoded, decode};
 use mb_parties::{Member, mark_of};
-use mb_parts::{MAX_BATCH, Part, Request, Requests};
+use mb_parts::{LOG_INTERVALS, MAX_BATCH, OTHER_LIMIT, Part, Request, Requests};
 use mb_schedule::{Name, WorldEvent};
 use mb_service::Service;
 use std::alloc::Global;
@@ -51,6 +51,7 @@ impl<V: Service + Drop> World<V> {
     ghost use Rattle.std.specs.Prelude.{◌≡◌, ◌≤◌, ◌<◌, ◌+◌, ◌-◌, ◌^◌, true, not, length, reverse, find, is_none, Some, None, Ok, Err, option_map, option_and_then, IfOk, IfSome};
     ghost use Rattle.std.specs.Bool.{then_some};
     ghost use Rattle.std.specs.List.{AllByRecursion};
+    ghost use Rattle.mb_base.specs.Limits.{batch_limit};
     ghost use Rattle.mb_base.specs.Shapes.{host_count};
     ghost use Rattle.mb_parts.specs.Fits.{IsPosition, FitsBatch, FitsRequest};
     ghost use Rattle.mb_msg.specs.Fits.{Fits, FitsStamped};
@@ -67,6 +68,7 @@ impl<V: Service + Drop> World<V> {
     ghost use Rattle.mb_world.specs.Answers.{Tells, TellsStop};
     ghost use Rattle.mb_world.specs.Contents.{Gives, Stamps, IsAllowed, found_in, rest_stop};
     ghost use Rattle.mb_world.specs.Tables.{RepresentsWorld};
+    ghost use Rattle.mb_world.specs.Happening.{FromEach, FromEachWith};
 
     /// Whether an event can be, and the content that it has a faulty host stamp, if any. Of several stops the first comes in this order:
     /// `NotFaulty`, `NoSuchMessage`, `WrongKind`, `Forged`, `ForgedTag`.
@@ -228,7 +230,7 @@ impl<V: Service + Drop> World<V> {
 
     /// The requests of these messages, where each is a REQUEST, and they have at most 2,048 bytes.
     fn batch_of(&self, alloc: Global, numbers: &[u64]) -> Result<Batch, WorldStop>
-        requires { (1 ≤ length numbers.now) × (length numbers.now ≤ 16) }
+        requires { (1 ≤ length numbers.now) × (length numbers.now ≤ batch_limit) }
         ensures stops { (y : System V) (x : WorldState) → RepresentsWorld y self.now x → Tells (option_map WrongKind (misfit y.schedule x 0 numbers.now)) result }
         ensures batch { (y : System V) (x : WorldState) → RepresentsWorld y self.now x → IfOk result (λ b. b ≡ batch_from y.schedule x numbers.now) }
         ensures fits { IfOk result (FitsBatch self.now.shape) }
@@ -293,13 +295,15 @@ impl<V: Service + Drop> World<V> {
     ) -> Result<Option<Stamped>, WorldStop>
         requires host { host < host_count self.now.shape }
         requires view { IsPosition view }
-        ensures stops { (y : System V) (x : WorldState) → RepresentsWorld y self.now x → is_faulty y.schedule host ≡ true → Tells (then_some (not (is_sendable_change y.schedule x host view counter)) (WrongKind counter)) result }
+        ensures stops { FromEach self.now (λ y x. is_faulty y.schedule host ≡ true → Tells (then_some (not (is_sendable_change y.schedule x host view counter)) (WrongKind counter)) result) }
         ensures content { (y : System V) (x : WorldState) → RepresentsWorld y self.now x → is_faulty y.schedule host ≡ true → IfOk result (Gives (Some (change_after y.schedule x host view counter))) }
         ensures fits { IfOk result (λ o. IfSome o (FitsStamped self.now.shape)) }
         ensures runs { (result ≡ Err stop.Halted) → ⊥ }
     {
         let messages = self.stamped_after(alloc, host, counter)?;
-        if messages.len() > 6 * usize::from(self.shape.k()) + 768 {
+        if messages.len()
+            > LOG_INTERVALS as usize * usize::from(self.shape.k()) + OTHER_LIMIT as usize
+        {
             return Err(WorldStop::WrongKind { number: counter });
         }
         let content = change_with(alloc, &self.shape, view, messages)?;
@@ -356,7 +360,7 @@ impl<V: Service + Drop> World<V> {
     ) -> Result<Option<Stamped>, WorldStop>
         requires name { NameFits self.now.shape name }
         requires few { self.now.events < 2 ^ 64 - 1 }
-        ensures stops { (y : System V) (x : WorldState) → RepresentsWorld y self.now x → Tells (found_in y.schedule x (option_and_then (read y.schedule) (to_correct y.schedule x (is_faulty_name y.schedule name) (numbered x.pool number)))) result }
+        ensures stops { FromEach self.now (λ y x. Tells (found_in y.schedule x (option_and_then (read y.schedule) (to_correct y.schedule x (is_faulty_name y.schedule name) (numbered x.pool number)))) result) }
         ensures none { IfOk result (λ o. o ≡ None) }
         ensures runs { (result ≡ Err stop.Halted) → ⊥ }
     {
@@ -379,7 +383,7 @@ impl<V: Service + Drop> World<V> {
     ) -> Result<Option<Stamped>, WorldStop>
         requires name { NameFits self.now.shape name }
         requires few { self.now.events < 2 ^ 64 - 1 }
-        ensures stops { (y : System V) (x : WorldState) → RepresentsWorld y self.now x → Tells (found_in y.schedule x (option_and_then (read y.schedule) (to_correct y.schedule x (is_faulty_name y.schedule name) (Some bytes.now)))) result }
+        ensures stops { FromEach self.now (λ y x. Tells (found_in y.schedule x (option_and_then (read y.schedule) (to_correct y.schedule x (is_faulty_name y.schedule name) (Some bytes.now)))) result) }
         ensures none { IfOk result (λ o. o ≡ None) }
         ensures runs { (result ≡ Err stop.Halted) → ⊥ }
     {
@@ -423,8 +427,7 @@ impl<V: Service + Drop> World<V> {
     /// The stop of what was found in a message: its first forged certificate, or else a forged tag.
     fn found(&self, claim: Option<ForgedClaim>, tag: bool) -> Result<Option<Stamped>, WorldStop>
         requires { self.now.events < 2 ^ 64 - 1 }
-        ensures stops { (y : System V) (x : WorldState) (m : MessageData) → RepresentsWorld y self.now x → claim ≡ option_map told (forged_claim y.schedule x m) → tag ≡ has_forged_tag y.schedule x m
-            → Tells (found_in y.schedule x (Some m)) result }
+        ensures stops { FromEachWith MessageData self.now (λ y x m. claim ≡ option_map told (forged_claim y.schedule x m) → tag ≡ has_forged_tag y.schedule x m → Tells (found_in y.schedule x (Some m)) result) }
         ensures none { IfOk result (λ o. o ≡ None) }
         ensures runs { (result ≡ Err stop.Halted) → ⊥ }
     {

@@ -47,6 +47,7 @@ impl<V: Service + Drop> World<V> {
     ghost use Rattle.mb_world_model.specs.World.{World as WorldState, System, client_asks, client_reads, heard};
     ghost use Rattle.mb_world.specs.Answers.{as_answer};
     ghost use Rattle.mb_world.specs.Tables.{RepresentsWorld, Leaves};
+    ghost use Rattle.mb_world.specs.Happening.{FromEach, Happens};
 
     /// A client asks. Its REQUEST is a new message.
     pub(crate) fn ask(
@@ -82,8 +83,7 @@ impl<V: Service + Drop> World<V> {
         requires client { client < client_count self.old.shape }
         requires few { self.old.events < 2 ^ 64 - 1 }
         requires halted { self.old.halted ≡ true }
-        ensures stands { (y : System V) (x : WorldState) → RepresentsWorld y self.old x
-            → IfOk result (λ a. Leaves y self.new (as_answer a) x (client_reads y.schedule client (message_of y.schedule.shape bytes.now) (heard y.schedule bytes.now x))) }
+        ensures stands { FromEach self.old (λ y x. Happens y x (client_reads y.schedule client (message_of y.schedule.shape bytes.now) (heard y.schedule bytes.now x)) result self.new) }
         ensures members { self.new.members ≡ self.old.members }
         ensures halted { self.new.halted ≡ self.old.halted }
         ensures shape { self.new.shape ≡ self.old.shape }

@@ -12,24 +12,22 @@ use mb_service::Service;
 use std::alloc::Global;
 
 impl<V: Service + Drop> World<V> {
-    ghost use Rattle.std.specs.Prelude.{◌≡◌, ◌<◌, ◌+◌, ◌-◌, ◌^◌, ◌++◌, true, false, None, reverse, filter_map, IfOk, OnOk};
+    ghost use Rattle.std.specs.Prelude.{◌≡◌, ◌<◌, ◌+◌, ◌-◌, ◌^◌, true, None, IfOk, OnOk};
     ghost use Rattle.mb_base.specs.Shapes.{client_count, host_count};
     ghost use Rattle.mb_schedule.specs.declared.schedule.WorldEvent.TheVariants.{Give, Take, Raw};
-    ghost use Rattle.mb_model.specs.Given.{Answer};
-    ghost use Rattle.mb_replica.specs.Represents.{IsTold};
     ghost use Rattle.mb_replica.specs.Told.{KnowsBytes, KnowsEvent};
     ghost use Rattle.mb_schedule.specs.Limits.{is_faulty, NameFits};
     ghost use Rattle.mb_msg.specs.declared.event.Event.TheVariants.{Given};
-    ghost use Rattle.mb_world_model.specs.World.{World as WorldState, System, arrives, lost_or, steps, stepped, numbered, answered, update, give_host, give_client, signal};
+    ghost use Rattle.mb_world_model.specs.World.{World as WorldState, System, arrives, lost_or, steps, stepped, numbered, answered, give_host, give_client, signal};
     ghost use Rattle.mb_world_model.specs.WorldSteps.{with_message, happens};
     ghost use Rattle.mb_world_model.specs.Stops.{stop_of};
     ghost use Rattle.mb_parties.specs.Hosts.{IsSystem};
-    ghost use Rattle.mb_parties.specs.Members.{AllRun, RepresentsMembers};
-    ghost use Rattle.mb_parties.specs.Stamps.{FitsWhereStamped, bare_in, bares_of};
+    ghost use Rattle.mb_parties.specs.Members.{AllRun};
     ghost use Rattle.mb_world.specs.Answers.{as_answer};
     ghost use Rattle.mb_genuine.specs.Reached.{IsReached};
-    ghost use Rattle.mb_world.specs.Sent.{SendsClean, SentIsClean};
-    ghost use Rattle.mb_world.specs.Tables.{RepresentsRest, RepresentsWorld, HasWorld, Leaves};
+    ghost use Rattle.mb_world.specs.Sent.{SendsClean};
+    ghost use Rattle.mb_world.specs.Tables.{RepresentsWorld, HasWorld, Leaves};
+    ghost use Rattle.mb_world.specs.Happening.{FromServing, FromReached, Happens, Enters};
 
     // ---- answers
 
@@ -62,10 +60,9 @@ impl<V: Service + Drop> World<V> {
         requires few { self.old.events < 2 ^ 64 - 1 }
         requires known { KnowsEvent self.old.shape known.now event.now }
         requires runs { AllRun self.old.members.items }
-        requires has { HasWorld V.is_state V.after V.answer V.part_of V.restored self.old }
+        requires has { HasWorld V.machine self.old }
         requires halted { self.old.halted ≡ true }
-        ensures stands { (y : System V) (x : WorldState) → IsSystem V.is_state V.after V.answer V.part_of V.restored y → RepresentsWorld y self.old x → SendsClean y x host event.now
-            → IfOk result (λ a. Leaves y self.new (as_answer a) x (lost_or (is_faulty y.schedule host) (steps y host event.now) x)) }
+        ensures stands { FromServing V.machine self.old (λ y x. SendsClean y x host event.now → Happens y x (lost_or (is_faulty y.schedule host) (steps y host event.now) x) result self.new) }
         ensures runs { OnOk result (AllRun self.new.members.items) }
         ensures halted { self.new.halted ≡ self.old.halted }
         ensures shape { self.new.shape ≡ self.old.shape }
@@ -82,9 +79,7 @@ impl<V: Service + Drop> World<V> {
         requires host { host < host_count self.old.shape }
         requires few { self.old.events < 2 ^ 64 - 1 }
         requires halted { self.old.halted ≡ true }
-        ensures stands { (y : System V) (x : WorldState) (a : Answer) → RepresentsMembers y self.old.members.items (update x.histories host a.left.history) x.faulty_stamps → RepresentsRest y.schedule self.old x
-            → IsTold told a → FitsWhereStamped y.schedule.shape a.left.sent → is_faulty y.schedule host ≡ false → bares_of a.left.history ≡ reverse (filter_map bare_in a.left.sent) ++ bares_of (x.histories host) → SentIsClean y x host a
-            → IfOk result (λ r. Leaves y self.new (as_answer r) x (stepped y.schedule host a x)) }
+        ensures stands { Enters self.old host told result self.new }
         ensures members { self.new.members ≡ self.old.members }
         ensures halted { self.new.halted ≡ self.old.halted }
         ensures shape { self.new.shape ≡ self.old.shape }
@@ -114,9 +109,9 @@ impl<V: Service + Drop> World<V> {
         requires host { host < host_count self.old.shape }
         requires few { self.old.events < 2 ^ 64 - 1 }
         requires runs { AllRun self.old.members.items }
-        requires has { HasWorld V.is_state V.after V.answer V.part_of V.restored self.old }
+        requires has { HasWorld V.machine self.old }
         requires halted { self.old.halted ≡ true }
-        ensures stands { (y : System V) (x : WorldState) → IsSystem V.is_state V.after V.answer V.part_of V.restored y → RepresentsWorld y self.old x → SendsClean y x host event.now
+        ensures stands { (y : System V) (x : WorldState) → IsSystem V.machine y → RepresentsWorld y self.old x → SendsClean y x host event.now
             → IfOk result (λ a. Leaves y self.new (as_answer a) x (signal y host event.now x)) }
         ensures runs { OnOk result (AllRun self.new.members.items) }
         ensures halted { self.new.halted ≡ self.old.halted }
@@ -138,10 +133,9 @@ impl<V: Service + Drop> World<V> {
         requires few { self.old.events < 2 ^ 64 - 1 }
         requires known { KnowsBytes self.old.shape known.now bytes }
         requires runs { AllRun self.old.members.items }
-        requires has { HasWorld V.is_state V.after V.answer V.part_of V.restored self.old }
+        requires has { HasWorld V.machine self.old }
         requires halted { self.old.halted ≡ true }
-        ensures stands { (y : System V) (x : WorldState) → IsSystem V.is_state V.after V.answer V.part_of V.restored y → RepresentsWorld y self.old x → SendsClean y (arrives y.schedule host bytes x) host (Given bytes)
-            → IfOk result (λ a. Leaves y self.new (as_answer a) x (give_host y host bytes x)) }
+        ensures stands { FromServing V.machine self.old (λ y x. SendsClean y (arrives y.schedule host bytes x) host (Given bytes) → Happens y x (give_host y host bytes x) result self.new) }
         ensures runs { OnOk result (AllRun self.new.members.items) }
         ensures halted { self.new.halted ≡ self.old.halted }
         ensures shape { self.new.shape ≡ self.old.shape }
@@ -155,11 +149,10 @@ impl<V: Service + Drop> World<V> {
         requires host { host < host_count self.old.shape }
         requires few { self.old.events < 2 ^ 64 - 1 }
         requires runs { AllRun self.old.members.items }
-        requires has { HasWorld V.is_state V.after V.answer V.part_of V.restored self.old }
+        requires has { HasWorld V.machine self.old }
         requires halted { self.old.halted ≡ true }
         requires allowed { (y : System V) (x : WorldState) → RepresentsWorld y self.old x → stop_of y.schedule x (Give number host) ≡ None }
-        ensures stands { (y : System V) (x : WorldState) → IsSystem V.is_state V.after V.answer V.part_of V.restored y → IsReached y x → RepresentsWorld y self.old x
-            → IfOk result (λ a. Leaves y self.new (as_answer a) x (with_message (give_host y host) (numbered x.pool number) x)) }
+        ensures stands { FromReached V.machine self.old (λ y x. Happens y x (with_message (give_host y host) (numbered x.pool number) x) result self.new) }
         ensures runs { OnOk result (AllRun self.new.members.items) }
         ensures halted { self.new.halted ≡ self.old.halted }
         ensures shape { self.new.shape ≡ self.old.shape }
@@ -233,10 +226,10 @@ impl<V: Service + Drop> World<V> {
         requires name { NameFits self.old.shape name }
         requires few { self.old.events < 2 ^ 64 - 1 }
         requires runs { AllRun self.old.members.items }
-        requires has { HasWorld V.is_state V.after V.answer V.part_of V.restored self.old }
+        requires has { HasWorld V.machine self.old }
         requires halted { self.old.halted ≡ true }
         requires allowed { (y : System V) (x : WorldState) → RepresentsWorld y self.old x → stop_of y.schedule x (Raw name bytes.now) ≡ None }
-        ensures stands { (y : System V) (x : WorldState) → IsSystem V.is_state V.after V.answer V.part_of V.restored y → IsReached y x → RepresentsWorld y self.old x
+        ensures stands { (y : System V) (x : WorldState) → IsSystem V.machine y → IsReached y x → RepresentsWorld y self.old x
             → IfOk result (λ a. Leaves y self.new (as_answer a) x (happens y x (Raw name bytes.now))) }
         ensures runs { OnOk result (AllRun self.new.members.items) }
         ensures halted { self.new.halted ≡ self.old.halted }

@@ -29,6 +29,7 @@ impl<V: Service + Drop> World<V> {
     ghost use Rattle.mb_parties.specs.Members.{AllRun};
     ghost use Rattle.mb_world.specs.Answers.{as_answer};
     ghost use Rattle.mb_world.specs.Tables.{RepresentsWorld, Leaves};
+    ghost use Rattle.mb_world.specs.Happening.{FromEach, FromEachWith, Happens};
 
     // ---- tags
 
@@ -44,7 +45,7 @@ impl<V: Service + Drop> World<V> {
         requires seq { IsCounter seq }
         requires op { FitsText op.now }
         requires few { self.old.events < 2 ^ 64 - 1 }
-        ensures stands { (y : System V) (x : WorldState) → RepresentsWorld y self.old x → IfOk result (λ a. Leaves y self.new (as_answer a) x (made y.schedule (spelling (kind.Request (request_of y.schedule client seq op.now))) x)) }
+        ensures stands { FromEach self.old (λ y x. Happens y x (made y.schedule (spelling (kind.Request (request_of y.schedule client seq op.now))) x) result self.new) }
         ensures kept { AllRun self.old.members.items → AllRun self.new.members.items }
         ensures halted { self.new.halted ≡ self.old.halted }
         ensures shape { self.new.shape ≡ self.old.shape }
@@ -70,8 +71,7 @@ impl<V: Service + Drop> World<V> {
         requires pos { IsPlace pos }
         requires answer { FitsText answer.now }
         requires few { self.old.events < 2 ^ 64 - 1 }
-        ensures stands { (y : System V) (x : WorldState) → RepresentsWorld y self.old x → is_faulty y.schedule host ≡ true
-            → IfOk result (λ a. Leaves y self.new (as_answer a) x (made y.schedule (spelling (reply_of_host y.schedule host client seq pos answer.now)) x)) }
+        ensures stands { FromEach self.old (λ y x. is_faulty y.schedule host ≡ true → Happens y x (made y.schedule (spelling (reply_of_host y.schedule host client seq pos answer.now)) x) result self.new) }
         ensures kept { AllRun self.old.members.items → AllRun self.new.members.items }
         ensures halted { self.new.halted ≡ self.old.halted }
         ensures shape { self.new.shape ≡ self.old.shape }
@@ -91,8 +91,7 @@ impl<V: Service + Drop> World<V> {
         requires host { host < host_count self.old.shape }
         requires view { IsPosition view }
         requires few { self.old.events < 2 ^ 64 - 1 }
-        ensures stands { (y : System V) (x : WorldState) → RepresentsWorld y self.old x → is_faulty y.schedule host ≡ true
-            → IfOk result (λ a. Leaves y self.new (as_answer a) x (made y.schedule (spelling (wish_of_host y.schedule host view)) x)) }
+        ensures stands { FromEach self.old (λ y x. is_faulty y.schedule host ≡ true → Happens y x (made y.schedule (spelling (wish_of_host y.schedule host view)) x) result self.new) }
         ensures kept { AllRun self.old.members.items → AllRun self.new.members.items }
         ensures halted { self.new.halted ≡ self.old.halted }
         ensures shape { self.new.shape ≡ self.old.shape }
@@ -197,8 +196,7 @@ impl<V: Service + Drop> World<V> {
         requires content { IfSome content (FitsStamped self.old.shape) }
         requires few { self.old.events < 2 ^ 64 - 1 }
         requires halted { self.old.halted ≡ true }
-        ensures stands { (y : System V) (x : WorldState) (m : StampedData) → RepresentsWorld y self.old x → is_faulty y.schedule host ≡ true → option_map unstamped content ≡ Some (unstamped m)
-            → IfOk result (λ a. Leaves y self.new (as_answer a) x (stamp_content y.schedule host m x)) }
+        ensures stands { FromEachWith StampedData self.old (λ y x m. is_faulty y.schedule host ≡ true → option_map unstamped content ≡ Some (unstamped m) → Happens y x (stamp_content y.schedule host m x) result self.new) }
         ensures kept { AllRun self.old.members.items → AllRun self.new.members.items }
         ensures halted { self.new.halted ≡ self.old.halted }
         ensures shape { self.new.shape ≡ self.old.shape }
@@ -215,8 +213,7 @@ impl<V: Service + Drop> World<V> {
         requires host { host < host_count self.old.shape }
         requires content { FitsStamped self.old.shape content }
         requires few { self.old.events < 2 ^ 64 - 1 }
-        ensures stands { (y : System V) (x : WorldState) (m : StampedData) → RepresentsWorld y self.old x → is_faulty y.schedule host ≡ true → unstamped content ≡ unstamped m
-            → IfOk result (λ a. Leaves y self.new (as_answer a) x (stamp_content y.schedule host m x)) }
+        ensures stands { FromEachWith StampedData self.old (λ y x m. is_faulty y.schedule host ≡ true → unstamped content ≡ unstamped m → Happens y x (stamp_content y.schedule host m x) result self.new) }
         ensures kept { AllRun self.old.members.items → AllRun self.new.members.items }
         ensures halted { self.new.halted ≡ self.old.halted }
         ensures shape { self.new.shape ≡ self.old.shape }

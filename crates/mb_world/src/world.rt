@@ -61,17 +61,18 @@ impl<V: Service + Drop> World<V> {
     ghost use Rattle.mb_base.specs.Shapes.{client_count, host_count};
     ghost use Rattle.mb_msg.specs.Fits.{FitsStamped};
     ghost use Rattle.mb_schedule.specs.Limits.{EventFits};
-    ghost use Rattle.mb_world_model.specs.World.{World as WorldState, System, nothing_happened, numbered};
+    ghost use Rattle.mb_world_model.specs.World.{World as WorldState, System, numbered};
     ghost use Rattle.mb_world_model.specs.WorldSteps.{happens};
     ghost use Rattle.mb_world_model.specs.Stops.{stop_of};
     ghost use Rattle.mb_client.specs.Represents.{Represents};
-    ghost use Rattle.mb_parties.specs.Hosts.{IsSystem, AreServices};
+    ghost use Rattle.mb_parties.specs.Hosts.{IsSystem};
     ghost use Rattle.mb_parties.specs.Members.{AllRun, IsHost};
     ghost use Rattle.mb_world.specs.Answers.{as_answer, Tells};
     ghost use Rattle.mb_world.specs.Contents.{IsAllowed, stamping_host};
     ghost use Rattle.mb_world_model.specs.WorldEvents.{culprit};
     ghost use Rattle.mb_genuine.specs.Reached.{IsReached};
     ghost use Rattle.mb_world.specs.Tables.{RepresentsWorld, HasWorld, Leaves, WorldHalts};
+    ghost use Rattle.mb_world.specs.Happening.{MakesWorld};
 
     /// The world before the first event. The lists have a member for each host, each client and each host.
     pub fn make(
@@ -85,8 +86,7 @@ impl<V: Service + Drop> World<V> {
         requires hosts { length faulty_hosts.now ≡ host_count shape }
         requires clients { length faulty_clients.now ≡ client_count shape }
         requires services { length services.items ≡ host_count shape }
-        ensures stands { (y : System V) → IsSystem V.is_state V.after V.answer V.part_of V.restored y → y.schedule.shape ≡ shape → y.schedule.secret ≡ secret.now → y.schedule.faulty_hosts ≡ faulty_hosts.now → y.schedule.faulty_clients ≡ faulty_clients.now
-            → AreServices y.initial services.items → IfOk result (λ w. RepresentsWorld y w nothing_happened) }
+        ensures stands { MakesWorld V.machine shape secret.now faulty_hosts.now faulty_clients.now services.items result }
         ensures runs { IfOk result (λ w. w.halted ≡ false) }
         ensures none { IfOk result (λ w. w.events ≡ 0) }
         ensures shape { IfOk result (λ w. w.shape ≡ shape) }
@@ -114,11 +114,11 @@ impl<V: Service + Drop> World<V> {
     pub fn world_step(&mut self, alloc: Global, event: &WorldEvent) -> Result<Seen, WorldStop>
         requires fits { EventFits self.old.shape event.now }
         requires few { self.old.events < 2 ^ 64 - 1 }
-        requires has { self.old.halted ≡ false → HasWorld V.is_state V.after V.answer V.part_of V.restored self.old }
-        ensures stands { (y : System V) (x : WorldState) → IsSystem V.is_state V.after V.answer V.part_of V.restored y → IsReached y x → RepresentsWorld y self.old x
+        requires has { self.old.halted ≡ false → HasWorld V.machine self.old }
+        ensures stands { (y : System V) (x : WorldState) → IsSystem V.machine y → IsReached y x → RepresentsWorld y self.old x
             → IfOk result (λ a. Leaves y self.new (as_answer a) x (happens y x event.now)) }
         ensures stops { (y : System V) (x : WorldState) → RepresentsWorld y self.old x → Tells (stop_of y.schedule x event.now) result }
-        ensures has { IfOk result (λ a. HasWorld V.is_state V.after V.answer V.part_of V.restored self.new) }
+        ensures has { IfOk result (λ a. HasWorld V.machine self.new) }
         ensures halts { WorldHalts self.old result self.new }
         ensures shape { self.new.shape ≡ self.old.shape }
         ensures counts { OnOk result (self.new.events ≡ self.old.events + 1) }
@@ -151,11 +151,11 @@ impl<V: Service + Drop> World<V> {
         requires fits { EventFits self.old.shape event.now }
         requires few { self.old.events < 2 ^ 64 - 1 }
         requires runs { AllRun self.old.members.items }
-        requires has { HasWorld V.is_state V.after V.answer V.part_of V.restored self.old }
+        requires has { HasWorld V.machine self.old }
         requires halted { self.old.halted ≡ true }
         requires content { IfSome content (FitsStamped self.old.shape) }
         requires allowed { (y : System V) (x : WorldState) → RepresentsWorld y self.old x → IsAllowed y.schedule x event.now content }
-        ensures stands { (y : System V) (x : WorldState) → IsSystem V.is_state V.after V.answer V.part_of V.restored y → IsReached y x → RepresentsWorld y self.old x
+        ensures stands { (y : System V) (x : WorldState) → IsSystem V.machine y → IsReached y x → RepresentsWorld y self.old x
             → IfOk result (λ a. Leaves y self.new (as_answer a) x (happens y x event.now)) }
         ensures runs { OnOk result (AllRun self.new.members.items) }
         ensures halted { self.new.halted ≡ self.old.halted }
@@ -176,11 +176,11 @@ impl<V: Service + Drop> World<V> {
         requires fits { EventFits self.old.shape event.now }
         requires few { self.old.events < 2 ^ 64 - 1 }
         requires runs { AllRun self.old.members.items }
-        requires has { HasWorld V.is_state V.after V.answer V.part_of V.restored self.old }
+        requires has { HasWorld V.machine self.old }
         requires halted { self.old.halted ≡ true }
         requires free { culprit event.now ≡ None }
         requires there { (y : System V) (x : WorldState) → RepresentsWorld y self.old x → stop_of y.schedule x event.now ≡ None }
-        ensures stands { (y : System V) (x : WorldState) → IsSystem V.is_state V.after V.answer V.part_of V.restored y → IsReached y x → RepresentsWorld y self.old x
+        ensures stands { (y : System V) (x : WorldState) → IsSystem V.machine y → IsReached y x → RepresentsWorld y self.old x
             → IfOk result (λ a. Leaves y self.new (as_answer a) x (happens y x event.now)) }
         ensures runs { OnOk result (AllRun self.new.members.items) }
         ensures halted { self.new.halted ≡ self.old.halted }

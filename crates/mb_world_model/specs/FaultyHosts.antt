@@ -1,8 +1,8 @@
 -- What faulty hosts and clients make: tags for any reply, wish or request of their own, and stamps for any content.
 use Rattle.std.specs.Prelude.{ℕ, ◌+◌, ◌-◌, Bool, false, ◌&&◌, List, [], ◌∷◌, ◌++◌, length, map, take, reverse, filter_map, replicate, nat_le, Option, Some, None, if◌then◌else◌, option_and_then, is_none}
+use Rattle.mb_base.specs.Limits.{other_limit, message_limit}
 use Rattle.mb_base.specs.Shapes.{Bytes}
 use Rattle.mb_base.specs.declared.names.Ui.{Ui}
-use Rattle.mb_base.specs.declared.limits.TheConstants.{MESSAGE_LIMIT}
 use Rattle.mb_usig.specs.Tags.{certificate, reply_tag, wish_tag}
 use Rattle.mb_parts.specs.declared.request.Request.{Request}
 use Rattle.mb_parts.specs.declared.batch.Batch.{Batch}
@@ -19,7 +19,7 @@ use Rattle.mb_msg.specs.declared.stamped.Stamped.TheVariants as stamped
 use Rattle.mb_msg.specs.Spelling.{spelling}
 use Rattle.mb_msg.specs.Stamps.{bare_of, with_ui, as_stamped, as_message}
 use Rattle.mb_model.specs.Batches.{has_place}
-use Rattle.mb_model.specs.UsableLogs.{normal_limit, other_limit}
+use Rattle.mb_model.specs.UsableLogs.{normal_limit}
 use Rattle.mb_model.specs.Plans.{no_base}
 use Rattle.mb_model.specs.OwnLog.{kept_forms, as_shown}
 use Rattle.mb_model.specs.Sending.{no_ui}
@@ -142,4 +142,4 @@ module _ (s : Schedule) where
   -- It has neither too many entries nor too many bytes.
   abbrev pub is_sendable_change : World → ℕ → ℕ → ℕ → Bool
   is_sendable_change w h view counter = nat_le (length (log_after w h counter).entries) (normal_limit s.shape + other_limit)
-      && nat_le (length (faulty_message w h (change_after w h view counter))) MESSAGE_LIMIT
+      && nat_le (length (faulty_message w h (change_after w h view counter))) message_limit

@@ -2,4 +2,4 @@ use Rattle.mb_restart.proofs.Served.{servings_are_runs}
 use Rattle.mb_restart.proofs.servings_are_runs.Goals as goal
 
 pub returns : goal.returns
-returns g c = servings_are_runs g.V.Service.is_state g.V.Service.after g.V.Service.answer g.V.Service.part_of g.V.Service.restored
+returns g c = servings_are_runs g.V.Service.machine

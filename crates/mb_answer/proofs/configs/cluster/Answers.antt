@@ -12,7 +12,7 @@ run_cluster-ended-requires g c = c.in-Ok.ensures.ops
 
 pub returns-in-Ok-clause-told : goal.returns-in-Ok-clause-told
 returns-in-Ok-clause-told g c =
-    IfSome_then (g.S.Source.left c.args.source.now) c.in-Ok.ensures.told (λ text found.
+    IfSome_then (g.S.Source.seen c.args.source.now).bytes c.in-Ok.ensures.told (λ text found.
     let run = c.run_cluster-ended.ensures in
     used c.in-Ok.config found.0 (runs_cluster c.in-Ok.config c.args.turns _ c.run_cluster-ended.result _ _ _ found.1 c.run_status.ensures run.asks run.opens run.nodes run.order
     (cause_of c.run_cluster-ended.result _ _ run.link_faults.rose run.spawner_faults.rose (tells_both _ _ _ c.in-Ok.ensures.sink run.sink_faults (λ told. inr told)).rose run.bad_ends) run.bad_ends))
@@ -33,7 +33,7 @@ pub returns-in-Ok-clause-bad_ends : goal.returns-in-Ok-clause-bad_ends
 returns-in-Ok-clause-bad_ends g c = ends_told c.run_cluster-ended.result _ _ _ _ c.run_status.ensures c.run_cluster-ended.ensures.bad_ends c.run_cluster-ended.ensures.well
 
 pub returns-in-Err-clause-told : goal.returns-in-Err-clause-told
-returns-in-Err-clause-told g c = IfSome_then (g.S.Source.left c.args.source.now) c.in-Err.ensures.told (λ text lacks. unused lacks (record { link = refl; spawner = refl }))
+returns-in-Err-clause-told g c = IfSome_then (g.S.Source.seen c.args.source.now).bytes c.in-Err.ensures.told (λ text lacks. unused lacks (record { link = refl; spawner = refl }))
 
 pub returns-in-Err-clause-ended : goal.returns-in-Err-clause-ended
 returns-in-Err-clause-ended g c = λ zero. absurd (c.in-Err.ensures.low.1 zero)
@@ -51,22 +51,22 @@ pub returns-in-Ok-clause-stops : goal.returns-in-Ok-clause-stops
 returns-in-Ok-clause-stops g c = λ never.
     let link = g.L.Link in
     let spawner = g.P.Spawner in
-    told_by_text (g.S.Source.left c.args.source.now) c.in-Ok.config (spawned (spawner.starts c.args.spawner.now) (spawner.waits c.args.spawner.now))
-    (spawned (spawner.starts c.run_cluster-ended.new.spawner) (spawner.waits c.run_cluster-ended.new.spawner))
-    (link.faults c.args.link.now) (link.faults c.run_cluster-ended.new.link) (link.sent c.args.link.now) (link.sent c.run_cluster-ended.new.link)
-    (IfSome_then (g.S.Source.left c.args.source.now) c.in-Ok.ensures.told (λ text found. found.0)) (c.run_cluster-ended.ensures.stops never)
+    told_by_text (g.S.Source.seen c.args.source.now).bytes c.in-Ok.config (spawned (spawner.seen c.args.spawner.now).starts (spawner.seen c.args.spawner.now).waits)
+    (spawned (spawner.seen c.run_cluster-ended.new.spawner).starts (spawner.seen c.run_cluster-ended.new.spawner).waits)
+    (link.seen c.args.link.now).faults (link.seen c.run_cluster-ended.new.link).faults (link.seen c.args.link.now).sent (link.seen c.run_cluster-ended.new.link).sent
+    (IfSome_then (g.S.Source.seen c.args.source.now).bytes c.in-Ok.ensures.told (λ text found. found.0)) (c.run_cluster-ended.ensures.stops never)
 
 pub returns-in-Ok-clause-waits : goal.returns-in-Ok-clause-waits
 returns-in-Ok-clause-waits g c = λ never.
     let spawner = g.P.Spawner in
-    awaited_by_text (g.S.Source.left c.args.source.now) c.in-Ok.config (spawner.faults c.args.spawner.now) (spawner.faults c.run_cluster-ended.new.spawner) (spawned (spawner.starts c.args.spawner.now) (spawner.waits c.args.spawner.now))
-    (spawned (spawner.starts c.run_cluster-ended.new.spawner) (spawner.waits c.run_cluster-ended.new.spawner)) (IfSome_then (g.S.Source.left c.args.source.now) c.in-Ok.ensures.told (λ text found. found.0)) (c.run_cluster-ended.ensures.waits never)
+    awaited_by_text (g.S.Source.seen c.args.source.now).bytes c.in-Ok.config (spawner.seen c.args.spawner.now).faults (spawner.seen c.run_cluster-ended.new.spawner).faults (spawned (spawner.seen c.args.spawner.now).starts (spawner.seen c.args.spawner.now).waits)
+    (spawned (spawner.seen c.run_cluster-ended.new.spawner).starts (spawner.seen c.run_cluster-ended.new.spawner).waits) (IfSome_then (g.S.Source.seen c.args.source.now).bytes c.in-Ok.ensures.told (λ text found. found.0)) (c.run_cluster-ended.ensures.waits never)
 
 pub returns-in-Err-clause-stops : goal.returns-in-Err-clause-stops
 returns-in-Err-clause-stops g c = λ never. inl refl
 
 pub returns-in-Err-clause-waits : goal.returns-in-Err-clause-waits
-returns-in-Err-clause-waits g c = λ never. none_started (g.S.Source.left c.args.source.now) (g.P.Spawner.faults c.args.spawner.now) (g.P.Spawner.starts c.args.spawner.now) (g.P.Spawner.waits c.args.spawner.now)
+returns-in-Err-clause-waits g c = λ never. none_started (g.S.Source.seen c.args.source.now).bytes (g.P.Spawner.seen c.args.spawner.now).faults (g.P.Spawner.seen c.args.spawner.now).starts (g.P.Spawner.seen c.args.spawner.now).waits
 
 pub returns-in-Ok-clause-statuses : goal.returns-in-Ok-clause-statuses
 returns-in-Ok-clause-statuses g c = run_known c.run_cluster-ended.result _ c.run_status.ensures

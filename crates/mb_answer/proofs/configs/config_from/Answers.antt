@@ -9,7 +9,7 @@ use Rattle.mb_answer.proofs.configs.config_from.Goals as goal
 
 pub returns-in-Ok-clause-told : goal.returns-in-Ok-clause-told
 returns-in-Ok-clause-told g c =
-    IfSome_then (g.S.Source.left c.args.source.now) c.in-Ok.ensures.all
+    IfSome_then (g.S.Source.seen c.args.source.now).bytes c.in-Ok.ensures.all
     (λ text is. found_there _ text c.config_in.result _ _ _ _ (c.deref.ensures.value ∙ is) c.config_in.ensures.told)
 
 pub returns-in-Ok-clause-source : goal.returns-in-Ok-clause-source
@@ -17,7 +17,7 @@ returns-in-Ok-clause-source g c = tells_read _ _ c.in-Ok.ensures.fault c.in-Ok.e
 
 pub returns-in-Err-clause-told : goal.returns-in-Err-clause-told
 returns-in-Err-clause-told g c =
-    unread_told RefusesConfig max_config (g.S.Source.left c.args.source.now) c.in-Err.stop _ _ _ _ _ (λ text long. too_long long refl refl) (λ e. c.in-Err.ensures.long (ap Err e)) (λ e. c.in-Err.ensures.fault (ap Err e)) c.tell_unread.ensures.told
+    unread_told RefusesConfig max_config (g.S.Source.seen c.args.source.now).bytes c.in-Err.stop _ _ _ _ _ (λ text long. too_long long refl refl) (λ e. c.in-Err.ensures.long (ap Err e)) (λ e. c.in-Err.ensures.fault (ap Err e)) c.tell_unread.ensures.told
 
 pub returns-in-Err-clause-low : goal.returns-in-Err-clause-low
 returns-in-Err-clause-low g c = (c.tell_unread.ensures.low, unread_not_zero c.in-Err.stop _ _ _ c.tell_unread.ensures.told)

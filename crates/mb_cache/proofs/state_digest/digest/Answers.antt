@@ -11,6 +11,6 @@ returns-clause-digest g c =
     let one = c.in_ok-hash_parts.ensures.hashed [] c.new-hasher.ensures in
     let two = c.update.ensures _ one in
     let three = c.update-2.ensures _ two in
-    let snapshots = snapshots_of g.V.Service.part_of g.V.Service.restored in
+    let snapshots = snapshots_of g.V.Service.machine in
     let table = c.digest.ensures ∙ ap sha256 (c.as_slice.ensures ∙ c.in_ok-replies.ensures.part) in
     c.finalize.ensures _ three ∙ ap sha256 (state_string snapshots (joined c.args.service.now c.args.table.now) c.args.pos c.digest.result c.to_be_bytes.result table c.to_be_bytes.ensures)

@@ -6,11 +6,11 @@ use Rattle.mb_cache.proofs.state_digest.hash_parts.Goals as goal
 
 pub loop-part-preserved : goal.loop-part-preserved
 loop-part-preserved g c =
-    let f = part_digest g.V.Service.part_of c.args.service.now in
+    let f = part_digest g.V.Service.machine.part_of c.args.service.now in
     let part = c.loop-part.part in
     record {
       hashed = λ m h. subst (λ (l : List ℕ). g.H.Digest.holds c.update.new.self l)
-          (one_more f m c.in_ok-part_digest.field-0 part (part + 1) (c.in_ok-part_digest.ensures.digest ∙ ap (λ s. sha256 (g.V.Service.part_of s part)) c.loop-part.invariant.kept) refl)
+          (one_more f m c.in_ok-part_digest.field-0 part (part + 1) (c.in_ok-part_digest.ensures.digest ∙ ap (λ s. sha256 (g.V.Service.machine.part_of s part)) c.loop-part.invariant.kept) refl)
           (c.update.ensures _ (c.loop-part.invariant.hashed m h));
       kept = c.part_digest.ensures.kept ∙ c.loop-part.invariant.kept;
     }

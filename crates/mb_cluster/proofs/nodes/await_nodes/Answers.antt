@@ -12,12 +12,12 @@ loop-child-init g c =
     let spawner = g.P.Spawner in
     record {
       host = refl;
-      waited = record { awaits = record { statuses = []; each = refl; waits = more_none (spawner.waits c.args.spawner.now); ended = refl }; bad_ends = refl };
-      some = some_none (spawner.waits c.args.spawner.now);
-      few = λ never. awaits_none (spawner.faults c.args.spawner.now) (spawner.faults c.args.spawner.now) (spawner.waits c.args.spawner.now) (omega arith);
+      waited = record { awaits = record { statuses = []; each = refl; waits = more_none (spawner.seen c.args.spawner.now).waits; ended = refl }; bad_ends = refl };
+      some = some_none (spawner.seen c.args.spawner.now).waits;
+      few = λ never. awaits_none (spawner.seen c.args.spawner.now).faults (spawner.seen c.args.spawner.now).faults (spawner.seen c.args.spawner.now).waits (omega arith);
       starts = refl;
       well = λ well. (well, tt);
-      faults = tells_none (spawner.faults c.args.spawner.now) (λ is. absurd cc);
+      faults = tells_none (spawner.seen c.args.spawner.now).faults (λ is. absurd cc);
     }
 
 pub loop-child-preserved : goal.loop-child-preserved
@@ -28,19 +28,19 @@ loop-child-preserved g c =
     let i = c.loop-child.child-index in
     let lt : i < length children = c.loop-child-test.true in
     let len : length (take i children) ≡ c.loop-child.host = omega (arith, length-take-le i children, now.host) in
-    let more : Waited (take i children ++ get_or children i 0 ∷ []) (after_wait (length (take i children)) c.wait.result c.loop-child.ended) (spawner.waits c.args.spawner.now) (spawner.waits c.wait.new.self) (spawner.bad_ends c.args.spawner.now) (spawner.bad_ends c.wait.new.self) =
-    waited_more (take i children) (get_or children i 0) c.wait.result c.loop-child.ended (spawner.waits c.args.spawner.now) (spawner.waits c.loop-child.spawner) (spawner.waits c.wait.new.self)
-    (spawner.bad_ends c.args.spawner.now) (spawner.bad_ends c.loop-child.spawner) (spawner.bad_ends c.wait.new.self) now.waited c.wait.ensures.waits c.wait.ensures.bad_ends in
+    let more : Waited (take i children ++ get_or children i 0 ∷ []) (after_wait (length (take i children)) c.wait.result c.loop-child.ended) (spawner.seen c.args.spawner.now).waits (spawner.seen c.wait.new.self).waits (spawner.seen c.args.spawner.now).bad_ends (spawner.seen c.wait.new.self).bad_ends =
+    waited_more (take i children) (get_or children i 0) c.wait.result c.loop-child.ended (spawner.seen c.args.spawner.now).waits (spawner.seen c.loop-child.spawner).waits (spawner.seen c.wait.new.self).waits
+    (spawner.seen c.args.spawner.now).bad_ends (spawner.seen c.loop-child.spawner).bad_ends (spawner.seen c.wait.new.self).bad_ends now.waited c.wait.ensures.waits c.wait.ensures.bad_ends in
     record {
       host = omega (arith, now.host);
       waited = rw (take_more children i 0, c.after_wait-ended.ensures) (rw len at more);
-      some = rw (take_more children i 0) (some_waited (take i children) (get_or children i 0) c.wait.result (spawner.waits c.args.spawner.now) (spawner.waits c.loop-child.spawner) (spawner.waits c.wait.new.self) now.some c.wait.ensures.waits);
+      some = rw (take_more children i 0) (some_waited (take i children) (get_or children i 0) c.wait.result (spawner.seen c.args.spawner.now).waits (spawner.seen c.loop-child.spawner).waits (spawner.seen c.wait.new.self).waits now.some c.wait.ensures.waits);
       few = λ never. rw (take_more children i 0)
-          (awaits_more (take i children) (get_or children i 0) c.wait.result (spawner.faults c.args.spawner.now) (spawner.faults c.loop-child.spawner) (spawner.faults c.wait.new.self) (spawner.waits c.args.spawner.now) (spawner.waits c.loop-child.spawner) (spawner.waits c.wait.new.self)
+          (awaits_more (take i children) (get_or children i 0) c.wait.result (spawner.seen c.args.spawner.now).faults (spawner.seen c.loop-child.spawner).faults (spawner.seen c.wait.new.self).faults (spawner.seen c.args.spawner.now).waits (spawner.seen c.loop-child.spawner).waits (spawner.seen c.wait.new.self).waits
           (now.few never) c.wait.ensures.waits c.wait.ensures.cause (c.wait.ensures.ample never));
       starts = c.wait.ensures.starts ∙ now.starts;
       well = λ well. (c.wait.ensures.well (now.well well).0, rw c.after_wait-ended.ensures (well_more c.loop-child.host c.wait.result c.loop-child.ended (now.well well).1 (c.wait.ensures.zero (now.well well).0)));
-      faults = tells_both (spawner.faults c.args.spawner.now) (spawner.faults c.loop-child.spawner) (spawner.faults c.wait.new.self) now.faults
-          (tells_call (spawner.faults c.loop-child.spawner) (spawner.faults c.wait.new.self) c.wait.result c.wait.ensures.cause c.wait.ensures.sound c.wait.ensures.quiet)
+      faults = tells_both (spawner.seen c.args.spawner.now).faults (spawner.seen c.loop-child.spawner).faults (spawner.seen c.wait.new.self).faults now.faults
+          (tells_call (spawner.seen c.loop-child.spawner).faults (spawner.seen c.wait.new.self).faults c.wait.result c.wait.ensures.cause c.wait.ensures.sound c.wait.ensures.quiet)
           (λ is. fault_of c.loop-child.host c.wait.result c.loop-child.ended (sym c.after_wait-ended.ensures ∙ is));
     }

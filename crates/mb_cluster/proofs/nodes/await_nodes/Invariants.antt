@@ -13,10 +13,10 @@ invariant-loop-child g l =
     let spawner = g.P.Spawner in
     record {
       host : l.host ≡ l.child-index;
-      waited : Waited (take l.child-index l.children) l.ended (spawner.waits l.fn.spawner) (spawner.waits l.spawner) (spawner.bad_ends l.fn.spawner) (spawner.bad_ends l.spawner);
-      some : AwaitsSome (take l.child-index l.children) (spawner.waits l.fn.spawner) (spawner.waits l.spawner);
-      few : spawner.waits_without_memory → AwaitsBut (take l.child-index l.children) (spawner.faults l.fn.spawner) (spawner.faults l.spawner) (spawner.waits l.fn.spawner) (spawner.waits l.spawner);
-      starts : spawner.starts l.spawner ≡ spawner.starts l.fn.spawner;
+      waited : Waited (take l.child-index l.children) l.ended (spawner.seen l.fn.spawner).waits (spawner.seen l.spawner).waits (spawner.seen l.fn.spawner).bad_ends (spawner.seen l.spawner).bad_ends;
+      some : AwaitsSome (take l.child-index l.children) (spawner.seen l.fn.spawner).waits (spawner.seen l.spawner).waits;
+      few : spawner.waits_without_memory → AwaitsBut (take l.child-index l.children) (spawner.seen l.fn.spawner).faults (spawner.seen l.spawner).faults (spawner.seen l.fn.spawner).waits (spawner.seen l.spawner).waits;
+      starts : (spawner.seen l.spawner).starts ≡ (spawner.seen l.fn.spawner).starts;
       well : spawner.all_end_well l.fn.spawner → spawner.all_end_well l.spawner × EndsWell l.ended;
-      faults : TellsFaults (spawner.never_fails l.fn.spawner) (spawner.never_fails l.spawner) (spawner.faults l.fn.spawner) (spawner.faults l.spawner) (IsErrOf l.ended SpawnFault);
+      faults : TellsFaults (spawner.never_fails l.fn.spawner) (spawner.never_fails l.spawner) (spawner.seen l.fn.spawner).faults (spawner.seen l.spawner).faults (IsErrOf l.ended SpawnFault);
     }

@@ -9,10 +9,10 @@ abbrev pub invariant-loop-host : goal.invariant-loop-host
 invariant-loop-host g l =
     let spawner = g.P.Spawner in
     record {
-      started : AreStarted l.config l.host l.children.items (spawner.starts l.fn.spawner) (spawner.starts l.spawner);
+      started : AreStarted l.config l.host l.children.items (spawner.seen l.fn.spawner).starts (spawner.seen l.spawner).starts;
       room : host_count l.config.shape ≤ vec_capacity l.children;
-      waits : spawner.waits l.spawner ≡ spawner.waits l.fn.spawner;
-      bad_ends : spawner.bad_ends l.spawner ≡ spawner.bad_ends l.fn.spawner;
+      waits : (spawner.seen l.spawner).waits ≡ (spawner.seen l.fn.spawner).waits;
+      bad_ends : (spawner.seen l.spawner).bad_ends ≡ (spawner.seen l.fn.spawner).bad_ends;
       well : spawner.all_end_well l.fn.spawner → spawner.all_end_well l.spawner;
-      faults : TellsFaults (spawner.never_fails l.fn.spawner) (spawner.never_fails l.spawner) (spawner.faults l.fn.spawner) (spawner.faults l.spawner) ⊥;
+      faults : TellsFaults (spawner.never_fails l.fn.spawner) (spawner.never_fails l.spawner) (spawner.seen l.fn.spawner).faults (spawner.seen l.spawner).faults ⊥;
     }

@@ -16,15 +16,15 @@ loop-piece-preserved g c =
     let pieces = c.args.pieces.now in
     let piece = c.piece-item.result in
     let at : slice_get pieces i ≡ Some piece = slice_get_read pieces (length pieces) i piece refl c.loop-piece-test.true c.piece-item.is in
-    let told : link.sent c.send.new.self ≡ with_more (link.sent c.loop-piece.link) ((host, piece) ∷ []) = rw c.as_slice.ensures at c.in_ok-send.ensures.sent in
+    let told : (link.seen c.send.new.self).sent ≡ with_more (link.seen c.loop-piece.link).sent ((host, piece) ∷ []) = rw c.as_slice.ensures at c.in_ok-send.ensures.sent in
     record {
       sent = rw (to_host_more pieces host i piece at)
-          (fronts_both (to_host (take i pieces) host) ((host, piece) ∷ []) (Ok tt) (link.sent c.args.link.now) (link.sent c.loop-piece.link) (link.sent c.send.new.self) now.sent
-          (fronts_one (host, piece) (link.sent c.loop-piece.link) (link.sent c.send.new.self) told));
+          (fronts_both (to_host (take i pieces) host) ((host, piece) ∷ []) (Ok tt) (link.seen c.args.link.now).sent (link.seen c.loop-piece.link).sent (link.seen c.send.new.self).sent now.sent
+          (fronts_one (host, piece) (link.seen c.loop-piece.link).sent (link.seen c.send.new.self).sent told));
       received = c.in_ok-send.ensures.received ∙ now.received;
       opens = c.in_ok-send.ensures.opens ∙ now.opens;
-      faults = tells_both (link.faults c.args.link.now) (link.faults c.loop-piece.link) (link.faults c.send.new.self) now.faults
-          (tells_call (link.faults c.loop-piece.link) (link.faults c.send.new.self) c.send.result c.send.ensures.cause c.send.ensures.sound c.send.ensures.quiet) (λ no. absurd no);
+      faults = tells_both (link.seen c.args.link.now).faults (link.seen c.loop-piece.link).faults (link.seen c.send.new.self).faults now.faults
+          (tells_call (link.seen c.loop-piece.link).faults (link.seen c.send.new.self).faults c.send.result c.send.ensures.cause c.send.ensures.sound c.send.ensures.quiet) (λ no. absurd no);
     }
 
 pub returns-in_err-send-clause-sent : goal.returns-in_err-send-clause-sent
@@ -33,7 +33,7 @@ returns-in_err-send-clause-sent g c =
     let i = c.loop-piece.piece-index in
     let host = c.args.host in
     let pieces = c.args.pieces.now in
-    fronts_stop (to_host pieces host) (to_host (take i pieces) host) (to_host (drop i pieces) host) (Ok tt) c.from_residual.result (link.sent c.args.link.now) (link.sent c.send.new.self)
+    fronts_stop (to_host pieces host) (to_host (take i pieces) host) (to_host (drop i pieces) host) (Ok tt) c.from_residual.result (link.seen c.args.link.now).sent (link.seen c.send.new.self).sent
     (to_host_parts pieces host i)
-    (fronts_kept (to_host (take i pieces) host) (link.sent c.args.link.now) (link.sent c.loop-piece.link) (link.sent c.send.new.self) c.loop-piece.invariant.sent c.in_err-send.ensures.sent)
+    (fronts_kept (to_host (take i pieces) host) (link.seen c.args.link.now).sent (link.seen c.loop-piece.link).sent (link.seen c.send.new.self).sent c.loop-piece.invariant.sent c.in_err-send.ensures.sent)
     (not_ok _ c.from_residual.result c.from_residual.ensures.1)

@@ -9,8 +9,8 @@ abbrev pub invariant-loop-piece : goal.invariant-loop-piece
 invariant-loop-piece g l =
     let link = g.L.Link in
     record {
-      sent : SendsFront {E = Failed} (to_host (take l.piece-index l.pieces) l.host) (Ok tt) (link.sent l.fn.link) (link.sent l.link);
-      received : link.received l.link ≡ link.received l.fn.link;
-      opens : link.opens l.link ≡ link.opens l.fn.link;
-      faults : TellsFaults (link.never_fails l.fn.link) (link.never_fails l.link) (link.faults l.fn.link) (link.faults l.link) ⊥;
+      sent : SendsFront {E = Failed} (to_host (take l.piece-index l.pieces) l.host) (Ok tt) (link.seen l.fn.link).sent (link.seen l.link).sent;
+      received : (link.seen l.link).received ≡ (link.seen l.fn.link).received;
+      opens : (link.seen l.link).opens ≡ (link.seen l.fn.link).opens;
+      faults : TellsFaults (link.never_fails l.fn.link) (link.never_fails l.link) (link.seen l.fn.link).faults (link.seen l.link).faults ⊥;
     }

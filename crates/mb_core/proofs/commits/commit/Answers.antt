@@ -26,34 +26,34 @@ returns-in_default-batch_at g c = λ me x k b st next.
 pub sign-requires-clause-fits : goal.sign-requires-clause-fits
 sign-requires-clause-fits g c =
     let r = c.args.replica.now in
-    let q = commit_due _ _ _ _ _ r c.args.done.now c.args.pos c.requires in
+    let q = commit_due _ r c.args.done.now c.args.pos c.requires in
     fits_unsigned q.me r q.history q.next.represents (signed q.me q.history (commit q.me q.history c.args.pos q.slot q.batch)) (commit_may q.me r r q.history c.args.pos q.slot q.batch q.next) (stamped.Commit (record { view = c.view.result; pos = c.args.pos; counter = c.in-Some.order.0; cert = c.in-Some.order.1; body = Whole c.in_ok-copy.copy; ui = NO_UI })) (no_ui_fits r.agreement.shape)
     (commit_made q.me r r q.history c.args.pos q.slot q.batch q.next c.view.result c.in-Some.order.0 c.in-Some.order.1 c.in_ok-copy.copy c.in-Some-batch_at.batch.now (c.view.ensures q.me q.history q.next.represents) (c.in-Some.ensures q.me.shape q.me.host (searches_in q.me q.history) q.next.represents.tables.normal) (c.in-Some-batch_at.ensures q.me.shape q.me.host (searches_in q.me q.history) q.next.represents.tables.normal) c.in_ok-copy.ensures)
 
 pub sign-requires-clause-unspent : goal.sign-requires-clause-unspent
 sign-requires-clause-unspent g c =
     let r = c.args.replica.now in
-    let q = commit_due _ _ _ _ _ r c.args.done.now c.args.pos c.requires in
+    let q = commit_due _ r c.args.done.now c.args.pos c.requires in
     is_left q.me r q.history q.next.represents (signed q.me q.history (commit q.me q.history c.args.pos q.slot q.batch)) (commit_may q.me r r q.history c.args.pos q.slot q.batch q.next)
 
 pub publish-requires-clause-room : goal.publish-requires-clause-room
 publish-requires-clause-room g c =
     let r = c.args.replica.now in
-    let q = commit_due _ _ _ _ _ r c.args.done.now c.args.pos c.requires in
+    let q = commit_due _ r c.args.done.now c.args.pos c.requires in
     room_signed q.me r q.history q.next.represents (signed q.me q.history (commit q.me q.history c.args.pos q.slot q.batch)) (commit_may q.me r r q.history c.args.pos q.slot q.batch q.next) c.count_vote.new.self (then_normal q.me r c.sign.new.replica c.count_vote.new.self (begun q.me r c.sign.new.replica c.in_ok-signed.ensures.writes) c.count_vote.ensures.writes) c.in_ok-signed.signed.message
     ((c.in_ok-signed.ensures.signed q.me q.history q.next.represents.who q.next.represents.tables.counter).message ∙ commit_made q.me r r q.history c.args.pos q.slot q.batch q.next c.view.result c.in-Some.order.0 c.in-Some.order.1 c.in_ok-copy.copy c.in-Some-batch_at.batch.now (c.view.ensures q.me q.history q.next.represents) (c.in-Some.ensures q.me.shape q.me.host (searches_in q.me q.history) q.next.represents.tables.normal) (c.in-Some-batch_at.ensures q.me.shape q.me.host (searches_in q.me q.history) q.next.represents.tables.normal) c.in_ok-copy.ensures)
 
 pub publish-requires-clause-fits : goal.publish-requires-clause-fits
 publish-requires-clause-fits g c =
     let r = c.args.replica.now in
-    let q = commit_due _ _ _ _ _ r c.args.done.now c.args.pos c.requires in
+    let q = commit_due _ r c.args.done.now c.args.pos c.requires in
     sent_signed q.me r q.history q.next.represents (signed q.me q.history (commit q.me q.history c.args.pos q.slot q.batch)) (commit_may q.me r r q.history c.args.pos q.slot q.batch q.next) c.count_vote.new.self (then_normal q.me r c.sign.new.replica c.count_vote.new.self (begun q.me r c.sign.new.replica c.in_ok-signed.ensures.writes) c.count_vote.ensures.writes) c.in_ok-signed.signed.message
     ((c.in_ok-signed.ensures.signed q.me q.history q.next.represents.who q.next.represents.tables.counter).message ∙ commit_made q.me r r q.history c.args.pos q.slot q.batch q.next c.view.result c.in-Some.order.0 c.in-Some.order.1 c.in_ok-copy.copy c.in-Some-batch_at.batch.now (c.view.ensures q.me q.history q.next.represents) (c.in-Some.ensures q.me.shape q.me.host (searches_in q.me q.history) q.next.represents.tables.normal) (c.in-Some-batch_at.ensures q.me.shape q.me.host (searches_in q.me q.history) q.next.represents.tables.normal) c.in_ok-copy.ensures)
 
 pub publish-requires-clause-body : goal.publish-requires-clause-body
 publish-requires-clause-body g c =
     let r = c.args.replica.now in
-    let q = commit_due _ _ _ _ _ r c.args.done.now c.args.pos c.requires in
+    let q = commit_due _ r c.args.done.now c.args.pos c.requires in
     let s = c.in_ok-signed.ensures.signed q.me q.history q.next.represents.who q.next.represents.tables.counter in
     s.body ∙ ap stamped_digest (sym s.message)
 

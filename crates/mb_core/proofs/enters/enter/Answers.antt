@@ -19,41 +19,41 @@ returns-in_default g c = λ me x n st next. absurd (some_new_view me c.args.repl
 pub sign-requires-clause-fits : goal.sign-requires-clause-fits
 sign-requires-clause-fits g c =
     let r = c.args.replica.now in
-    let q = enter_due _ _ _ _ _ r c.args.done.now c.requires in
+    let q = enter_due _ r c.args.done.now c.requires in
     fits_unsigned q.me r q.history q.next.represents (signed q.me q.history (enter q.new_view)) (enter_may q.me r r q.history q.new_view q.next) (stamped.Enter (record { view = c.in-Some.new_view.now.view; counter = c.in-Some.new_view.now.ui.counter; plan = c.in-Some.new_view.now.plan; ui = NO_UI })) (no_ui_fits r.agreement.shape)
     (enter_made q.me r r q.history q.new_view q.next c.in-Some.new_view.now c.in-Some.ensures)
 
 pub sign-requires-clause-unspent : goal.sign-requires-clause-unspent
 sign-requires-clause-unspent g c =
     let r = c.args.replica.now in
-    let q = enter_due _ _ _ _ _ r c.args.done.now c.requires in
+    let q = enter_due _ r c.args.done.now c.requires in
     is_left q.me r q.history q.next.represents (signed q.me q.history (enter q.new_view)) (enter_may q.me r r q.history q.new_view q.next)
 
 pub publish-requires-clause-room : goal.publish-requires-clause-room
 publish-requires-clause-room g c =
     let r = c.args.replica.now in
-    let q = enter_due _ _ _ _ _ r c.args.done.now c.requires in
+    let q = enter_due _ r c.args.done.now c.requires in
     room_signed q.me r q.history q.next.represents (signed q.me q.history (enter q.new_view)) (enter_may q.me r r q.history q.new_view q.next) c.hold_enter.new.replica (then_change q.me r c.sign.new.replica c.hold_enter.new.replica (begun q.me r c.sign.new.replica c.in_ok-signed.ensures.writes) c.hold_enter.ensures.writes) c.in_ok-signed.signed.message
     ((c.in_ok-signed.ensures.signed q.me q.history q.next.represents.who q.next.represents.tables.counter).message ∙ enter_made q.me r r q.history q.new_view q.next c.in-Some.new_view.now c.in-Some.ensures)
 
 pub publish-requires-clause-fits : goal.publish-requires-clause-fits
 publish-requires-clause-fits g c =
     let r = c.args.replica.now in
-    let q = enter_due _ _ _ _ _ r c.args.done.now c.requires in
+    let q = enter_due _ r c.args.done.now c.requires in
     sent_signed q.me r q.history q.next.represents (signed q.me q.history (enter q.new_view)) (enter_may q.me r r q.history q.new_view q.next) c.hold_enter.new.replica (then_change q.me r c.sign.new.replica c.hold_enter.new.replica (begun q.me r c.sign.new.replica c.in_ok-signed.ensures.writes) c.hold_enter.ensures.writes) c.in_ok-signed.signed.message
     ((c.in_ok-signed.ensures.signed q.me q.history q.next.represents.who q.next.represents.tables.counter).message ∙ enter_made q.me r r q.history q.new_view q.next c.in-Some.new_view.now c.in-Some.ensures)
 
 pub publish-requires-clause-body : goal.publish-requires-clause-body
 publish-requires-clause-body g c =
     let r = c.args.replica.now in
-    let q = enter_due _ _ _ _ _ r c.args.done.now c.requires in
+    let q = enter_due _ r c.args.done.now c.requires in
     let s = c.in_ok-signed.ensures.signed q.me q.history q.next.represents.who q.next.represents.tables.counter in
     s.body ∙ ap stamped_digest (sym s.message)
 
 pub hold_enter-requires : goal.hold_enter-requires
 hold_enter-requires g c =
     let r = c.args.replica.now in
-    let q = enter_due _ _ _ _ _ r c.args.done.now c.requires in
+    let q = enter_due _ r c.args.done.now c.requires in
     let s = c.in_ok-signed.ensures.signed q.me q.history q.next.represents.who q.next.represents.tables.counter in
     own_host q.me r c.sign.new.replica q.history q.next.represents.who c.in_ok-signed.ensures.writes.same c.in_ok-signed.signed.ui.host (ap (λ (u : Ui). u.host) s.ui)
 

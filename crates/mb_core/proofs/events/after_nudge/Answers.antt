@@ -8,10 +8,10 @@ use Rattle.mb_core.proofs.events.after_nudge.Goals as goal
 
 -- src/events.rt
 pub on_nudge-requires : goal.on_nudge-requires
-on_nudge-requires g c = step_history _ _ _ _ _ _ _ c.requires
+on_nudge-requires g c = step_history _ _ _ c.requires
 
 pub finished-requires : goal.finished-requires
-finished-requires g c = step_goes_on _ _ _ _ _ _ _ _ _ (λ me x. (on_nudge me x).left) c.requires (λ me x serves st. c.in_ok-on_nudge.ensures me x st)
+finished-requires g c = step_goes_on _ _ _ _ _ (λ me x. (on_nudge me x).left) c.requires (λ me x serves st. c.in_ok-on_nudge.ensures me x st)
 
 pub returns : goal.returns
 returns g c = λ me d serves st. (

@@ -6,10 +6,10 @@ use Rattle.mb_core.proofs.events.after_patience.Goals as goal
 
 -- src/events.rt
 pub on_patience-requires : goal.on_patience-requires
-on_patience-requires g c = step_history _ _ _ _ _ _ _ c.requires
+on_patience-requires g c = step_history _ _ _ c.requires
 
 pub finished_where-requires : goal.finished_where-requires
-finished_where-requires g c = step_goes_on _ _ _ _ _ _ _ _ _ (λ me x. (on_patience me x).left) c.requires (λ me x serves st. (c.in_ok-outcome.ensures me x st).1)
+finished_where-requires g c = step_goes_on _ _ _ _ _ (λ me x. (on_patience me x).left) c.requires (λ me x serves st. (c.in_ok-outcome.ensures me x st).1)
 
 pub returns : goal.returns
 returns g c = λ me d serves st.

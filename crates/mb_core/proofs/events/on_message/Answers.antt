@@ -6,7 +6,7 @@ use Rattle.mb_core.proofs.events.on_message.Goals as goal
 
 -- src/events.rt
 pub finished_where-requires : goal.finished_where-requires
-finished_where-requires g c = step_goes_on _ _ _ _ _ _ _ _ _ (λ me x. (give me c.args.message x).left) c.requires.stepping (λ me x serves st. (c.in_ok-answer.ensures me x serves st).1)
+finished_where-requires g c = step_goes_on _ _ _ _ _ (λ me x. (give me c.args.message x).left) c.requires.stepping (λ me x serves st. (c.in_ok-answer.ensures me x serves st).1)
 
 pub returns : goal.returns
 returns g c = λ me d serves st.

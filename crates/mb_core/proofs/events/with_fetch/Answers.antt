@@ -11,7 +11,7 @@ send_fetch-requires-clause-behind g c =
     behind_low s.me c.args.replica.now s.left.history s.stands.represents (c.asks_for_state.ensures.behind s.me s.left.history s.stands.represents c.if-asks_for_state.true)
 
 pub send_fetch-requires-clause-history : goal.send_fetch-requires-clause-history
-send_fetch-requires-clause-history g c = step_history _ _ _ _ _ _ _ c.requires
+send_fetch-requires-clause-history g c = step_history _ _ _ c.requires
 
 pub returns-then-asks_for_state : goal.returns-then-asks_for_state
 returns-then-asks_for_state g c = λ me d x st before.

@@ -17,7 +17,7 @@ pub returns : goal.returns
 returns g c = λ me x serves s.
     let r = c.args.replica.now in
     let kept = c.keep_at_interval.new.replica in
-    let shelf = shelf_closed me r c.args.done.now c.args.pos c.args.requests x s kept (snapshots_of g.V.Service.part_of g.V.Service.restored) serves.snapshots c.in_ok-keep_at_interval.ensures.kept in
+    let shelf = shelf_closed me r c.args.done.now c.args.pos c.args.requests x s kept (snapshots_of g.V.Service.machine) serves.snapshots c.in_ok-keep_at_interval.ensures.kept in
     let writes = c.in_ok-keep_at_interval.ensures.writes in
     closed_stands me r c.args.done.now c.args.pos c.args.requests x s _ _
     (record { same = record { shape = writes.same.shape; host = writes.same.host; secret = writes.same.secret }; tables = ap (λ (t : Tables _). record t { exec = c.args.pos }) writes.tables }) shelf

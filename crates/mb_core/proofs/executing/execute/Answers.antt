@@ -11,16 +11,16 @@ use Rattle.mb_core.proofs.executing.execute.Goals as goal
 -- src/executing.rt
 pub serve_all-requires : goal.serve_all-requires
 serve_all-requires g c =
-    in_batch g.V.Service.is_state g.V.Service.after g.V.Service.answer g.V.Service.part_of g.V.Service.restored c.args.replica.now c.args.done.now c.args.pos c.requires c.in-Some.batch (λ me d rep. sym c.in-Some.is ∙ c.in_ok-batch.ensures me d rep)
+    in_batch g.V.Service.machine c.args.replica.now c.args.done.now c.args.pos c.requires c.in-Some.batch (λ me d rep. sym c.in-Some.is ∙ c.in_ok-batch.ensures me d rep)
 
 pub close_slot-requires : goal.close_slot-requires
 close_slot-requires g c =
-    let t = in_batch g.V.Service.is_state g.V.Service.after g.V.Service.answer g.V.Service.part_of g.V.Service.restored c.args.replica.now c.args.done.now c.args.pos c.requires c.in-Some.batch (λ me d rep. sym c.in-Some.is ∙ c.in_ok-batch.ensures me d rep) in
+    let t = in_batch g.V.Service.machine c.args.replica.now c.args.done.now c.args.pos c.requires c.in-Some.batch (λ me d rep. sym c.in-Some.is ∙ c.in_ok-batch.ensures me d rep) in
     record { me = t.me; left = serve_all t.me c.args.pos c.in-Some.batch.requests t.left; serves = t.serves; stands = c.in_ok-requests.ensures t.me t.left t.serves t.stands }
 
 pub at_interval-requires : goal.at_interval-requires
 at_interval-requires g c =
-    let t = in_batch g.V.Service.is_state g.V.Service.after g.V.Service.answer g.V.Service.part_of g.V.Service.restored c.args.replica.now c.args.done.now c.args.pos c.requires c.in-Some.batch (λ me d rep. sym c.in-Some.is ∙ c.in_ok-batch.ensures me d rep) in
+    let t = in_batch g.V.Service.machine c.args.replica.now c.args.done.now c.args.pos c.requires c.in-Some.batch (λ me d rep. sym c.in-Some.is ∙ c.in_ok-batch.ensures me d rep) in
     let y = serve_all t.me c.args.pos c.in-Some.batch.requests t.left in
     record { me = t.me; left = close_slot t.me c.args.pos y; serves = t.serves; stands = c.in_ok-close_slot.ensures t.me y t.serves (c.in_ok-requests.ensures t.me t.left t.serves t.stands); executed = refl }
 

@@ -53,5 +53,5 @@ returns g c = λ me x more served serves s.
     let r = c.args.replica.now in
     let q = c.args.request.now in
     let tables = ap (λ (y : Keeping _). record (tables_of r) { normal = c.settle.new.self; service = c.execute.new.self.served; shelf = y.snapshots; parts = y.fetched }) c.in_ok-fresh.ensures.served in
-    replied me r c.args.done.now c.args.pos q more served x s _ c.with_reply.new.done (machine_of g.V.Service.after g.V.Service.answer) c.in_ok-fresh.fresh serves.machine
+    replied me r c.args.done.now c.args.pos q more served x s _ c.with_reply.new.done (machine_of g.V.Service.machine) c.in_ok-fresh.fresh serves.machine
     (record { same = record { shape = refl; host = refl; secret = refl }; tables = tables }) c.in_ok-fresh.ensures.stands c.settle.ensures c.in_ok-fresh.ensures.fresh (λ y p l. c.in_ok-with_reply.ensures me y p l)

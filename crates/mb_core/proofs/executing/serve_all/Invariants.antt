@@ -11,6 +11,6 @@ use Rattle.mb_core.proofs.executing.serve_all.Given as goal
 abbrev pub invariant-loop-request : goal.invariant-loop-request
 invariant-loop-request g l = record {
   len : into_iter_len l.request-iterator ≡ length (into_iter_items l.request-iterator);
-  leads : (me : Identity _) (x : Progress) → Serves g.V.Service.is_state g.V.Service.after g.V.Service.answer g.V.Service.part_of g.V.Service.restored me → ServesOn me l.fn.replica l.fn.done l.pos l.fn.batch.requests [] x
+  leads : (me : Identity _) (x : Progress) → Serves g.V.Service.machine me → ServesOn me l.fn.replica l.fn.done l.pos l.fn.batch.requests [] x
       → Leads me l.replica l.done l.pos (into_iter_items l.request-iterator) l.requests (serve_all me l.pos l.fn.batch.requests x);
 }

@@ -14,34 +14,34 @@ use Rattle.mb_core.proofs.joins.join.Goals as goal
 pub sign-requires-clause-fits : goal.sign-requires-clause-fits
 sign-requires-clause-fits g c =
     let r = c.args.replica.now in
-    let q = join_due _ _ _ _ _ r c.args.done.now c.requires in
+    let q = join_due _ r c.args.done.now c.requires in
     fits_unsigned q.me r q.history q.next.represents (signed q.me q.history (join q.me q.history)) (join_may q.me r r q.history q.next) (stamped.Join (record { view = c.view.result; evidence = c.in_ok-evidence.evidence; stable = c.in_ok-stable.stable; ui = NO_UI })) (no_ui_fits r.agreement.shape)
     (join_made q.me r r q.history q.next c.view.result c.in_ok-evidence.evidence c.in_ok-stable.stable (c.view.ensures q.me q.history q.next.represents) (c.in_ok-evidence.ensures q.me q.history q.next.represents) c.in_ok-stable.ensures)
 
 pub sign-requires-clause-unspent : goal.sign-requires-clause-unspent
 sign-requires-clause-unspent g c =
     let r = c.args.replica.now in
-    let q = join_due _ _ _ _ _ r c.args.done.now c.requires in
+    let q = join_due _ r c.args.done.now c.requires in
     is_left q.me r q.history q.next.represents (signed q.me q.history (join q.me q.history)) (join_may q.me r r q.history q.next)
 
 pub publish-requires-clause-room : goal.publish-requires-clause-room
 publish-requires-clause-room g c =
     let r = c.args.replica.now in
-    let q = join_due _ _ _ _ _ r c.args.done.now c.requires in
+    let q = join_due _ r c.args.done.now c.requires in
     room_signed q.me r q.history q.next.represents (signed q.me q.history (join q.me q.history)) (join_may q.me r r q.history q.next) c.sign.new.replica (begun q.me r c.sign.new.replica c.in_ok-signed.ensures.writes) c.in_ok-signed.signed.message
     ((c.in_ok-signed.ensures.signed q.me q.history q.next.represents.who q.next.represents.tables.counter).message ∙ join_made q.me r r q.history q.next c.view.result c.in_ok-evidence.evidence c.in_ok-stable.stable (c.view.ensures q.me q.history q.next.represents) (c.in_ok-evidence.ensures q.me q.history q.next.represents) c.in_ok-stable.ensures)
 
 pub publish-requires-clause-fits : goal.publish-requires-clause-fits
 publish-requires-clause-fits g c =
     let r = c.args.replica.now in
-    let q = join_due _ _ _ _ _ r c.args.done.now c.requires in
+    let q = join_due _ r c.args.done.now c.requires in
     sent_signed q.me r q.history q.next.represents (signed q.me q.history (join q.me q.history)) (join_may q.me r r q.history q.next) c.sign.new.replica (begun q.me r c.sign.new.replica c.in_ok-signed.ensures.writes) c.in_ok-signed.signed.message
     ((c.in_ok-signed.ensures.signed q.me q.history q.next.represents.who q.next.represents.tables.counter).message ∙ join_made q.me r r q.history q.next c.view.result c.in_ok-evidence.evidence c.in_ok-stable.stable (c.view.ensures q.me q.history q.next.represents) (c.in_ok-evidence.ensures q.me q.history q.next.represents) c.in_ok-stable.ensures)
 
 pub publish-requires-clause-body : goal.publish-requires-clause-body
 publish-requires-clause-body g c =
     let r = c.args.replica.now in
-    let q = join_due _ _ _ _ _ r c.args.done.now c.requires in
+    let q = join_due _ r c.args.done.now c.requires in
     let s = c.in_ok-signed.ensures.signed q.me q.history q.next.represents.who q.next.represents.tables.counter in
     s.body ∙ ap stamped_digest (sym s.message)
 

@@ -16,42 +16,42 @@ use Rattle.mb_core.proofs.new_views.announce.Goals as goal
 pub plan_from-requires : goal.plan_from-requires
 plan_from-requires g c =
     let r = c.args.replica.now in
-    let q = announce_due _ _ _ _ _ r c.args.done.now c.requires in
+    let q = announce_due _ r c.args.done.now c.requires in
     members_fit q.me r r q.history q.changes q.next c.as_slice.result.now (c.as_slice.ensures.value ∙ (chosen_so q.me r r q.history q.changes q.next c.view-view.result (c.view-view.ensures q.me q.history q.next.represents) c.in-Some.changes.items (rw c.in-Some.is at c.in_ok-found.ensures)))
 
 pub sign-requires-clause-fits : goal.sign-requires-clause-fits
 sign-requires-clause-fits g c =
     let r = c.args.replica.now in
-    let q = announce_due _ _ _ _ _ r c.args.done.now c.requires in
+    let q = announce_due _ r c.args.done.now c.requires in
     fits_raw q.me r q.history q.next.represents (signed q.me q.history (new_view q.me q.history q.changes)) (announce_may q.me r r q.history q.changes q.next) (new_view q.me q.history q.changes) c.new_view-message.result (announce_made q.me r r q.history q.changes q.next c.new_view-message.result c.in-Some.changes.items c.in-Some-planned.plan (c.new_view-message.ensures q.me q.history q.next.represents) (chosen_so q.me r r q.history q.changes q.next c.view-view.result (c.view-view.ensures q.me q.history q.next.represents) c.in-Some.changes.items (rw c.in-Some.is at c.in_ok-found.ensures)) (some_is c.in-Some-planned.plan (plan_from q.me c.as_slice.result.now) (sym c.in-Some-planned.is ∙ c.in_ok-planned.ensures.plan q.me q.history q.next.represents (members_enough q.me r r q.history q.changes q.next c.as_slice.result.now (c.as_slice.ensures.value ∙ (chosen_so q.me r r q.history q.changes q.next c.view-view.result (c.view-view.ensures q.me q.history q.next.represents) c.in-Some.changes.items (rw c.in-Some.is at c.in_ok-found.ensures))))) ∙ ap (plan_from q.me) c.as_slice.ensures.value)) refl
 
 pub sign-requires-clause-unspent : goal.sign-requires-clause-unspent
 sign-requires-clause-unspent g c =
     let r = c.args.replica.now in
-    let q = announce_due _ _ _ _ _ r c.args.done.now c.requires in
+    let q = announce_due _ r c.args.done.now c.requires in
     is_left q.me r q.history q.next.represents (signed q.me q.history (new_view q.me q.history q.changes)) (announce_may q.me r r q.history q.changes q.next)
 
 pub hold_own-requires : goal.hold_own-requires
 hold_own-requires g c =
-    let q = announce_due _ _ _ _ _ c.args.replica.now c.args.done.now c.requires in
+    let q = announce_due _ c.args.replica.now c.args.done.now c.requires in
     let s = c.in_ok-signed.ensures.signed q.me q.history q.next.represents.who q.next.represents.tables.counter in
     s.body ∙ ap stamped_digest (sym s.message)
 
 pub publish-requires-clause-room : goal.publish-requires-clause-room
 publish-requires-clause-room g c =
     let r = c.args.replica.now in
-    let q = announce_due _ _ _ _ _ r c.args.done.now c.requires in
+    let q = announce_due _ r c.args.done.now c.requires in
     room_signed q.me r q.history q.next.represents (signed q.me q.history (new_view q.me q.history q.changes)) (announce_may q.me r r q.history q.changes q.next) c.count_opens.new.self (announce_begun q.me r c.sign.new.replica c.in_ok-signed.ensures.writes _ _ c.hold_own.new.replica c.hold_plan.new.self c.count_opens.new.self c.hold_own.ensures.writes (went_well c.hold_plan.result c.in_ok-signed-2.signed c.in_ok-signed-3.signed c.in_ok-signed-3.ensures c.hold_plan.ensures) c.count_opens.ensures.writes) c.in_ok-signed-3.signed.message ((still_signed _ c.hold_plan.result c.in_ok-signed-2.signed c.in_ok-signed-3.signed c.in_ok-signed-3.ensures (still_signed _ c.hold_own.result c.in_ok-signed.signed c.in_ok-signed-2.signed c.in_ok-signed-2.ensures (c.in_ok-signed.ensures.signed q.me q.history q.next.represents.who q.next.represents.tables.counter))).message ∙ signed_raw q.me q.history (new_view q.me q.history q.changes) c.new_view-message.result (announce_made q.me r r q.history q.changes q.next c.new_view-message.result c.in-Some.changes.items c.in-Some-planned.plan (c.new_view-message.ensures q.me q.history q.next.represents) (chosen_so q.me r r q.history q.changes q.next c.view-view.result (c.view-view.ensures q.me q.history q.next.represents) c.in-Some.changes.items (rw c.in-Some.is at c.in_ok-found.ensures)) (some_is c.in-Some-planned.plan (plan_from q.me c.as_slice.result.now) (sym c.in-Some-planned.is ∙ c.in_ok-planned.ensures.plan q.me q.history q.next.represents (members_enough q.me r r q.history q.changes q.next c.as_slice.result.now (c.as_slice.ensures.value ∙ (chosen_so q.me r r q.history q.changes q.next c.view-view.result (c.view-view.ensures q.me q.history q.next.represents) c.in-Some.changes.items (rw c.in-Some.is at c.in_ok-found.ensures))))) ∙ ap (plan_from q.me) c.as_slice.ensures.value)))
 
 pub publish-requires-clause-fits : goal.publish-requires-clause-fits
 publish-requires-clause-fits g c =
     let r = c.args.replica.now in
-    let q = announce_due _ _ _ _ _ r c.args.done.now c.requires in
+    let q = announce_due _ r c.args.done.now c.requires in
     sent_signed q.me r q.history q.next.represents (signed q.me q.history (new_view q.me q.history q.changes)) (announce_may q.me r r q.history q.changes q.next) c.count_opens.new.self (announce_begun q.me r c.sign.new.replica c.in_ok-signed.ensures.writes _ _ c.hold_own.new.replica c.hold_plan.new.self c.count_opens.new.self c.hold_own.ensures.writes (went_well c.hold_plan.result c.in_ok-signed-2.signed c.in_ok-signed-3.signed c.in_ok-signed-3.ensures c.hold_plan.ensures) c.count_opens.ensures.writes) c.in_ok-signed-3.signed.message ((still_signed _ c.hold_plan.result c.in_ok-signed-2.signed c.in_ok-signed-3.signed c.in_ok-signed-3.ensures (still_signed _ c.hold_own.result c.in_ok-signed.signed c.in_ok-signed-2.signed c.in_ok-signed-2.ensures (c.in_ok-signed.ensures.signed q.me q.history q.next.represents.who q.next.represents.tables.counter))).message ∙ signed_raw q.me q.history (new_view q.me q.history q.changes) c.new_view-message.result (announce_made q.me r r q.history q.changes q.next c.new_view-message.result c.in-Some.changes.items c.in-Some-planned.plan (c.new_view-message.ensures q.me q.history q.next.represents) (chosen_so q.me r r q.history q.changes q.next c.view-view.result (c.view-view.ensures q.me q.history q.next.represents) c.in-Some.changes.items (rw c.in-Some.is at c.in_ok-found.ensures)) (some_is c.in-Some-planned.plan (plan_from q.me c.as_slice.result.now) (sym c.in-Some-planned.is ∙ c.in_ok-planned.ensures.plan q.me q.history q.next.represents (members_enough q.me r r q.history q.changes q.next c.as_slice.result.now (c.as_slice.ensures.value ∙ (chosen_so q.me r r q.history q.changes q.next c.view-view.result (c.view-view.ensures q.me q.history q.next.represents) c.in-Some.changes.items (rw c.in-Some.is at c.in_ok-found.ensures))))) ∙ ap (plan_from q.me) c.as_slice.ensures.value)))
 
 pub publish-requires-clause-body : goal.publish-requires-clause-body
 publish-requires-clause-body g c =
-    let q = announce_due _ _ _ _ _ c.args.replica.now c.args.done.now c.requires in
+    let q = announce_due _ c.args.replica.now c.args.done.now c.requires in
     let s = still_signed _ c.hold_plan.result c.in_ok-signed-2.signed c.in_ok-signed-3.signed c.in_ok-signed-3.ensures (still_signed _ c.hold_own.result c.in_ok-signed.signed c.in_ok-signed-2.signed c.in_ok-signed-2.ensures (c.in_ok-signed.ensures.signed q.me q.history q.next.represents.who q.next.represents.tables.counter)) in
     s.body ∙ ap stamped_digest (sym s.message)
 

@@ -1,4 +1,5 @@
 use Rattle.std.proofs.Common.{◌∙◌, ◌<◌, ap, sym, Some, arith}
+use Rattle.mb_base.specs.Limits.{plan_limit}
 use Rattle.mb_msg.specs.declared.change.Plan.{Plan}
 use Rattle.mb_model.specs.Held.{plan_of_view}
 use Rattle.mb_core.proofs.Carrying.{index_within, carry_read}
@@ -7,12 +8,12 @@ use Rattle.mb_core.proofs.opens.carry_on_at.Goals as goal
 -- src/opens.rt
 pub overflow_add-pos : goal.overflow_add-pos
 overflow_add-pos g c =
-    let few : c.args.index < 64 = index_within (plan_of_view c.args.view c.args.replica.now.agreement.change.plan) c.plan-plan.result.now c.args.index (ap (λ (p : Plan). Some p) c.plan-plan.ensures.plan ∙ c.in-Some.ensures.plan) c.requires.index c.plan-plan.ensures.hashed in
+    let few : c.args.index < plan_limit = index_within (plan_of_view c.args.view c.args.replica.now.agreement.change.plan) c.plan-plan.result.now c.args.index (ap (λ (p : Plan). Some p) c.plan-plan.ensures.plan ∙ c.in-Some.ensures.plan) c.requires.index c.plan-plan.ensures.hashed in
     let base = c.requires.base in omega (arith, few, base)
 
 pub overflow_add-pos-2 : goal.overflow_add-pos-2
 overflow_add-pos-2 g c =
-    let few : c.args.index < 64 = index_within (plan_of_view c.args.view c.args.replica.now.agreement.change.plan) c.plan-plan.result.now c.args.index (ap (λ (p : Plan). Some p) c.plan-plan.ensures.plan ∙ c.in-Some.ensures.plan) c.requires.index c.plan-plan.ensures.hashed in
+    let few : c.args.index < plan_limit = index_within (plan_of_view c.args.view c.args.replica.now.agreement.change.plan) c.plan-plan.result.now c.args.index (ap (λ (p : Plan). Some p) c.plan-plan.ensures.plan ∙ c.in-Some.ensures.plan) c.requires.index c.plan-plan.ensures.hashed in
     let base = c.requires.base in omega (arith, few, base)
 
 pub returns-clause-carries : goal.returns-clause-carries

@@ -14,37 +14,37 @@ use Rattle.mb_core.proofs.opens.open.Goals as goal
 pub sign-requires-clause-fits : goal.sign-requires-clause-fits
 sign-requires-clause-fits g c =
     let r = c.args.replica.now in
-    let q = open_due _ _ _ _ _ r c.args.done.now c.requires in
+    let q = open_due _ r c.args.done.now c.requires in
     fits_raw q.me r q.history q.next.represents (signed q.me q.history (opening q.evidence q.plan)) (open_may q.me r r q.history q.evidence q.plan q.next) (open_raw q.me r r q.history q.evidence q.plan q.next) c.in-Some-opening.message (opening_is q.me r r q.history q.evidence q.plan q.next c.in_ok-opening.opening c.in-Some-opening.message (opening_so q.me r r q.history q.evidence q.plan q.next c.view-view.result c.in-Some.evidence (c.view-view.ensures q.me q.history q.next.represents) (evidence_is q.me r r q.history q.evidence q.plan q.next c.in_ok-found.found c.in-Some.evidence (evidence_so q.me r r q.history q.evidence q.plan q.next c.view-view.result (c.view-view.ensures q.me q.history q.next.represents) c.in_ok-found.found c.in_ok-found.ensures) c.in-Some.is) c.in_ok-opening.opening (c.in_ok-opening.ensures q.me q.history q.next.represents)) c.in-Some-opening.is) (open_signs q.me r r q.history q.evidence q.plan q.next)
 
 pub sign-requires-clause-unspent : goal.sign-requires-clause-unspent
 sign-requires-clause-unspent g c =
     let r = c.args.replica.now in
-    let q = open_due _ _ _ _ _ r c.args.done.now c.requires in
+    let q = open_due _ r c.args.done.now c.requires in
     is_left q.me r q.history q.next.represents (signed q.me q.history (opening q.evidence q.plan)) (open_may q.me r r q.history q.evidence q.plan q.next)
 
 pub publish-requires-clause-room : goal.publish-requires-clause-room
 publish-requires-clause-room g c =
     let r = c.args.replica.now in
-    let q = open_due _ _ _ _ _ r c.args.done.now c.requires in
+    let q = open_due _ r c.args.done.now c.requires in
     room_signed q.me r q.history q.next.represents (signed q.me q.history (opening q.evidence q.plan)) (open_may q.me r r q.history q.evidence q.plan q.next) c.hold_own_evidence.new.replica (then_change q.me r c.carry_on.new.replica c.hold_own_evidence.new.replica (then_normal q.me r c.sign.new.replica c.carry_on.new.replica (begun q.me r c.sign.new.replica c.in_ok-signed.ensures.writes) c.carry_on.ensures.writes) c.hold_own_evidence.ensures.writes) c.in_ok-signed-2.signed.message ((still_signed _ c.carry_on.result c.in_ok-signed.signed c.in_ok-signed-2.signed c.in_ok-signed-2.ensures (c.in_ok-signed.ensures.signed q.me q.history q.next.represents.who q.next.represents.tables.counter)).message ∙ signed_raw q.me q.history (open_raw q.me r r q.history q.evidence q.plan q.next) c.in-Some-opening.message (opening_is q.me r r q.history q.evidence q.plan q.next c.in_ok-opening.opening c.in-Some-opening.message (opening_so q.me r r q.history q.evidence q.plan q.next c.view-view.result c.in-Some.evidence (c.view-view.ensures q.me q.history q.next.represents) (evidence_is q.me r r q.history q.evidence q.plan q.next c.in_ok-found.found c.in-Some.evidence (evidence_so q.me r r q.history q.evidence q.plan q.next c.view-view.result (c.view-view.ensures q.me q.history q.next.represents) c.in_ok-found.found c.in_ok-found.ensures) c.in-Some.is) c.in_ok-opening.opening (c.in_ok-opening.ensures q.me q.history q.next.represents)) c.in-Some-opening.is) ∙ open_signs q.me r r q.history q.evidence q.plan q.next)
 
 pub publish-requires-clause-fits : goal.publish-requires-clause-fits
 publish-requires-clause-fits g c =
     let r = c.args.replica.now in
-    let q = open_due _ _ _ _ _ r c.args.done.now c.requires in
+    let q = open_due _ r c.args.done.now c.requires in
     sent_signed q.me r q.history q.next.represents (signed q.me q.history (opening q.evidence q.plan)) (open_may q.me r r q.history q.evidence q.plan q.next) c.hold_own_evidence.new.replica (then_change q.me r c.carry_on.new.replica c.hold_own_evidence.new.replica (then_normal q.me r c.sign.new.replica c.carry_on.new.replica (begun q.me r c.sign.new.replica c.in_ok-signed.ensures.writes) c.carry_on.ensures.writes) c.hold_own_evidence.ensures.writes) c.in_ok-signed-2.signed.message ((still_signed _ c.carry_on.result c.in_ok-signed.signed c.in_ok-signed-2.signed c.in_ok-signed-2.ensures (c.in_ok-signed.ensures.signed q.me q.history q.next.represents.who q.next.represents.tables.counter)).message ∙ signed_raw q.me q.history (open_raw q.me r r q.history q.evidence q.plan q.next) c.in-Some-opening.message (opening_is q.me r r q.history q.evidence q.plan q.next c.in_ok-opening.opening c.in-Some-opening.message (opening_so q.me r r q.history q.evidence q.plan q.next c.view-view.result c.in-Some.evidence (c.view-view.ensures q.me q.history q.next.represents) (evidence_is q.me r r q.history q.evidence q.plan q.next c.in_ok-found.found c.in-Some.evidence (evidence_so q.me r r q.history q.evidence q.plan q.next c.view-view.result (c.view-view.ensures q.me q.history q.next.represents) c.in_ok-found.found c.in_ok-found.ensures) c.in-Some.is) c.in_ok-opening.opening (c.in_ok-opening.ensures q.me q.history q.next.represents)) c.in-Some-opening.is) ∙ open_signs q.me r r q.history q.evidence q.plan q.next)
 
 pub publish-requires-clause-body : goal.publish-requires-clause-body
 publish-requires-clause-body g c =
-    let q = open_due _ _ _ _ _ c.args.replica.now c.args.done.now c.requires in
+    let q = open_due _ c.args.replica.now c.args.done.now c.requires in
     let s = still_signed _ c.carry_on.result c.in_ok-signed.signed c.in_ok-signed-2.signed c.in_ok-signed-2.ensures (c.in_ok-signed.ensures.signed q.me q.history q.next.represents.who q.next.represents.tables.counter) in
     s.body ∙ ap stamped_digest (sym s.message)
 
 pub carry_on-requires : goal.carry_on-requires
 carry_on-requires g c =
     let r = c.args.replica.now in
-    let q = open_due _ _ _ _ _ r c.args.done.now c.requires in
+    let q = open_due _ r c.args.done.now c.requires in
     base_low q.me r r q.history q.evidence q.plan q.next c.in-Some.evidence (evidence_is q.me r r q.history q.evidence q.plan q.next c.in_ok-found.found c.in-Some.evidence (evidence_so q.me r r q.history q.evidence q.plan q.next c.view-view.result (c.view-view.ensures q.me q.history q.next.represents) c.in_ok-found.found c.in_ok-found.ensures) c.in-Some.is)
 
 pub returns-in_default : goal.returns-in_default

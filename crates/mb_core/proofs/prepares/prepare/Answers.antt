@@ -19,41 +19,41 @@ use Rattle.mb_core.proofs.prepares.prepare.Goals as goal
 pub sign-requires-clause-fits : goal.sign-requires-clause-fits
 sign-requires-clause-fits g c =
     let r = c.args.replica.now in
-    let q = prepare_due _ _ _ _ _ r c.args.done.now c.requires in
+    let q = prepare_due _ r c.args.done.now c.requires in
     fits_unsigned q.me r q.history q.next.represents (signed q.me q.history (prepare q.me q.history q.pos q.batch)) (prepare_may q.me r r q.history q.pos q.batch q.next) (stamped.Prepare (record { view = c.view.result; pos = c.next_position-pos.result; body = Whole c.in_ok-batch.batch; ui = NO_UI })) (no_ui_fits r.agreement.shape)
     (prepare_made q.me r r q.history q.pos q.batch q.next c.view.result c.next_position-pos.result c.in_ok-batch.batch (c.view.ensures q.me q.history q.next.represents) (c.next_position-pos.ensures q.me q.history q.next.represents) (c.in_ok-batch.ensures q.me.shape q.me.host (searches_in q.me q.history) q.next.represents.tables.normal (prepare_has q.me r r q.history q.pos q.batch q.next).some))
 
 pub sign-requires-clause-unspent : goal.sign-requires-clause-unspent
 sign-requires-clause-unspent g c =
     let r = c.args.replica.now in
-    let q = prepare_due _ _ _ _ _ r c.args.done.now c.requires in
+    let q = prepare_due _ r c.args.done.now c.requires in
     is_left q.me r q.history q.next.represents (signed q.me q.history (prepare q.me q.history q.pos q.batch)) (prepare_may q.me r r q.history q.pos q.batch q.next)
 
 pub with_digest-ordered-requires : goal.with_digest-ordered-requires
 with_digest-ordered-requires g c =
     let r = c.args.replica.now in
-    let q = prepare_due _ _ _ _ _ r c.args.done.now c.requires in
+    let q = prepare_due _ r c.args.done.now c.requires in
     let s = c.in_ok-signed.ensures.signed q.me q.history q.next.represents.who q.next.represents.tables.counter in
     s.body ∙ ap batch_digest (sym c.in_ok-kept.ensures)
 
 pub publish-requires-clause-room : goal.publish-requires-clause-room
 publish-requires-clause-room g c =
     let r = c.args.replica.now in
-    let q = prepare_due _ _ _ _ _ r c.args.done.now c.requires in
+    let q = prepare_due _ r c.args.done.now c.requires in
     room_signed q.me r q.history q.next.represents (signed q.me q.history (prepare q.me q.history q.pos q.batch)) (prepare_may q.me r r q.history q.pos q.batch q.next) c.count_vote.new.self (then_normal q.me r c.put_slot.new.self c.count_vote.new.self (then_normal q.me r c.sign.new.replica c.put_slot.new.self (begun q.me r c.sign.new.replica c.in_ok-signed.ensures.writes) c.put_slot.ensures.writes) c.count_vote.ensures.writes) c.in_ok-signed.signed.message
     ((c.in_ok-signed.ensures.signed q.me q.history q.next.represents.who q.next.represents.tables.counter).message ∙ prepare_made q.me r r q.history q.pos q.batch q.next c.view.result c.next_position-pos.result c.in_ok-batch.batch (c.view.ensures q.me q.history q.next.represents) (c.next_position-pos.ensures q.me q.history q.next.represents) (c.in_ok-batch.ensures q.me.shape q.me.host (searches_in q.me q.history) q.next.represents.tables.normal (prepare_has q.me r r q.history q.pos q.batch q.next).some))
 
 pub publish-requires-clause-fits : goal.publish-requires-clause-fits
 publish-requires-clause-fits g c =
     let r = c.args.replica.now in
-    let q = prepare_due _ _ _ _ _ r c.args.done.now c.requires in
+    let q = prepare_due _ r c.args.done.now c.requires in
     sent_signed q.me r q.history q.next.represents (signed q.me q.history (prepare q.me q.history q.pos q.batch)) (prepare_may q.me r r q.history q.pos q.batch q.next) c.count_vote.new.self (then_normal q.me r c.put_slot.new.self c.count_vote.new.self (then_normal q.me r c.sign.new.replica c.put_slot.new.self (begun q.me r c.sign.new.replica c.in_ok-signed.ensures.writes) c.put_slot.ensures.writes) c.count_vote.ensures.writes) c.in_ok-signed.signed.message
     ((c.in_ok-signed.ensures.signed q.me q.history q.next.represents.who q.next.represents.tables.counter).message ∙ prepare_made q.me r r q.history q.pos q.batch q.next c.view.result c.next_position-pos.result c.in_ok-batch.batch (c.view.ensures q.me q.history q.next.represents) (c.next_position-pos.ensures q.me q.history q.next.represents) (c.in_ok-batch.ensures q.me.shape q.me.host (searches_in q.me q.history) q.next.represents.tables.normal (prepare_has q.me r r q.history q.pos q.batch q.next).some))
 
 pub publish-requires-clause-body : goal.publish-requires-clause-body
 publish-requires-clause-body g c =
     let r = c.args.replica.now in
-    let q = prepare_due _ _ _ _ _ r c.args.done.now c.requires in
+    let q = prepare_due _ r c.args.done.now c.requires in
     let s = c.in_ok-signed.ensures.signed q.me q.history q.next.represents.who q.next.represents.tables.counter in
     s.body ∙ ap stamped_digest (sym s.message)
 

@@ -8,10 +8,10 @@ pub loop-round-init : goal.loop-round-init
 loop-round-init g c = record { stepping = c.requires; runs = λ me x serves st. begins me _ _ x _ refl st }
 
 pub next_rule-requires : goal.next_rule-requires
-next_rule-requires g c = step_history _ _ _ _ _ _ _ c.loop-round.invariant.stepping
+next_rule-requires g c = step_history _ _ _ c.loop-round.invariant.stepping
 
 pub carry_out-requires : goal.carry_out-requires
-carry_out-requires g c = is_due _ _ _ _ _ _ _ _ c.loop-round.invariant.stepping c.in-Some.ensures
+carry_out-requires g c = is_due _ _ _ _ c.loop-round.invariant.stepping c.in-Some.ensures
 
 pub returns-in_default : goal.returns-in_default
 returns-in_default g c = λ me x serves st. stops me c.loop-round.replica c.loop-round.done _ _ (c.in_default.ensures me) (c.loop-round.invariant.runs me x serves st)
@@ -19,9 +19,9 @@ returns-in_default g c = λ me x serves st. stops me c.loop-round.replica c.loop
 pub loop-round-preserved : goal.loop-round-preserved
 loop-round-preserved g c =
     let one : 1000000 - c.loop-round._round ≡ suc (1000000 - (c.loop-round._round + 1)) = omega arith in
-    let due = is_due _ _ _ _ _ _ _ _ c.loop-round.invariant.stepping c.in-Some.ensures in
+    let due = is_due _ _ _ _ c.loop-round.invariant.stepping c.in-Some.ensures in
     record {
-      stepping = is_done _ _ _ _ _ _ c.carry_out.new.replica _ c.carry_out.new.done c.in-Some.rule due c.in_ok-carry_out.ensures;
+      stepping = is_done _ _ c.carry_out.new.replica _ c.carry_out.new.done c.in-Some.rule due c.in_ok-carry_out.ensures;
       runs = λ me x serves st.
           goes_on me c.loop-round.replica c.carry_out.new.replica c.loop-round.done c.carry_out.new.done c.in-Some.rule _ _ _ one
           (c.in-Some.ensures me) (λ y rule stands named next. c.in_ok-carry_out.ensures me y rule serves stands named next) (c.loop-round.invariant.runs me x serves st);

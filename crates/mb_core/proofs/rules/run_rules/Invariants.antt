@@ -5,6 +5,6 @@ use Rattle.mb_core.proofs.rules.run_rules.Given as goal
 
 abbrev pub invariant-loop-round : goal.invariant-loop-round
 invariant-loop-round g l = record {
-  stepping : IsInStep g.V.Service.is_state g.V.Service.after g.V.Service.answer g.V.Service.part_of g.V.Service.restored l.replica l.done;
-  runs : Runs g.V.Service.is_state g.V.Service.after g.V.Service.answer g.V.Service.part_of g.V.Service.restored l.fn.replica l.fn.done l.replica l.done (1000000 - l._round);
+  stepping : IsInStep g.V.Service.machine l.replica l.done;
+  runs : Runs g.V.Service.machine l.fn.replica l.fn.done l.replica l.done (1000000 - l._round);
 }

@@ -15,37 +15,37 @@ use Rattle.mb_core.proofs.view_changes.change_view.Goals as goal
 pub sign-requires-clause-fits : goal.sign-requires-clause-fits
 sign-requires-clause-fits g c =
     let r = c.args.replica.now in
-    let q = change_due _ _ _ _ _ r c.args.done.now c.args.view c.requires in
+    let q = change_due _ r c.args.done.now c.args.view c.requires in
     fits_raw q.me r q.history q.next.represents (signed q.me q.history (view_change q.me q.history c.args.view)) (change_may q.me r r q.history c.args.view q.next) (view_change q.me q.history c.args.view) c.in_ok-message.message (c.in_ok-message.ensures q.me q.history q.next.represents) refl
 
 pub sign-requires-clause-unspent : goal.sign-requires-clause-unspent
 sign-requires-clause-unspent g c =
     let r = c.args.replica.now in
-    let q = change_due _ _ _ _ _ r c.args.done.now c.args.view c.requires in
+    let q = change_due _ r c.args.done.now c.args.view c.requires in
     is_left q.me r q.history q.next.represents (signed q.me q.history (view_change q.me q.history c.args.view)) (change_may q.me r r q.history c.args.view q.next)
 
 pub publish-requires-clause-room : goal.publish-requires-clause-room
 publish-requires-clause-room g c =
     let r = c.args.replica.now in
-    let q = change_due _ _ _ _ _ r c.args.done.now c.args.view c.requires in
+    let q = change_due _ r c.args.done.now c.args.view c.requires in
     room_signed q.me r q.history q.next.represents (signed q.me q.history (view_change q.me q.history c.args.view)) (change_may q.me r r q.history c.args.view q.next) c.count_opens.new.self (then_normal q.me r c.clear_votes.new.replica c.count_opens.new.self (then_normal q.me r c.store_own.new.replica c.clear_votes.new.replica (then_change q.me r c.wish_own.new.replica c.store_own.new.replica (then_change q.me r c.sign.new.replica c.wish_own.new.replica (begun q.me r c.sign.new.replica c.in_ok-signed.ensures.writes) c.wish_own.ensures.writes) c.store_own.ensures.writes) c.clear_votes.ensures.writes) c.count_opens.ensures.writes) c.in_ok-signed-2.signed.message ((still_signed _ c.store_own.result c.in_ok-signed.signed c.in_ok-signed-2.signed c.in_ok-signed-2.ensures (c.in_ok-signed.ensures.signed q.me q.history q.next.represents.who q.next.represents.tables.counter)).message ∙ signed_raw q.me q.history (view_change q.me q.history c.args.view) c.in_ok-message.message (c.in_ok-message.ensures q.me q.history q.next.represents))
 
 pub publish-requires-clause-fits : goal.publish-requires-clause-fits
 publish-requires-clause-fits g c =
     let r = c.args.replica.now in
-    let q = change_due _ _ _ _ _ r c.args.done.now c.args.view c.requires in
+    let q = change_due _ r c.args.done.now c.args.view c.requires in
     sent_signed q.me r q.history q.next.represents (signed q.me q.history (view_change q.me q.history c.args.view)) (change_may q.me r r q.history c.args.view q.next) c.count_opens.new.self (then_normal q.me r c.clear_votes.new.replica c.count_opens.new.self (then_normal q.me r c.store_own.new.replica c.clear_votes.new.replica (then_change q.me r c.wish_own.new.replica c.store_own.new.replica (then_change q.me r c.sign.new.replica c.wish_own.new.replica (begun q.me r c.sign.new.replica c.in_ok-signed.ensures.writes) c.wish_own.ensures.writes) c.store_own.ensures.writes) c.clear_votes.ensures.writes) c.count_opens.ensures.writes) c.in_ok-signed-2.signed.message ((still_signed _ c.store_own.result c.in_ok-signed.signed c.in_ok-signed-2.signed c.in_ok-signed-2.ensures (c.in_ok-signed.ensures.signed q.me q.history q.next.represents.who q.next.represents.tables.counter)).message ∙ signed_raw q.me q.history (view_change q.me q.history c.args.view) c.in_ok-message.message (c.in_ok-message.ensures q.me q.history q.next.represents))
 
 pub publish-requires-clause-body : goal.publish-requires-clause-body
 publish-requires-clause-body g c =
-    let q = change_due _ _ _ _ _ c.args.replica.now c.args.done.now c.args.view c.requires in
+    let q = change_due _ c.args.replica.now c.args.done.now c.args.view c.requires in
     let s = still_signed _ c.store_own.result c.in_ok-signed.signed c.in_ok-signed-2.signed c.in_ok-signed-2.ensures (c.in_ok-signed.ensures.signed q.me q.history q.next.represents.who q.next.represents.tables.counter) in
     s.body ∙ ap stamped_digest (sym s.message)
 
 pub store_own-requires : goal.store_own-requires
 store_own-requires g c =
     let r = c.args.replica.now in
-    let q = change_due _ _ _ _ _ r c.args.done.now c.args.view c.requires in
+    let q = change_due _ r c.args.done.now c.args.view c.requires in
     fits_signed q.me r q.history q.next.represents (signed q.me q.history (view_change q.me q.history c.args.view)) (change_may q.me r r q.history c.args.view q.next) c.wish_own.new.replica (then_change q.me r c.sign.new.replica c.wish_own.new.replica (begun q.me r c.sign.new.replica c.in_ok-signed.ensures.writes) c.wish_own.ensures.writes) c.in_ok-signed.signed.message ((c.in_ok-signed.ensures.signed q.me q.history q.next.represents.who q.next.represents.tables.counter).message ∙ signed_raw q.me q.history (view_change q.me q.history c.args.view) c.in_ok-message.message (c.in_ok-message.ensures q.me q.history q.next.represents))
 
 pub returns : goal.returns

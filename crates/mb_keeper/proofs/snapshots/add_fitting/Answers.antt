@@ -1,4 +1,5 @@
 use Rattle.std.proofs.Common.{◌≤◌, ◌<◌, ◌≡◌, ◌+◌, ◌++◌, ◌∙◌, List, Some, None, length, drop, slice_get, suc, sym, ap, arith}
+use Rattle.mb_base.specs.Limits.{part_bytes_limit}
 use Rattle.mb_base.specs.Shapes.{Bytes}
 use Rattle.mb_model.specs.Making.{fitting}
 use Rattle.mb_fetch.specs.Snapshots.{parts_at}
@@ -19,7 +20,7 @@ returns-then-used-part-gt-MAX_PART_BYTES c =
     let n = c.loop-number.number in
     let p = c.in-Some.part.now in
     let some : Some p ≡ slice_get kept n = c.in-Some.ensures.part ∙ in_kept (parts_at c.args.shelf.now c.args.pos) n in
-    let over : 65536 < c.loop-number.used + length p = omega (arith, c.if-used-part-gt-MAX_PART_BYTES.true) in
+    let over : part_bytes_limit < c.loop-number.used + length p = omega (arith, c.if-used-part-gt-MAX_PART_BYTES.true) in
     no_more c.loop-number.parts _ _ (fits_no_more kept n c.loop-number.used p some over) c.loop-number.invariant.parts
 
 pub loop-number-preserved : goal.loop-number-preserved
@@ -29,7 +30,7 @@ loop-number-preserved c =
     let used = c.loop-number.used in
     let p = c.in-Some.part.now in
     let some : Some p ≡ slice_get kept n = c.in-Some.ensures.part ∙ in_kept (parts_at c.args.shelf.now c.args.pos) n in
-    let le : used + length p ≤ 65536 = omega (arith, c.if-used-part-gt-MAX_PART_BYTES.false) in
+    let le : used + length p ≤ part_bytes_limit = omega (arith, c.if-used-part-gt-MAX_PART_BYTES.false) in
     let up : n + 1 ≡ suc n = omega arith in
     record {
       parts = pushed c.loop-number.parts c.push.new.self (fitting (used + length p) (drop (n + 1) kept)) p c.from_vec.result c.in_ok-push.ensures.ok (c.from_vec.ensures ∙ c.in_ok-from_slice.ensures.items)

@@ -1,4 +1,5 @@
 use Rattle.std.proofs.Common.{rules, ◌<◌, ◌≡◌, ◌+◌, ◌++◌, ◌∷◌, ◌∙◌, List, Some, None, length, drop, slice_get, suc, sym, ap, arith}
+use Rattle.mb_base.specs.Limits.{part_count}
 use Rattle.mb_base.specs.Shapes.{Bytes}
 use Rattle.mb_model.specs.Making.{fitting}
 use Rattle.mb_fetch.specs.Snapshots.{parts_at}
@@ -16,7 +17,7 @@ pub overflow_add-first : goal.overflow_add-first
 overflow_add-first c =
     let kept = kept_at c.args.shelf.now c.args.pos in
     let some : Some c.in-Some.part.now ≡ slice_get kept c.args.first = c.in-Some.ensures.part ∙ in_kept (parts_at c.args.shelf.now c.args.pos) c.args.first in
-    let below : c.args.first < 65 = omega (arith, some_within kept c.args.first c.in-Some.part.now some, c.requires) in
+    let below : c.args.first < part_count = omega (arith, some_within kept c.args.first c.in-Some.part.now some, c.requires) in
     search rules
 
 pub returns : goal.returns

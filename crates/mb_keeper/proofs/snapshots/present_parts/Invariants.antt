@@ -5,6 +5,6 @@ use Rattle.mb_keeper.proofs.snapshots.present_parts.Given as goal
 
 abbrev pub invariant-loop-part : goal.invariant-loop-part
 invariant-loop-part g l = record {
-  parts : l.parts.items ≡ map (g.V.Service.part_of l.service) (range_with_len 0 l.part);
+  parts : l.parts.items ≡ map (g.V.Service.machine.part_of l.service) (range_with_len 0 l.part);
   short : AreShort l.parts.items;
 }

@@ -1,5 +1,6 @@
 use Rattle.std.proofs.Common.{rules, ◌≡◌, ◌++◌, ◌≤◌, ◌+◌, [], ◌∷◌, List, true, false, length, drop, slice_get, Some, sym, subst, arith}
 use Rattle.std.proofs.lemmas.List.{length-append}
+use Rattle.mb_base.specs.Limits.{entry_limit}
 use Rattle.mb_parts.specs.Counted.{counted}
 use Rattle.mb_msg.specs.declared.stamped.Stamped.{Stamped as StampedMessage}
 use Rattle.mb_msg.specs.Spelling.{stamped_bytes}
@@ -30,7 +31,7 @@ loop-index-preserved c =
     let used : c.count-with_message.result ≡ counted l.bytes (stamped_bytes m) = search rules in
     let long = length-append l.sent (m ∷ []) in
     record {
-      few = subst (λ (s : List StampedMessage). length s ≤ 64) (sym new) step.0;
+      few = subst (λ (s : List StampedMessage). length s ≤ entry_limit) (sym new) step.0;
       start = subst (λ (s : List StampedMessage). length s ≡ 0 → c.count-with_message.result ≡ 0) (sym new) (λ z. absurd (omega (arith, z, long)));
       sent = subst (λ (s : List StampedMessage). s ++ more s c.count-with_message.result (drop (l.index + 1) items) ≡ whole) (sym new)
           (subst (λ n. (l.sent ++ m ∷ []) ++ more (l.sent ++ m ∷ []) n (drop (l.index + 1) items) ≡ whole) (sym used) step.1);

@@ -14,7 +14,7 @@ append_stop-requires g c = λ is. false≢true (sym c.requires.runs ∙ c.in-Err
 
 pub returns-in-Ok-clause-kept : goal.returns-in-Ok-clause-kept
 returns-in-Ok-clause-kept g c =
-    appended c.args.journal.now c.append.new.self (g.D.Disk.moments c.args.disk.now) (g.D.Disk.moments c.append.new.disk) c.args.event.now c.requires.runs c.in-Ok.ensures.after c.in-Ok.ensures.full.1 c.requires.fits
+    appended c.args.journal.now c.append.new.self (g.D.Disk.seen c.args.disk.now).moments (g.D.Disk.seen c.append.new.disk).moments c.args.event.now c.requires.runs c.in-Ok.ensures.after c.in-Ok.ensures.full.1 c.requires.fits
     c.in-Ok.ensures.acknowledged c.in-Ok.ensures.any_moment
 
 pub returns-in-Ok-clause-runs : goal.returns-in-Ok-clause-runs
@@ -24,12 +24,12 @@ pub returns-in-Err-clause-kept : goal.returns-in-Err-clause-kept
 returns-in-Err-clause-kept g c =
     let journal = c.args.journal.now in
     let now = c.append.new.self in
-    let told = g.D.Disk.moments c.args.disk.now in
-    let new = g.D.Disk.moments c.append.new.disk in
+    let told = (g.D.Disk.seen c.args.disk.now).moments in
+    let new = (g.D.Disk.seen c.append.new.disk).moments in
     let e = c.args.event.now in
     subst (λ (s : ServeStop). AreKept journal now told new (e ∷ []) [] × IsFullFor s now e) (sym c.append_stop.ensures)
     (not_appended journal now told new e c.in-Err.stop c.requires.runs c.in-Err.ensures.after c.in-Err.ensures.halted c.in-Err.ensures.full c.in-Err.ensures.length
-    (λ none. ap g.D.Disk.moments (c.append.ensures.unchanged none)) c.requires.fits c.in-Err.ensures.any_moment)
+    (λ none. ap (λ x. (g.D.Disk.seen x).moments) (c.append.ensures.unchanged none)) c.requires.fits c.in-Err.ensures.any_moment)
 
 pub returns-in-Err-clause-causes : goal.returns-in-Err-clause-causes
 returns-in-Err-clause-causes g c = subst IsOfKeeping (sym c.append_stop.ensures) (keeping_of c.in-Err.stop)

@@ -8,8 +8,8 @@ abbrev pub invariant-loop-piece : goal.invariant-loop-piece
 invariant-loop-piece g l =
     let link = g.L.Link in
     record {
-      sent : link.sent l.link ≡ with_more (link.sent l.fn.link) (to_peer (take l.piece-index l.pieces) l.peer);
-      received : link.received l.link ≡ link.received l.fn.link;
-      opens : link.opens l.link ≡ link.opens l.fn.link;
-      calm : Calm (link.faults l.fn.link) (link.faults l.link) (link.never_fails l.fn.link) (link.never_fails l.link);
+      sent : (link.seen l.link).sent ≡ with_more (link.seen l.fn.link).sent (to_peer (take l.piece-index l.pieces) l.peer);
+      received : (link.seen l.link).received ≡ (link.seen l.fn.link).received;
+      opens : (link.seen l.link).opens ≡ (link.seen l.fn.link).opens;
+      calm : Calm (link.seen l.fn.link).faults (link.seen l.link).faults (link.never_fails l.fn.link) (link.never_fails l.link);
     }

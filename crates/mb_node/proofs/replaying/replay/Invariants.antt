@@ -10,7 +10,7 @@ abbrev pub invariant-loop-event : goal.invariant-loop-event
 invariant-loop-event g l =
     let v = g.V.Service in
     record {
-      so_far : (me : Identity _) (d : History) → Serves v.is_state v.after v.answer v.part_of v.restored me → Represents me l.fn.replica d → IsWhole d → IsReplayed me d (reverse l.yielded) l.entries.items l.replica;
+      so_far : (me : Identity _) (d : History) → Serves v.machine me → Represents me l.fn.replica d → IsWhole d → IsReplayed me d (reverse l.yielded) l.entries.items l.replica;
       runs : l.replica.halted ≡ false;
-      rests : IsAtRest v.is_state v.after v.answer v.part_of v.restored l.replica;
+      rests : IsAtRest v.machine l.replica;
     }

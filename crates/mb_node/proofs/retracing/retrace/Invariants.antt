@@ -10,8 +10,8 @@ abbrev pub invariant-loop-entry : goal.invariant-loop-entry
 invariant-loop-entry g l =
     let v = g.V.Service in
     record {
-      own : (me : Identity _) → Serves v.is_state v.after v.answer v.part_of v.restored me → me.initial ≡ l.fn.service → IsOf me l.fn.written → IsRetraced me (take l.entry-index l.entry-items) l.replica;
+      own : (me : Identity _) → Serves v.machine me → me.initial ≡ l.fn.service → IsOf me l.fn.written → IsRetraced me (take l.entry-index l.entry-items) l.replica;
       count : l.events ≡ l.entry-index;
       runs : l.replica.halted ≡ false;
-      rests : IsAtRest v.is_state v.after v.answer v.part_of v.restored l.replica;
+      rests : IsAtRest v.machine l.replica;
     }

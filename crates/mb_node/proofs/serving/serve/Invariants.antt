@@ -10,12 +10,12 @@ invariant-loop g l =
     let link = g.L.Link in
     let sink = g.K.Sink in
     record {
-      so_far : SoFar v.is_state v.after v.answer v.part_of v.restored l.fn.replica (link.received l.fn.link) (record { written = sink.written l.fn.out; sent = link.sent l.fn.link })
-          l.replica (link.received l.link) (record { written = sink.written l.out; sent = link.sent l.link }) l.node l.counter;
+      so_far : SoFar v.machine l.fn.replica (link.seen l.fn.link).received (record { written = (sink.seen l.fn.out).bytes; sent = (link.seen l.fn.link).sent })
+          l.replica (link.seen l.link).received (record { written = (sink.seen l.out).bytes; sent = (link.seen l.link).sent }) l.node l.counter;
       few : l.node.quiets ≤ l.counter;
       runs : l.replica.halted ≡ false;
-      rests : IsAtRest v.is_state v.after v.answer v.part_of v.restored l.replica;
-      opens : link.opens l.link ≡ link.opens l.fn.link;
-      links : Calm (link.faults l.fn.link) (link.faults l.link) (link.never_fails l.fn.link) (link.never_fails l.link);
-      sinks : Calm (sink.faults l.fn.out) (sink.faults l.out) (sink.never_fails l.fn.out) (sink.never_fails l.out);
+      rests : IsAtRest v.machine l.replica;
+      opens : (link.seen l.link).opens ≡ (link.seen l.fn.link).opens;
+      links : Calm (link.seen l.fn.link).faults (link.seen l.link).faults (link.never_fails l.fn.link) (link.never_fails l.link);
+      sinks : Calm (sink.seen l.fn.out).faults (sink.seen l.out).faults (sink.never_fails l.fn.out) (sink.never_fails l.out);
     }

@@ -11,14 +11,14 @@ invariant-loop g l =
     let sink = g.K.Sink in
     let disk = g.D.Disk in
     record {
-      so_far : KeptSoFar v.is_state v.after v.answer v.part_of v.restored l.fn.replica l.fn.journal (disk.moments l.fn.disk) (link.received l.fn.link) (record { written = sink.written l.fn.out; sent = link.sent l.fn.link })
-          l.replica l.journal (disk.moments l.disk) (link.received l.link) (record { written = sink.written l.out; sent = link.sent l.link }) l.node l.counter;
+      so_far : KeptSoFar v.machine l.fn.replica l.fn.journal (disk.seen l.fn.disk).moments (link.seen l.fn.link).received (record { written = (sink.seen l.fn.out).bytes; sent = (link.seen l.fn.link).sent })
+          l.replica l.journal (disk.seen l.disk).moments (link.seen l.link).received (record { written = (sink.seen l.out).bytes; sent = (link.seen l.link).sent }) l.node l.counter;
       few : l.node.quiets ≤ l.counter;
       runs : l.replica.halted ≡ false;
-      rests : IsAtRest v.is_state v.after v.answer v.part_of v.restored l.replica;
+      rests : IsAtRest v.machine l.replica;
       keeps : l.journal.halted ≡ false;
-      opens : link.opens l.link ≡ link.opens l.fn.link;
-      links : Calm (link.faults l.fn.link) (link.faults l.link) (link.never_fails l.fn.link) (link.never_fails l.link);
-      sinks : Calm (sink.faults l.fn.out) (sink.faults l.out) (sink.never_fails l.fn.out) (sink.never_fails l.out);
-      disks : Calm (disk.faults l.fn.disk) (disk.faults l.disk) (disk.never_fails l.fn.disk) (disk.never_fails l.disk);
+      opens : (link.seen l.link).opens ≡ (link.seen l.fn.link).opens;
+      links : Calm (link.seen l.fn.link).faults (link.seen l.link).faults (link.never_fails l.fn.link) (link.never_fails l.link);
+      sinks : Calm (sink.seen l.fn.out).faults (sink.seen l.out).faults (sink.never_fails l.fn.out) (sink.never_fails l.out);
+      disks : Calm (disk.seen l.fn.disk).faults (disk.seen l.disk).faults (disk.never_fails l.fn.disk) (disk.never_fails l.disk);
     }

@@ -47,7 +47,7 @@ returns-in_err-send_all-clause-stands g c = λ me d n serves rep whole hosts hos
     let text : Bytes = c.as_slice.result.now in
     let made : text ≡ lines_with (entry_with e s.sent) c.is_stopping.result = c.as_slice.ensures.value ∙ c.in_ok-lines.ensures ∙ ap (λ (l : List Sent). lines_with (entry_with e l) c.is_stopping.result) c.as_slice-sent.ensures in
     let lines : text ≡ lines_at me d e = lines_are me d e s r steps c.is_stopping.result text c.is_stopping.ensures made in
-    let part = subst (λ (l : List Sent). SendsPart (numbered outbox.hosts outbox.host n l) (g.L.Link.sent c.args.link.now) (g.L.Link.sent c.send_all.new.link)) c.as_slice-sent.ensures (c.in_err-send_all.ensures.sends n number) in
+    let part = subst (λ (l : List Sent). SendsPart (numbered outbox.hosts outbox.host n l) (g.L.Link.seen c.args.link.now).sent (g.L.Link.seen c.send_all.new.link).sent) c.as_slice-sent.ensures (c.in_err-send_all.ensures.sends n number) in
     turned_err me d n e _ _ r c.send_all.new.self c.from_residual-in_err-send_all.result p.0 p.1 (λ k is. link_no_budget c.in_err-send_all.field-0.0 k (sym p.2 ∙ is))
     (cut_sending me d e s r steps n outbox.hosts outbox.host _ _ text lines (sends_are me d e s r steps outbox.hosts outbox.host n hosts host) c.in_ok-step.ensures.runs c.in_ok-write_all.ensures.all part)
 
@@ -61,7 +61,7 @@ returns-clause-stands g c = λ me d n serves rep whole hosts host number.
     let text : Bytes = c.as_slice.result.now in
     let made : text ≡ lines_with (entry_with e s.sent) c.is_stopping.result = c.as_slice.ensures.value ∙ c.in_ok-lines.ensures ∙ ap (λ (l : List Sent). lines_with (entry_with e l) c.is_stopping.result) c.as_slice-sent.ensures in
     let lines : text ≡ lines_at me d e = lines_are me d e s r steps c.is_stopping.result text c.is_stopping.ensures made in
-    let sent = c.in_ok-send_all.ensures.sends n number ∙ ap (λ (l : List Sent). with_more (g.L.Link.sent c.args.link.now) (numbered outbox.hosts outbox.host n l)) c.as_slice-sent.ensures in
+    let sent = c.in_ok-send_all.ensures.sends n number ∙ ap (λ (l : List Sent). with_more (g.L.Link.seen c.args.link.now).sent (numbered outbox.hosts outbox.host n l)) c.as_slice-sent.ensures in
     let count = c.in_ok-send_all.ensures.number n number ∙ ap (λ (l : List Sent). (n + length l) % 2 ^ 32) c.as_slice-sent.ensures in
     let want = c.wants.ensures me (transition me d e).left.history steps.represents in
     turned me d e s r steps n outbox.hosts outbox.host _ _ text lines (sends_are me d e s r steps outbox.hosts outbox.host n hosts host) c.send_all.new.self _ c.in_ok-write_all.ensures.all sent count c.is_stopping.ensures

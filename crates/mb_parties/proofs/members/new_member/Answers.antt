@@ -9,8 +9,8 @@ returns-clause-stands g c = λ y is shape secret faulty first.
     let made = c.in_ok-make.ensures in
     record {
       correct = faulty ∙ c.if-faulty.false;
-      represents = made_as g.V.Service.is_state g.V.Service.after g.V.Service.answer g.V.Service.part_of g.V.Service.restored y c.args.host r is
+      represents = made_as g.V.Service.machine y c.args.host r is
           (made.host.0 ∙ sym shape, made.host.1, made.host.2 ∙ sym secret)
-          (made.stands (self_of y c.args.host) (serves_as g.V.Service.is_state g.V.Service.after g.V.Service.answer g.V.Service.part_of g.V.Service.restored y c.args.host is) (sym first));
+          (made.stands (self_of y c.args.host) (serves_as g.V.Service.machine y c.args.host is) (sym first));
       whole = tt;
     }

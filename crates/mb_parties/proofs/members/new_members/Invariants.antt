@@ -7,7 +7,7 @@ use Rattle.mb_parties.proofs.members.new_members.Given as goal
 
 abbrev pub invariant-loop-service : goal.invariant-loop-service
 invariant-loop-service g l = record {
-  stands : (y : System _) → IsSystem g.V.Service.is_state g.V.Service.after g.V.Service.answer g.V.Service.part_of g.V.Service.restored y → y.schedule.shape ≡ l.shape → y.schedule.secret ≡ l.secret
+  stands : (y : System _) → IsSystem g.V.Service.machine y → y.schedule.shape ≡ l.shape → y.schedule.secret ≡ l.secret
       → y.schedule.faulty_hosts ≡ l.faulty_hosts → AreServices y.initial l.fn.services.items → RepresentsMembers y l.all.items (λ h. []) (λ h. []);
   runs : AllRun l.all.items;
   within : StampedWithin 0 l.all.items;

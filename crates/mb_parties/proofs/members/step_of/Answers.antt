@@ -3,4 +3,4 @@ use Rattle.mb_parties.proofs.members.step_of.Goals as goal
 
 pub returns-in-Ok-clause-stands : goal.returns-in-Ok-clause-stands
 returns-in-Ok-clause-stands g c = λ y h d is there host.
-    goes_on g.V.Service.is_state g.V.Service.after g.V.Service.answer g.V.Service.part_of g.V.Service.restored y h c.args.replica.now c.step_told.new.self d c.args.event.now c.in-Ok.told is there host c.in-Ok.ensures.stands
+    goes_on g.V.Service.machine y h c.args.replica.now c.step_told.new.self d c.args.event.now c.in-Ok.told is there host c.in-Ok.ensures.stands

@@ -5,14 +5,14 @@ use Rattle.mb_parts.proofs.Fields.{floor_cert_field}
 use Rattle.mb_parts.proofs.Public.{is_spelled, reads_again}
 use Rattle.mb_parts.proofs.reading.read_floor_cert.Goals as goal
 
-pub returns-clause-found : goal.returns-clause-found
-returns-clause-found c =
+pub returns : goal.returns
+returns c =
     let s = c.args.shape.now in
     let h : IsShape s = search rules in
-    is_spelled _ _ _ (optional_field _ _ _ (floor_cert_field s h)) c.read_or_stay.result c.args.fields.now c.read_or_stay.new.fields (IsBytes-drop c.args.fields.now.place c.args.fields.now.bytes.now c.args.fields.now.in_range) c.read_or_stay.ensures.exact
-
-pub returns-clause-only : goal.returns-clause-only
-returns-clause-only c =
-    let s = c.args.shape.now in
-    let h : IsShape s = search rules in
-    reads_again _ _ _ (optional_field _ _ _ (floor_cert_field s h)) c.read_or_stay.result c.args.fields.now c.read_or_stay.new.fields c.read_or_stay.ensures.exact
+    let behind = IsBytes-drop c.args.fields.now.place c.args.fields.now.bytes.now c.args.fields.now.in_range in
+    record {
+      exact = c.read_or_stay.ensures.exact;
+      found = is_spelled _ _ _ (optional_field _ _ _ (floor_cert_field s h)) c.read_or_stay.result c.args.fields.now c.read_or_stay.new.fields behind c.read_or_stay.ensures.exact;
+      only = reads_again _ _ _ (optional_field _ _ _ (floor_cert_field s h)) c.read_or_stay.result c.args.fields.now c.read_or_stay.new.fields c.read_or_stay.ensures.exact;
+      kept = c.read_or_stay.ensures.kept;
+    }

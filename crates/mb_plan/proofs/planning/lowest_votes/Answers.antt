@@ -1,5 +1,6 @@
 use Rattle.std.proofs.Common.{◌≡◌, ◌∙◌, ◌+◌, [], map, Some, slice_get, sym, ap, refl, arith}
 use Rattle.std.proofs.lemmas.Option.{slice_get-get_or}
+use Rattle.mb_base.specs.Limits.{plan_limit}
 use Rattle.mb_model.specs.Plans.{vote_since, lower_vote, lowest_vote}
 use Rattle.mb_model.specs.UsableLogs.{newest_first}
 use Rattle.mb_plan.specs.Lent.{shown, vote_at}
@@ -9,7 +10,7 @@ use Rattle.mb_plan.proofs.planning.lowest_votes.Goals as goal
 pub loop-log-init : goal.loop-log-init
 loop-log-init c = record {
   wide = refl;
-  lowest = λ i lt. ap (λ x. lower_vote x (lowest_vote (c.args.base + 1 + i) (map shown c.args.voters.now))) (none_at 64 i lt);
+  lowest = λ i lt. ap (λ x. lower_vote x (lowest_vote (c.args.base + 1 + i) (map shown c.args.voters.now))) (none_at plan_limit i lt);
 }
 
 pub loop-log-preserved : goal.loop-log-preserved

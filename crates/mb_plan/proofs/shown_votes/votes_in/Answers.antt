@@ -1,12 +1,13 @@
 use Rattle.std.proofs.Common.{◌≡◌, ◌∙◌, ◌+◌, Some, slice_get, sym, ap}
 use Rattle.std.proofs.lemmas.Option.{slice_get-get_or}
+use Rattle.mb_base.specs.Limits.{plan_limit}
 use Rattle.mb_model.specs.Plans.{vote_since}
 use Rattle.mb_plan.proofs.Folds.{newest_next, newest_all}
 use Rattle.mb_plan.proofs.Places.{none_at}
 use Rattle.mb_plan.proofs.shown_votes.votes_in.Goals as goal
 
 pub loop-entry-init : goal.loop-entry-init
-loop-entry-init c = λ i lt. none_at 64 i lt
+loop-entry-init c = λ i lt. none_at plan_limit i lt
 
 pub loop-entry-preserved : goal.loop-entry-preserved
 loop-entry-preserved c = λ i lt.

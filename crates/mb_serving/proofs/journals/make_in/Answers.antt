@@ -5,7 +5,6 @@ use Rattle.mb_journal.specs.Headers.{header_text}
 use Rattle.mb_journal.specs.Making.{SaysNothing}
 use Rattle.mb_journal.proofs.Crashes.{leaves_same}
 use Rattle.mb_node.proofs.Faults.{call_calm, counts_after}
-use Rattle.mb_serving.specs.Journals.{disk_state}
 use Rattle.mb_serving.proofs.JournalLaws.{not_made, made_of, making_fault}
 use Rattle.mb_serving.proofs.journals.make_in.Goals as goal
 
@@ -27,7 +26,7 @@ returns-in_err-open-clause-disk g c =
 
 pub returns-clause-made : goal.returns-clause-made
 returns-clause-made g c =
-    made_of c.args.config.now c.args.host (disk_state (g.D.Disk.moments c.args.disk.now) (g.D.Disk.faults c.args.disk.now)) (disk_state (g.D.Disk.moments c.make.new.disk) (g.D.Disk.faults c.make.new.disk)) (g.D.Disk.moments c.open.new.self) c.make.result
+    made_of c.args.config.now c.args.host (g.D.Disk.seen c.args.disk.now) (g.D.Disk.seen c.make.new.disk) (g.D.Disk.seen c.open.new.self).moments c.make.result
     c.in_ok-open.ensures.same c.make.ensures.exists c.make.ensures.kept c.make.ensures.empty c.make.ensures.rests
 
 pub returns-clause-crash : goal.returns-clause-crash

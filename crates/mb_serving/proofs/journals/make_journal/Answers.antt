@@ -8,7 +8,7 @@ use Rattle.mb_serving.proofs.journals.make_journal.Goals as goal
 
 pub returns-in-Ok-clause-told : goal.returns-in-Ok-clause-told
 returns-in-Ok-clause-told g c =
-    IfSome_then (g.S.Source.left c.args.source.now) c.in-Ok.ensures.told
+    IfSome_then (g.S.Source.seen c.args.source.now).bytes c.in-Ok.ensures.told
     (λ text found. used c.in-Ok.config found.0 (made_from c.in-Ok.config c.args.host c.make_as.result _ _ _ _ _ (sym found.1) c.make_as.ensures.makes))
 
 pub returns-in-Ok-clause-source : goal.returns-in-Ok-clause-source
@@ -18,7 +18,7 @@ pub returns-in-Ok-clause-sink : goal.returns-in-Ok-clause-sink
 returns-in-Ok-clause-sink g c = tells_both _ _ _ c.in-Ok.ensures.sink c.make_as.ensures.sink (λ six. inr six)
 
 pub returns-in-Err-clause-told : goal.returns-in-Err-clause-told
-returns-in-Err-clause-told g c = IfSome_then (g.S.Source.left c.args.source.now) c.in-Err.ensures.told (λ text lacks. unused lacks refl)
+returns-in-Err-clause-told g c = IfSome_then (g.S.Source.seen c.args.source.now).bytes c.in-Err.ensures.told (λ text lacks. unused lacks refl)
 
 pub returns-in-Err-clause-ended : goal.returns-in-Err-clause-ended
 returns-in-Err-clause-ended g c = λ zero. absurd (c.in-Err.ensures.low.1 zero)

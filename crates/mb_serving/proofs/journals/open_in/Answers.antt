@@ -7,7 +7,6 @@ use Rattle.mb_journal.specs.Keeping.{JournalState}
 use Rattle.mb_journal.specs.Opening.{StaysWhole}
 use Rattle.mb_journal.proofs.Crashes.{leaves_same}
 use Rattle.mb_node.proofs.Faults.{call_calm, counts_after}
-use Rattle.mb_serving.specs.Journals.{disk_state}
 use Rattle.mb_serving.proofs.JournalLaws.{not_opened, opened_of, opening_fault}
 use Rattle.mb_serving.proofs.journals.open_in.Goals as goal
 
@@ -25,7 +24,7 @@ returns-in_err-open-clause-disk g c =
 pub returns-clause-opened : goal.returns-clause-opened
 returns-clause-opened g c =
     let cause = c.in_ok-open.ensures.cause in
-    opened_of c.args.config.now c.args.host (disk_state (g.D.Disk.moments c.args.disk.now) (g.D.Disk.faults c.args.disk.now)) (disk_state (g.D.Disk.moments c.open-2.new.disk) (g.D.Disk.faults c.open-2.new.disk)) (g.D.Disk.moments c.open.new.self) c.open-2.result
+    opened_of c.args.config.now c.args.host (g.D.Disk.seen c.args.disk.now) (g.D.Disk.seen c.open-2.new.disk) (g.D.Disk.seen c.open.new.self).moments c.open-2.result
     c.in_ok-open.ensures.same (omega (arith, cause.later, c.open-2.ensures.faults.later)) c.open-2.ensures.journal c.open-2.ensures.events c.open-2.ensures.bad c.open-2.ensures.rests
     (λ old is. c.open-2.ensures.any_moment old (c.in_ok-open.ensures.same ∙ is))
 

@@ -9,10 +9,9 @@ use Rattle.mb_sched.specs.declared.records.Entry.{Entry}
 use Rattle.mb_sched.specs.Records.{entry_text, record_head}
 use Rattle.mb_node.specs.Recording.{entries_of}
 use Rattle.mb_node.proofs.Faults.{calm_of, counts_none}
-use Rattle.mb_answer.specs.Devices.{device, link_state}
 use Rattle.mb_serving.specs.Nodes.{headless}
 use Rattle.mb_serving.specs.Records.{host_of}
-use Rattle.mb_serving.specs.Journals.{disk_state, start_of}
+use Rattle.mb_serving.specs.Journals.{start_of}
 use Rattle.mb_serving.proofs.NodeLaws.{heard_behind, kv_serves}
 use Rattle.mb_serving.proofs.JournalLaws.{part_behind, unbegun_longer, starved_kept, fails_behind, writing_fails, writing_unlinked, writing_undisked, begun_undisked, serves_behind}
 use Rattle.mb_serving.proofs.journals.run_kept.Goals as goal
@@ -46,9 +45,9 @@ returns-in_err-write_entries-clause-serves g c =
     let begun = c.in_ok-begin.ensures.begins in
     let e = c.in_err-write_entries.field-0.0 in
     let written = c.in_err-write_entries.ensures in
-    let part = subst (λ (l : List Entry). AppendsPart (flat_map entry_text l) (g.K.Sink.written c.begin.new.sink) (g.K.Sink.written c.write_entries.new.sink)) (c.deref.ensures.value ∙ replayed.entries_are) written.part in
+    let part = subst (λ (l : List Entry). AppendsPart (flat_map entry_text l) (g.K.Sink.seen c.begin.new.sink).bytes (g.K.Sink.seen c.write_entries.new.sink).bytes) (c.deref.ensures.value ∙ replayed.entries_are) written.part in
     fails_behind c.args.config.now c.args.host kept c.args.opened.journal c.args.events c.from_residual-in_err-write_entries.result e (p.1 ∙ ap Err p.2)
-    (device (g.K.Sink.written c.args.sink.now) (g.K.Sink.faults c.args.sink.now)) (device (g.K.Sink.written c.write_entries.new.sink) (g.K.Sink.faults c.write_entries.new.sink)) _ _ _
+    (g.K.Sink.seen c.args.sink.now) (g.K.Sink.seen c.write_entries.new.sink) _ _ _
     (headless (writing_fails e _ _ written.causes (λ is. (tells_both _ _ _ c.in_ok-begin.ensures.sink written.sink (λ told. inr told)).rose (ap Err is))) begun.0 begun.1
     (part_behind _ _ _ (record_head c.args.config.now c.args.host) (flat_map entry_text (entries_of me [] (reverse kept))) begun.2 part))
 
@@ -61,15 +60,15 @@ returns-clause-serves g c =
     let replayed = c.in_ok-entries.ensures.replays me [] serves (made.stands me serves (sym c.new.ensures) (record { shape = sym made.host.0; host = sym made.host.1; secret = sym made.host.2 })) tt in
     let begun = c.in_ok-begin.ensures.begins in
     let is = c.serve_kept.ensures.serves in
-    let entries = subst (λ (l : List Entry). Appends (g.K.Sink.written c.begin.new.sink) (g.K.Sink.written c.write_entries.new.sink) (flat_map entry_text l)) (c.deref.ensures.value ∙ replayed.entries_are) c.in_ok-write_entries.ensures.all in
+    let entries = subst (λ (l : List Entry). Appends (g.K.Sink.seen c.begin.new.sink).bytes (g.K.Sink.seen c.write_entries.new.sink).bytes (flat_map entry_text l)) (c.deref.ensures.value ∙ replayed.entries_are) c.in_ok-write_entries.ensures.all in
     serves_behind c.args.config.now c.args.host kept c.args.opened.journal c.serve_kept.new.journal c.args.events c.serve_kept.result
-    (device (g.K.Sink.written c.args.sink.now) (g.K.Sink.faults c.args.sink.now)) (device (g.K.Sink.written c.serve_kept.new.out) (g.K.Sink.faults c.serve_kept.new.out))
-    (link_state (g.L.Link.received c.args.link.now) (g.L.Link.sent c.args.link.now) (g.L.Link.opens c.args.link.now) (g.L.Link.faults c.args.link.now))
-    (link_state (g.L.Link.received c.serve_kept.new.link) (g.L.Link.sent c.serve_kept.new.link) (g.L.Link.opens c.serve_kept.new.link) (g.L.Link.faults c.serve_kept.new.link))
-    (disk_state (g.D.Disk.moments c.args.disk.now) (g.D.Disk.faults c.args.disk.now)) (disk_state (g.D.Disk.moments c.serve_kept.new.disk) (g.D.Disk.faults c.serve_kept.new.disk))
-    is.receives (heard_behind c.args.config.now c.args.host _ _ _ is.receives begun.0 c.serve_kept.ensures.opens is.told_is is.of_bytes) (g.K.Sink.written c.write_entries.new.sink)
-    (appended_both (g.K.Sink.written c.args.sink.now) (g.K.Sink.written c.begin.new.sink) (g.K.Sink.written c.write_entries.new.sink) (record_head c.args.config.now c.args.host) (flat_map entry_text (entries_of me [] (reverse kept))) begun.2 entries)
-    c.serve_kept.new.replica (g.L.Link.sent c.begin.new.link) begun.1
+    (g.K.Sink.seen c.args.sink.now) (g.K.Sink.seen c.serve_kept.new.out)
+    (g.L.Link.seen c.args.link.now)
+    (g.L.Link.seen c.serve_kept.new.link)
+    (g.D.Disk.seen c.args.disk.now) (g.D.Disk.seen c.serve_kept.new.disk)
+    is.receives (heard_behind c.args.config.now c.args.host _ _ _ is.receives begun.0 c.serve_kept.ensures.opens is.told_is is.of_bytes) (g.K.Sink.seen c.write_entries.new.sink).bytes
+    (appended_both (g.K.Sink.seen c.args.sink.now).bytes (g.K.Sink.seen c.begin.new.sink).bytes (g.K.Sink.seen c.write_entries.new.sink).bytes (record_head c.args.config.now c.args.host) (flat_map entry_text (entries_of me [] (reverse kept))) begun.2 entries)
+    c.serve_kept.new.replica (g.L.Link.seen c.begin.new.link).sent begun.1
     (is.ends me (start_of c.args.config.now c.args.host kept) serves replayed.represents replayed.whole)
     (λ told. (tells_both _ _ _ c.in_ok-begin.ensures.link c.serve_kept.ensures.link (λ t. inr t)).rose told)
     (λ told. (tells_both _ _ _ c.in_ok-begin.ensures.sink (tells_both _ _ _ c.in_ok-write_entries.ensures.sink c.serve_kept.ensures.sink (λ t. inr t)) (λ t. inr t)).rose told)

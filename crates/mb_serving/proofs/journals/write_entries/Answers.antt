@@ -14,23 +14,23 @@ use Rattle.mb_serving.proofs.JournalLaws.{entries_more, entries_cut, entry_cut, 
 use Rattle.mb_serving.proofs.journals.write_entries.Goals as goal
 
 pub loop-entry-init : goal.loop-entry-init
-loop-entry-init g c = record { written = appends_none (g.K.Sink.written c.args.sink.now); sinks = calm_none _ _ }
+loop-entry-init g c = record { written = appends_none (g.K.Sink.seen c.args.sink.now).bytes; sinks = calm_none _ _ }
 
 pub loop-entry-preserved : goal.loop-entry-preserved
 loop-entry-preserved g c =
     let so_far = c.loop-entry.invariant in
     let w = c.in_ok-write_all.ensures in
     record {
-      written = subst (λ (l : Bytes). Appends (g.K.Sink.written c.args.sink.now) (g.K.Sink.written c.write_all.new.sink) l) (sym (entries_more c.args.entries.now c.loop-entry.entry-index c.entry-item.result c.loop-entry-test.true c.entry-item.is))
-          (appended_both (g.K.Sink.written c.args.sink.now) (g.K.Sink.written c.loop-entry.sink) (g.K.Sink.written c.write_all.new.sink) _ (entry_text c.entry-item.result) so_far.written
-          (subst (λ (l : Bytes). Appends (g.K.Sink.written c.loop-entry.sink) (g.K.Sink.written c.write_all.new.sink) l) (c.as_slice.ensures.value ∙ c.in_ok-text.ensures) w.all));
+      written = subst (λ (l : Bytes). Appends (g.K.Sink.seen c.args.sink.now).bytes (g.K.Sink.seen c.write_all.new.sink).bytes l) (sym (entries_more c.args.entries.now c.loop-entry.entry-index c.entry-item.result c.loop-entry-test.true c.entry-item.is))
+          (appended_both (g.K.Sink.seen c.args.sink.now).bytes (g.K.Sink.seen c.loop-entry.sink).bytes (g.K.Sink.seen c.write_all.new.sink).bytes _ (entry_text c.entry-item.result) so_far.written
+          (subst (λ (l : Bytes). Appends (g.K.Sink.seen c.loop-entry.sink).bytes (g.K.Sink.seen c.write_all.new.sink).bytes l) (c.as_slice.ensures.value ∙ c.in_ok-text.ensures) w.all));
       sinks = calm_both _ _ _ _ _ _ so_far.sinks (record { later = w.later; sound = w.sound; kept = λ safe. (w.quiet safe).kept });
     }
 
 pub returns-in_err-text-clause-part : goal.returns-in_err-text-clause-part
 returns-in_err-text-clause-part g c =
     let p = err_from_is_err_and c.from_residual.result c.from_residual.ensures.1 in
-    rw p.1 (entries_cut c.args.entries.now c.loop-entry.entry-index c.entry-item.result c.loop-entry-test.true c.entry-item.is (g.K.Sink.written c.args.sink.now) (g.K.Sink.written c.loop-entry.sink) c.loop-entry.invariant.written)
+    rw p.1 (entries_cut c.args.entries.now c.loop-entry.entry-index c.entry-item.result c.loop-entry-test.true c.entry-item.is (g.K.Sink.seen c.args.sink.now).bytes (g.K.Sink.seen c.loop-entry.sink).bytes c.loop-entry.invariant.written)
 
 pub returns-in_err-text-clause-sink : goal.returns-in_err-text-clause-sink
 returns-in_err-text-clause-sink g c =
@@ -45,7 +45,7 @@ returns-in_err-text-clause-causes g c =
 pub returns-in_err-write_all-clause-part : goal.returns-in_err-write_all-clause-part
 returns-in_err-write_all-clause-part g c =
     let p = err_from_is_err_and c.from_residual-in_err-write_all.result c.from_residual-in_err-write_all.ensures.1 in
-    rw p.1 (entry_cut c.args.entries.now c.loop-entry.entry-index c.entry-item.result c.loop-entry-test.true c.entry-item.is (g.K.Sink.written c.args.sink.now) (g.K.Sink.written c.loop-entry.sink) (g.K.Sink.written c.write_all.new.sink)
+    rw p.1 (entry_cut c.args.entries.now c.loop-entry.entry-index c.entry-item.result c.loop-entry-test.true c.entry-item.is (g.K.Sink.seen c.args.sink.now).bytes (g.K.Sink.seen c.loop-entry.sink).bytes (g.K.Sink.seen c.write_all.new.sink).bytes
     c.as_slice.result.now (c.as_slice.ensures.value ∙ c.in_ok-text.ensures) c.loop-entry.invariant.written c.in_err-write_all.ensures.part)
 
 pub returns-in_err-write_all-clause-sink : goal.returns-in_err-write_all-clause-sink
@@ -61,7 +61,7 @@ returns-in_err-write_all-clause-causes g c =
 
 pub returns-clause-all : goal.returns-clause-all
 returns-clause-all g c =
-    subst (λ (l : List Entry). Appends (g.K.Sink.written c.args.sink.now) (g.K.Sink.written c.loop-entry.sink) (flat_map entry_text l)) (take_all c.loop-entry.entry-index c.args.entries.now (omega (arith, c.loop-entry-test.false))) c.loop-entry.invariant.written
+    subst (λ (l : List Entry). Appends (g.K.Sink.seen c.args.sink.now).bytes (g.K.Sink.seen c.loop-entry.sink).bytes (flat_map entry_text l)) (take_all c.loop-entry.entry-index c.args.entries.now (omega (arith, c.loop-entry-test.false))) c.loop-entry.invariant.written
 
 pub returns-clause-sink : goal.returns-clause-sink
 returns-clause-sink g c = counts_none _ _ _ _ _ c.loop-entry.invariant.sinks (λ told. absurd cc)

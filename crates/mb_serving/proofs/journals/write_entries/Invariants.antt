@@ -9,6 +9,6 @@ abbrev pub invariant-loop-entry : goal.invariant-loop-entry
 invariant-loop-entry g l =
     let sink = g.K.Sink in
     record {
-      written : Appends (sink.written l.fn.sink) (sink.written l.sink) (flat_map entry_text (take l.entry-index l.entries));
-      sinks : Calm (sink.faults l.fn.sink) (sink.faults l.sink) (sink.never_fails l.fn.sink) (sink.never_fails l.sink);
+      written : Appends (sink.seen l.fn.sink).bytes (sink.seen l.sink).bytes (flat_map entry_text (take l.entry-index l.entries));
+      sinks : Calm (sink.seen l.fn.sink).faults (sink.seen l.sink).faults (sink.never_fails l.fn.sink) (sink.never_fails l.sink);
     }

@@ -1,5 +1,4 @@
 use Rattle.std.proofs.Common.{Err, sym, ap, ◌∙◌}
-use Rattle.mb_answer.specs.Devices.{device}
 use Rattle.mb_answer.proofs.Statuses.{tells_read}
 use Rattle.std.proofs.lemmas.Result.{err_from_is_err_and}
 use Rattle.mb_edge.proofs.FaultLemmas.{tells_none, tells_as, tells_call}
@@ -32,7 +31,7 @@ returns-in_err-open-clause-sink g c =
 pub returns-in_err-write_all-clause-begins : goal.returns-in_err-write_all-clause-begins
 returns-in_err-write_all-clause-begins g c =
     let p = err_from_is_err_and c.from_residual-in_err-write_all.result c.from_residual-in_err-write_all.ensures.1 in
-    begins_headless c.args.config.now c.args.host c.from_residual-in_err-write_all.result p.0 p.1 c.in_err-write_all.field-0.0 p.2 (device (g.K.Sink.written c.args.sink.now) (g.K.Sink.faults c.args.sink.now)) (device (g.K.Sink.written c.write_all.new.sink) (g.K.Sink.faults c.write_all.new.sink)) _ _ (λ e. c.in_err-write_all.ensures.fault (ap Err e))
+    begins_headless c.args.config.now c.args.host c.from_residual-in_err-write_all.result p.0 p.1 c.in_err-write_all.field-0.0 p.2 (g.K.Sink.seen c.args.sink.now) (g.K.Sink.seen c.write_all.new.sink) _ _ (λ e. c.in_err-write_all.ensures.fault (ap Err e))
     (record { opens = c.in_ok-open.ensures.opens; received = c.in_ok-open.ensures.received ∙ sym (with_more-nil _); of_bytes = tt }) c.in_ok-open.ensures.sent (part_of_head c.args.config.now c.args.host _ _ _ (c.deref.ensures.value ∙ c.in_ok-head.ensures) c.in_err-write_all.ensures.part)
 
 pub returns-in_err-write_all-clause-link : goal.returns-in_err-write_all-clause-link

@@ -15,7 +15,7 @@ respond-requires g c = IfOk-weaker c.answer_to_record.result _ _ (λ a h. record
 
 pub returns-in-Ok-clause-told : goal.returns-in-Ok-clause-told
 returns-in-Ok-clause-told g c =
-    IfSome_then (g.S.Source.left c.args.source.now) c.in-Ok.ensures.all (λ text is.
+    IfSome_then (g.S.Source.seen c.args.source.now).bytes c.in-Ok.ensures.all (λ text is.
     responded (AnswersRecordText text) c.answer_to_record.result _ _ _ _ _ (IfOk-weaker c.answer_to_record.result _ _ (λ a h. subst (λ (t : Bytes). AnswersRecordText t a.status a.text.items) (c.deref.ensures.value ∙ is) h) c.answer_to_record.ensures)
     c.respond.ensures.says c.respond.ensures.lacks)
 
@@ -24,7 +24,7 @@ returns-in-Ok-clause-source g c = tells_read _ _ c.in-Ok.ensures.fault c.in-Ok.e
 
 pub returns-in-Err-clause-told : goal.returns-in-Err-clause-told
 returns-in-Err-clause-told g c =
-    unread_told AnswersRecordText max_record (g.S.Source.left c.args.source.now) c.in-Err.stop _ _ _ _ _ (λ text long. too_long long refl refl) (λ e. c.in-Err.ensures.long (ap Err e)) (λ e. c.in-Err.ensures.fault (ap Err e)) c.tell_unread.ensures.told
+    unread_told AnswersRecordText max_record (g.S.Source.seen c.args.source.now).bytes c.in-Err.stop _ _ _ _ _ (λ text long. too_long long refl refl) (λ e. c.in-Err.ensures.long (ap Err e)) (λ e. c.in-Err.ensures.fault (ap Err e)) c.tell_unread.ensures.told
 
 pub returns-in-Err-clause-source : goal.returns-in-Err-clause-source
 returns-in-Err-clause-source g c = tells_read _ _ c.in-Err.ensures.fault c.in-Err.ensures.later c.in-Err.ensures.sound c.in-Err.ensures.quiet (λ told. ap Err (c.tell_unread.ensures.source told))

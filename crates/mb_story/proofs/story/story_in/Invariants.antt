@@ -7,9 +7,9 @@ use Rattle.mb_story.proofs.story.story_in.Given as goal
 
 abbrev pub invariant-loop-event : goal.invariant-loop-event
 invariant-loop-event g l = record {
-  played : (y : System _) → IsSystem g.V.Service.is_state g.V.Service.after g.V.Service.answer g.V.Service.part_of g.V.Service.restored y → y.schedule.events ≡ l.events → RepresentsWorld y l.fn.world nothing_happened
+  played : (y : System _) → IsSystem g.V.Service.machine y → y.schedule.events ≡ l.events → RepresentsWorld y l.fn.world nothing_happened
       → IsPlayed y l.told l.world l.event-index;
-  has : HasWorld g.V.Service.is_state g.V.Service.after g.V.Service.answer g.V.Service.part_of g.V.Service.restored l.world;
+  has : HasWorld g.V.Service.machine l.world;
   runs : l.world.halted ≡ false;
   shape : l.world.shape ≡ l.fn.world.shape;
   count : l.world.events ≡ l.event-index;

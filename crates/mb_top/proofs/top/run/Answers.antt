@@ -180,43 +180,43 @@ pub returns-in-Some-Replay-clause-stops : goal.returns-in-Some-Replay-clause-sto
 returns-in-Some-Replay-clause-stops g c = λ never. inl refl
 
 pub returns-in-Some-Replay-clause-waits : goal.returns-in-Some-Replay-clause-waits
-returns-in-Some-Replay-clause-waits g c = λ never. none_started (g.S.Source.left c.args.source.now) (g.P.Spawner.faults c.args.spawner.now) (g.P.Spawner.starts c.args.spawner.now) (g.P.Spawner.waits c.args.spawner.now)
+returns-in-Some-Replay-clause-waits g c = λ never. none_started (g.S.Source.seen c.args.source.now).bytes (g.P.Spawner.seen c.args.spawner.now).faults (g.P.Spawner.seen c.args.spawner.now).starts (g.P.Spawner.seen c.args.spawner.now).waits
 
 pub returns-in-Some-Soak-clause-stops : goal.returns-in-Some-Soak-clause-stops
 returns-in-Some-Soak-clause-stops g c = λ never. inl refl
 
 pub returns-in-Some-Soak-clause-waits : goal.returns-in-Some-Soak-clause-waits
-returns-in-Some-Soak-clause-waits g c = λ never. none_started (g.S.Source.left c.args.source.now) (g.P.Spawner.faults c.args.spawner.now) (g.P.Spawner.starts c.args.spawner.now) (g.P.Spawner.waits c.args.spawner.now)
+returns-in-Some-Soak-clause-waits g c = λ never. none_started (g.S.Source.seen c.args.source.now).bytes (g.P.Spawner.seen c.args.spawner.now).faults (g.P.Spawner.seen c.args.spawner.now).starts (g.P.Spawner.seen c.args.spawner.now).waits
 
 pub returns-in-Some-Node-clause-stops : goal.returns-in-Some-Node-clause-stops
 returns-in-Some-Node-clause-stops g c = λ never. inl refl
 
 pub returns-in-Some-Node-clause-waits : goal.returns-in-Some-Node-clause-waits
-returns-in-Some-Node-clause-waits g c = λ never. none_started (g.S.Source.left c.args.source.now) (g.P.Spawner.faults c.args.spawner.now) (g.P.Spawner.starts c.args.spawner.now) (g.P.Spawner.waits c.args.spawner.now)
+returns-in-Some-Node-clause-waits g c = λ never. none_started (g.S.Source.seen c.args.source.now).bytes (g.P.Spawner.seen c.args.spawner.now).faults (g.P.Spawner.seen c.args.spawner.now).starts (g.P.Spawner.seen c.args.spawner.now).waits
 
 pub returns-in-Some-Retrace-clause-stops : goal.returns-in-Some-Retrace-clause-stops
 returns-in-Some-Retrace-clause-stops g c = λ never. inl refl
 
 pub returns-in-Some-Retrace-clause-waits : goal.returns-in-Some-Retrace-clause-waits
-returns-in-Some-Retrace-clause-waits g c = λ never. none_started (g.S.Source.left c.args.source.now) (g.P.Spawner.faults c.args.spawner.now) (g.P.Spawner.starts c.args.spawner.now) (g.P.Spawner.waits c.args.spawner.now)
+returns-in-Some-Retrace-clause-waits g c = λ never. none_started (g.S.Source.seen c.args.source.now).bytes (g.P.Spawner.seen c.args.spawner.now).faults (g.P.Spawner.seen c.args.spawner.now).starts (g.P.Spawner.seen c.args.spawner.now).waits
 
 pub returns-in-Some-Audit-clause-stops : goal.returns-in-Some-Audit-clause-stops
 returns-in-Some-Audit-clause-stops g c = λ never. inl refl
 
 pub returns-in-Some-Audit-clause-waits : goal.returns-in-Some-Audit-clause-waits
-returns-in-Some-Audit-clause-waits g c = λ never. none_started (g.S.Source.left c.args.source.now) (g.P.Spawner.faults c.args.spawner.now) (g.P.Spawner.starts c.args.spawner.now) (g.P.Spawner.waits c.args.spawner.now)
+returns-in-Some-Audit-clause-waits g c = λ never. none_started (g.S.Source.seen c.args.source.now).bytes (g.P.Spawner.seen c.args.spawner.now).faults (g.P.Spawner.seen c.args.spawner.now).starts (g.P.Spawner.seen c.args.spawner.now).waits
 
 pub returns-in-Some-Learn-clause-stops : goal.returns-in-Some-Learn-clause-stops
 returns-in-Some-Learn-clause-stops g c = λ never. inl refl
 
 pub returns-in-Some-Learn-clause-waits : goal.returns-in-Some-Learn-clause-waits
-returns-in-Some-Learn-clause-waits g c = λ never. none_started (g.S.Source.left c.args.source.now) (g.P.Spawner.faults c.args.spawner.now) (g.P.Spawner.starts c.args.spawner.now) (g.P.Spawner.waits c.args.spawner.now)
+returns-in-Some-Learn-clause-waits g c = λ never. none_started (g.S.Source.seen c.args.source.now).bytes (g.P.Spawner.seen c.args.spawner.now).faults (g.P.Spawner.seen c.args.spawner.now).starts (g.P.Spawner.seen c.args.spawner.now).waits
 
 pub returns-in-None-clause-stops : goal.returns-in-None-clause-stops
 returns-in-None-clause-stops g c = λ never. inl refl
 
 pub returns-in-None-clause-waits : goal.returns-in-None-clause-waits
-returns-in-None-clause-waits g c = λ never. none_started (g.S.Source.left c.args.source.now) (g.P.Spawner.faults c.args.spawner.now) (g.P.Spawner.starts c.args.spawner.now) (g.P.Spawner.waits c.args.spawner.now)
+returns-in-None-clause-waits g c = λ never. none_started (g.S.Source.seen c.args.source.now).bytes (g.P.Spawner.seen c.args.spawner.now).faults (g.P.Spawner.seen c.args.spawner.now).starts (g.P.Spawner.seen c.args.spawner.now).waits
 
 pub returns-in-Some-KeptNode-clause-does : goal.returns-in-Some-KeptNode-clause-does
 returns-in-Some-KeptNode-clause-does g c =
@@ -228,7 +228,7 @@ pub returns-in-Some-KeptNode-clause-at_disk : goal.returns-in-Some-KeptNode-clau
 returns-in-Some-KeptNode-clause-at_disk g c =
     let first : c.args.command ≡ Some c.in-Some-KeptNode.field-0 = c.in-Some-KeptNode.is in
     let named : c.in-Some-KeptNode.field-0 ≡ KeptNode c.in-Some-KeptNode.host c.in-Some-KeptNode.events = rw first at c.in-Some-KeptNode.field-0-is in
-    at_disk_as (Some (KeptNode c.in-Some-KeptNode.host c.in-Some-KeptNode.events)) _ _ _ _ _ _ (sym (first ∙ ap Some named)) (told_both _ _ _ c.kept_node.ensures.told c.kept_node.ensures.complete)
+    at_disk_as (Some (KeptNode c.in-Some-KeptNode.host c.in-Some-KeptNode.events)) _ _ _ _ _ _ _ _ _ _ (sym (first ∙ ap Some named)) (told_both _ _ _ c.kept_node.ensures.told c.kept_node.ensures.complete)
 
 pub returns-in-Some-KeptNode-clause-statuses : goal.returns-in-Some-KeptNode-clause-statuses
 returns-in-Some-KeptNode-clause-statuses g c =
@@ -246,7 +246,7 @@ pub returns-in-Some-Journal-clause-at_disk : goal.returns-in-Some-Journal-clause
 returns-in-Some-Journal-clause-at_disk g c =
     let first : c.args.command ≡ Some c.in-Some-Journal.field-0 = c.in-Some-Journal.is in
     let named : c.in-Some-Journal.field-0 ≡ Journal c.in-Some-Journal.host = rw first at c.in-Some-Journal.field-0-is in
-    at_disk_as (Some (Journal c.in-Some-Journal.host)) _ _ _ _ _ _ (sym (first ∙ ap Some named)) (c.make_journal.ensures.told)
+    at_disk_as (Some (Journal c.in-Some-Journal.host)) _ _ _ _ _ _ _ _ _ _ (sym (first ∙ ap Some named)) (c.make_journal.ensures.told)
 
 pub returns-in-Some-Journal-clause-statuses : goal.returns-in-Some-Journal-clause-statuses
 returns-in-Some-Journal-clause-statuses g c =
@@ -294,52 +294,52 @@ pub returns-in-Some-Replay-clause-at_disk : goal.returns-in-Some-Replay-clause-a
 returns-in-Some-Replay-clause-at_disk g c =
     let first : c.args.command ≡ Some c.in-Some-Replay.field-0 = c.in-Some-Replay.is in
     let named : c.in-Some-Replay.field-0 ≡ Replay = rw first at c.in-Some-Replay.field-0-is in
-    at_disk_as (Some Replay) _ _ _ _ _ _ (sym (first ∙ ap Some named)) refl
+    at_disk_as (Some Replay) _ _ _ _ _ _ _ _ _ _ (sym (first ∙ ap Some named)) refl
 
 pub returns-in-Some-Soak-clause-at_disk : goal.returns-in-Some-Soak-clause-at_disk
 returns-in-Some-Soak-clause-at_disk g c =
     let first : c.args.command ≡ Some c.in-Some-Soak.field-0 = c.in-Some-Soak.is in
     let named : c.in-Some-Soak.field-0 ≡ Soak c.in-Some-Soak.seed c.in-Some-Soak.events = rw first at c.in-Some-Soak.field-0-is in
-    at_disk_as (Some (Soak c.in-Some-Soak.seed c.in-Some-Soak.events)) _ _ _ _ _ _ (sym (first ∙ ap Some named)) refl
+    at_disk_as (Some (Soak c.in-Some-Soak.seed c.in-Some-Soak.events)) _ _ _ _ _ _ _ _ _ _ (sym (first ∙ ap Some named)) refl
 
 pub returns-in-Some-Node-clause-at_disk : goal.returns-in-Some-Node-clause-at_disk
 returns-in-Some-Node-clause-at_disk g c =
     let first : c.args.command ≡ Some c.in-Some-Node.field-0 = c.in-Some-Node.is in
     let named : c.in-Some-Node.field-0 ≡ Node c.in-Some-Node.host c.in-Some-Node.events = rw first at c.in-Some-Node.field-0-is in
-    at_disk_as (Some (Node c.in-Some-Node.host c.in-Some-Node.events)) _ _ _ _ _ _ (sym (first ∙ ap Some named)) refl
+    at_disk_as (Some (Node c.in-Some-Node.host c.in-Some-Node.events)) _ _ _ _ _ _ _ _ _ _ (sym (first ∙ ap Some named)) refl
 
 pub returns-in-Some-Retrace-clause-at_disk : goal.returns-in-Some-Retrace-clause-at_disk
 returns-in-Some-Retrace-clause-at_disk g c =
     let first : c.args.command ≡ Some c.in-Some-Retrace.field-0 = c.in-Some-Retrace.is in
     let named : c.in-Some-Retrace.field-0 ≡ Retrace = rw first at c.in-Some-Retrace.field-0-is in
-    at_disk_as (Some Retrace) _ _ _ _ _ _ (sym (first ∙ ap Some named)) refl
+    at_disk_as (Some Retrace) _ _ _ _ _ _ _ _ _ _ (sym (first ∙ ap Some named)) refl
 
 pub returns-in-Some-Cluster-clause-at_disk : goal.returns-in-Some-Cluster-clause-at_disk
 returns-in-Some-Cluster-clause-at_disk g c =
     let first : c.args.command ≡ Some c.in-Some-Cluster.field-0 = c.in-Some-Cluster.is in
     let named : c.in-Some-Cluster.field-0 ≡ Cluster c.in-Some-Cluster.turns = rw first at c.in-Some-Cluster.field-0-is in
-    at_disk_as (Some (Cluster c.in-Some-Cluster.turns)) _ _ _ _ _ _ (sym (first ∙ ap Some named)) refl
+    at_disk_as (Some (Cluster c.in-Some-Cluster.turns)) _ _ _ _ _ _ _ _ _ _ (sym (first ∙ ap Some named)) refl
 
 pub returns-in-Some-Audit-clause-at_disk : goal.returns-in-Some-Audit-clause-at_disk
 returns-in-Some-Audit-clause-at_disk g c =
     let first : c.args.command ≡ Some c.in-Some-Audit.field-0 = c.in-Some-Audit.is in
     let named : c.in-Some-Audit.field-0 ≡ Audit c.in-Some-Audit.host = rw first at c.in-Some-Audit.field-0-is in
-    at_disk_as (Some (Audit c.in-Some-Audit.host)) _ _ _ _ _ _ (sym (first ∙ ap Some named)) refl
+    at_disk_as (Some (Audit c.in-Some-Audit.host)) _ _ _ _ _ _ _ _ _ _ (sym (first ∙ ap Some named)) refl
 
 pub returns-in-None-clause-at_disk : goal.returns-in-None-clause-at_disk
-returns-in-None-clause-at_disk g c = at_disk_as None _ _ _ _ _ _ (sym c.in-None.is) refl
+returns-in-None-clause-at_disk g c = at_disk_as None _ _ _ _ _ _ _ _ _ _ (sym c.in-None.is) refl
 
 pub returns-in-Some-KeptNode-clause-stops : goal.returns-in-Some-KeptNode-clause-stops
 returns-in-Some-KeptNode-clause-stops g c = λ never. inl refl
 
 pub returns-in-Some-KeptNode-clause-waits : goal.returns-in-Some-KeptNode-clause-waits
-returns-in-Some-KeptNode-clause-waits g c = λ never. none_started (g.S.Source.left c.args.source.now) (g.P.Spawner.faults c.args.spawner.now) (g.P.Spawner.starts c.args.spawner.now) (g.P.Spawner.waits c.args.spawner.now)
+returns-in-Some-KeptNode-clause-waits g c = λ never. none_started (g.S.Source.seen c.args.source.now).bytes (g.P.Spawner.seen c.args.spawner.now).faults (g.P.Spawner.seen c.args.spawner.now).starts (g.P.Spawner.seen c.args.spawner.now).waits
 
 pub returns-in-Some-Journal-clause-stops : goal.returns-in-Some-Journal-clause-stops
 returns-in-Some-Journal-clause-stops g c = λ never. inl refl
 
 pub returns-in-Some-Journal-clause-waits : goal.returns-in-Some-Journal-clause-waits
-returns-in-Some-Journal-clause-waits g c = λ never. none_started (g.S.Source.left c.args.source.now) (g.P.Spawner.faults c.args.spawner.now) (g.P.Spawner.starts c.args.spawner.now) (g.P.Spawner.waits c.args.spawner.now)
+returns-in-Some-Journal-clause-waits g c = λ never. none_started (g.S.Source.seen c.args.source.now).bytes (g.P.Spawner.seen c.args.spawner.now).faults (g.P.Spawner.seen c.args.spawner.now).starts (g.P.Spawner.seen c.args.spawner.now).waits
 
 pub returns-in-Some-Learn-clause-disk : goal.returns-in-Some-Learn-clause-disk
 returns-in-Some-Learn-clause-disk g c = tells_none _ (low_no_disk _ c.learn.ensures.low)
@@ -348,4 +348,4 @@ pub returns-in-Some-Learn-clause-at_disk : goal.returns-in-Some-Learn-clause-at_
 returns-in-Some-Learn-clause-at_disk g c =
     let first : c.args.command ≡ Some c.in-Some-Learn.field-0 = c.in-Some-Learn.is in
     let named : c.in-Some-Learn.field-0 ≡ Learn = rw first at c.in-Some-Learn.field-0-is in
-    at_disk_as (Some Learn) _ _ _ _ _ _ (sym (first ∙ ap Some named)) refl
+    at_disk_as (Some Learn) _ _ _ _ _ _ _ _ _ _ (sym (first ∙ ap Some named)) refl

@@ -14,11 +14,11 @@ invariant-loop-op g l =
     let sink = g.K.Sink in
     record {
       asks : (s : Shape) (secret : Bytes) (c : Hearing) → Listens s secret l.fn.self.listener c
-          → AsksThese s secret (take l.op-index l.ops) c l.fn.self l.self (wire (link.received l.fn.link) (link.sent l.fn.link)) (wire (link.received l.link) (link.sent l.link)) (sink.written l.fn.sink) (sink.written l.sink);
+          → AsksThese s secret (take l.op-index l.ops) c l.fn.self l.self (wire (link.seen l.fn.link).received (link.seen l.fn.link).sent) (wire (link.seen l.link).received (link.seen l.link).sent) (sink.seen l.fn.sink).bytes (sink.seen l.sink).bytes;
       number : l.self.listener.asker.number ≡ l.op-index;
       turns : l.self.turns ≡ l.fn.self.turns;
       hosts : l.self.post.hosts ≡ l.fn.self.post.hosts;
-      opens : link.opens l.link ≡ link.opens l.fn.link;
-      link_faults : TellsFaults (link.never_fails l.fn.link) (link.never_fails l.link) (link.faults l.fn.link) (link.faults l.link) ⊥;
-      sink_faults : TellsFaults (sink.never_fails l.fn.sink) (sink.never_fails l.sink) (sink.faults l.fn.sink) (sink.faults l.sink) ⊥;
+      opens : (link.seen l.link).opens ≡ (link.seen l.fn.link).opens;
+      link_faults : TellsFaults (link.never_fails l.fn.link) (link.never_fails l.link) (link.seen l.fn.link).faults (link.seen l.link).faults ⊥;
+      sink_faults : TellsFaults (sink.never_fails l.fn.sink) (sink.never_fails l.sink) (sink.seen l.fn.sink).faults (sink.seen l.sink).faults ⊥;
     }

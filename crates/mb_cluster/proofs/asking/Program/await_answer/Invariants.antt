@@ -13,10 +13,10 @@ invariant-loop g l =
     let link = g.L.Link in
     record {
       waits : (s : Shape) (secret : Bytes) (c : Hearing) → Listens s secret l.fn.self.listener c → c.asker.waits ≡ true
-          → WaitsOn s secret l.counter l.request c l.fn.self l.self (wire (link.received l.fn.link) (link.sent l.fn.link)) (wire (link.received l.link) (link.sent l.link));
+          → WaitsOn s secret l.counter l.request c l.fn.self l.self (wire (link.seen l.fn.link).received (link.seen l.fn.link).sent) (wire (link.seen l.link).received (link.seen l.link).sent);
       number : l.self.listener.asker.number ≡ l.fn.self.listener.asker.number;
       turns : l.self.turns ≡ l.fn.self.turns;
       hosts : l.self.post.hosts ≡ l.fn.self.post.hosts;
-      opens : link.opens l.link ≡ link.opens l.fn.link;
-      faults : TellsFaults (link.never_fails l.fn.link) (link.never_fails l.link) (link.faults l.fn.link) (link.faults l.link) ⊥;
+      opens : (link.seen l.link).opens ≡ (link.seen l.fn.link).opens;
+      faults : TellsFaults (link.never_fails l.fn.link) (link.never_fails l.link) (link.seen l.fn.link).faults (link.seen l.link).faults ⊥;
     }

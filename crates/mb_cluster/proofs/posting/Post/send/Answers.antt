@@ -12,10 +12,10 @@ pub loop-host-init : goal.loop-host-init
 loop-host-init g c =
     let link = g.L.Link in
     record {
-      sent = fronts_none (link.sent c.args.link.now);
+      sent = fronts_none (link.seen c.args.link.now).sent;
       received = refl;
       opens = refl;
-      faults = tells_none (link.faults c.args.link.now) (λ no. no);
+      faults = tells_none (link.seen c.args.link.now).faults (λ no. no);
     }
 
 pub loop-host-preserved : goal.loop-host-preserved
@@ -26,11 +26,11 @@ loop-host-preserved g c =
     let pieces = c.in_ok-pieces.pieces.items in
     record {
       sent = rw (hosts_more pieces host)
-          (fronts_both (flat_map (to_host pieces) (range_with_len 0 host)) (to_host pieces host) (Ok tt) (link.sent c.args.link.now) (link.sent c.loop-host.link) (link.sent c.send_to.new.link) now.sent
+          (fronts_both (flat_map (to_host pieces) (range_with_len 0 host)) (to_host pieces host) (Ok tt) (link.seen c.args.link.now).sent (link.seen c.loop-host.link).sent (link.seen c.send_to.new.link).sent now.sent
           (rw c.deref.ensures.value at c.in_ok-send_to.ensures.sent));
       received = c.in_ok-send_to.ensures.received ∙ now.received;
       opens = c.in_ok-send_to.ensures.opens ∙ now.opens;
-      faults = tells_both (link.faults c.args.link.now) (link.faults c.loop-host.link) (link.faults c.send_to.new.link) now.faults c.in_ok-send_to.ensures.faults (λ no. absurd no);
+      faults = tells_both (link.seen c.args.link.now).faults (link.seen c.loop-host.link).faults (link.seen c.send_to.new.link).faults now.faults c.in_ok-send_to.ensures.faults (λ no. absurd no);
     }
 
 pub returns-in_err-send_to-clause-sent : goal.returns-in_err-send_to-clause-sent
@@ -41,11 +41,11 @@ returns-in_err-send_to-clause-sent g c =
     let pieces = c.in_ok-pieces.pieces.items in
     let earlier = flat_map (to_host pieces) (range_with_len 0 host) in
     let later = flat_map (to_host pieces) (range_with_len (host + 1) (hosts - (host + 1))) in
-    let begun = fronts_both earlier (to_host pieces host) c.send_to.result (link.sent c.args.link.now) (link.sent c.loop-host.link) (link.sent c.send_to.new.link) c.loop-host.invariant.sent
+    let begun = fronts_both earlier (to_host pieces host) c.send_to.result (link.seen c.args.link.now).sent (link.seen c.loop-host.link).sent (link.seen c.send_to.new.link).sent c.loop-host.invariant.sent
     (rw c.deref.ensures.value at c.send_to.ensures.sent) in
     let pieces_are : pieces ≡ pieces_of program c.args.self.now.number c.args.message.now = c.in_ok-pieces.ensures.pieces ∙ ap (λ (n : ℕ). pieces_of program n c.args.message.now) c.take_number-number.ensures.number in
-    subst (λ (ps : List Bytes). SendsFront (flat_map (to_host ps) (range_with_len 0 hosts)) c.from_residual-in_err-send_to.result (link.sent c.args.link.now) (link.sent c.send_to.new.link)) pieces_are
-    (fronts_stop (flat_map (to_host pieces) (range_with_len 0 hosts)) (earlier ++ to_host pieces host) later c.send_to.result c.from_residual-in_err-send_to.result (link.sent c.args.link.now) (link.sent c.send_to.new.link)
+    subst (λ (ps : List Bytes). SendsFront (flat_map (to_host ps) (range_with_len 0 hosts)) c.from_residual-in_err-send_to.result (link.seen c.args.link.now).sent (link.seen c.send_to.new.link).sent) pieces_are
+    (fronts_stop (flat_map (to_host pieces) (range_with_len 0 hosts)) (earlier ++ to_host pieces host) later c.send_to.result c.from_residual-in_err-send_to.result (link.seen c.args.link.now).sent (link.seen c.send_to.new.link).sent
     (hosts_parts pieces host hosts (omega arith)) begun (not_ok _ c.from_residual-in_err-send_to.result c.from_residual-in_err-send_to.ensures.1))
 
 pub returns-clause-sent : goal.returns-clause-sent
@@ -55,8 +55,8 @@ returns-clause-sent g c =
     let end : c.loop-host.host ≡ c.args.self.now.hosts = omega arith in
     let pieces = c.in_ok-pieces.pieces.items in
     let pieces_are : pieces ≡ pieces_of program c.args.self.now.number c.args.message.now = c.in_ok-pieces.ensures.pieces ∙ ap (λ (n : ℕ). pieces_of program n c.args.message.now) c.take_number-number.ensures.number in
-    let at_end = subst (λ n. SendsFront (flat_map (to_host pieces) (range_with_len 0 n)) (Ok tt) (link.sent c.args.link.now) (link.sent c.loop-host.link)) end now.sent in
-    subst (λ ps. SendsFront (flat_map (to_host ps) (range_with_len 0 c.args.self.now.hosts)) (Ok tt) (link.sent c.args.link.now) (link.sent c.loop-host.link)) pieces_are at_end
+    let at_end = subst (λ n. SendsFront (flat_map (to_host pieces) (range_with_len 0 n)) (Ok tt) (link.seen c.args.link.now).sent (link.seen c.loop-host.link).sent) end now.sent in
+    subst (λ ps. SendsFront (flat_map (to_host ps) (range_with_len 0 c.args.self.now.hosts)) (Ok tt) (link.seen c.args.link.now).sent (link.seen c.loop-host.link).sent) pieces_are at_end
 
 pub returns-in_err-pieces-clause-sent : goal.returns-in_err-pieces-clause-sent
-returns-in_err-pieces-clause-sent g c = fronts_nothing (to_all c.args.self.now.hosts c.args.self.now.number c.args.message.now) c.from_residual.result (g.L.Link.sent c.args.link.now) (not_ok _ c.from_residual.result c.from_residual.ensures.1)
+returns-in_err-pieces-clause-sent g c = fronts_nothing (to_all c.args.self.now.hosts c.args.self.now.number c.args.message.now) c.from_residual.result (g.L.Link.seen c.args.link.now).sent (not_ok _ c.from_residual.result c.from_residual.ensures.1)

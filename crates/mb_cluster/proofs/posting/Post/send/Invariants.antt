@@ -10,8 +10,8 @@ abbrev pub invariant-loop-host : goal.invariant-loop-host
 invariant-loop-host g l =
     let link = g.L.Link in
     record {
-      sent : SendsFront {E = Failed} (flat_map (to_host l.pieces.items) (range_with_len 0 l.host)) (Ok tt) (link.sent l.fn.link) (link.sent l.link);
-      received : link.received l.link ≡ link.received l.fn.link;
-      opens : link.opens l.link ≡ link.opens l.fn.link;
-      faults : TellsFaults (link.never_fails l.fn.link) (link.never_fails l.link) (link.faults l.fn.link) (link.faults l.link) ⊥;
+      sent : SendsFront {E = Failed} (flat_map (to_host l.pieces.items) (range_with_len 0 l.host)) (Ok tt) (link.seen l.fn.link).sent (link.seen l.link).sent;
+      received : (link.seen l.link).received ≡ (link.seen l.fn.link).received;
+      opens : (link.seen l.link).opens ≡ (link.seen l.fn.link).opens;
+      faults : TellsFaults (link.never_fails l.fn.link) (link.never_fails l.link) (link.seen l.fn.link).faults (link.seen l.link).faults ⊥;
     }

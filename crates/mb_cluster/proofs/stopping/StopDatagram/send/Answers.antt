@@ -16,13 +16,13 @@ loop-init g c =
     record {
       long = c.requires;
       stop = λ secret is. is;
-      sent = λ secret is. sends_none (link.sent c.args.link.now);
+      sent = λ secret is. sends_none (link.seen c.args.link.now).sent;
       number = λ secret. refl;
       hosts = refl;
-      few = λ never secret is. buts_none (link.faults c.args.link.now) (link.sent c.args.link.now);
+      few = λ never secret is. buts_none (link.seen c.args.link.now).faults (link.seen c.args.link.now).sent;
       received = refl;
       opens = refl;
-      faults = tells_none (link.faults c.args.link.now) (λ is. absurd cc);
+      faults = tells_none (link.seen c.args.link.now).faults (λ is. absurd cc);
     }
 
 pub loop-preserved : goal.loop-preserved
@@ -36,18 +36,18 @@ loop-preserved g c =
       stop = λ secret is. record { number = c.take_number.result; is = c.renumber.ensures ∙ stop_renumbered secret c.loop.self.bytes.items c.take_number.result (now.stop secret is) };
       sent = λ secret is.
           rw c.first_failure-sent.ensures
-          (rounds_more secret c.renumber.new.self.bytes.items post.hosts post.number n c.take_number.result c.loop.sent c.send_round.result (link.sent c.args.link.now) (link.sent c.loop.link) (link.sent c.send_round.new.link)
+          (rounds_more secret c.renumber.new.self.bytes.items post.hosts post.number n c.take_number.result c.loop.sent c.send_round.result (link.seen c.args.link.now).sent (link.seen c.loop.link).sent (link.seen c.send_round.new.link).sent
           (c.renumber.ensures ∙ stop_renumbered secret c.loop.self.bytes.items c.take_number.result (now.stop secret is)) (c.take_number.ensures.number ∙ now.number secret) (now.sent secret is)
           (rw (c.take_number.ensures.hosts, now.hosts) at c.send_round.ensures.sent));
       number = λ secret. c.take_number.ensures.next ∙ rounds_counted secret post.number n c.loop.post.number (now.number secret);
       hosts = c.take_number.ensures.hosts ∙ now.hosts;
       few = λ never secret is.
-          rounds_but secret c.renumber.new.self.bytes.items post.hosts post.number n c.take_number.result (link.faults c.args.link.now) (link.faults c.loop.link) (link.faults c.send_round.new.link) (link.sent c.args.link.now) (link.sent c.loop.link) (link.sent c.send_round.new.link)
+          rounds_but secret c.renumber.new.self.bytes.items post.hosts post.number n c.take_number.result (link.seen c.args.link.now).faults (link.seen c.loop.link).faults (link.seen c.send_round.new.link).faults (link.seen c.args.link.now).sent (link.seen c.loop.link).sent (link.seen c.send_round.new.link).sent
           (c.renumber.ensures ∙ stop_renumbered secret c.loop.self.bytes.items c.take_number.result (now.stop secret is)) (c.take_number.ensures.number ∙ now.number secret) (now.few never secret is)
           (rw (c.take_number.ensures.hosts, now.hosts) at (c.send_round.ensures.few never)) c.send_round.ensures.faults.later;
       received = c.send_round.ensures.received ∙ now.received;
       opens = c.send_round.ensures.opens ∙ now.opens;
-      faults = tells_both (link.faults c.args.link.now) (link.faults c.loop.link) (link.faults c.send_round.new.link) now.faults c.send_round.ensures.faults
+      faults = tells_both (link.seen c.args.link.now).faults (link.seen c.loop.link).faults (link.seen c.send_round.new.link).faults now.faults c.send_round.ensures.faults
           (λ is. either_failed c.loop.sent c.send_round.result Device (sym c.first_failure-sent.ensures ∙ is));
     }
 
@@ -56,11 +56,11 @@ returns-clause-sent g c = λ secret is.
     let link = g.L.Link in
     let post = c.args.post.now in
     let end : c.loop.counter ≡ 3 = omega arith in
-    subst (λ n. SendsSome (posts post.hosts post.number (replicate n (stop_bytes secret))) c.loop.sent (link.sent c.args.link.now) (link.sent c.loop.link)) end (c.loop.invariant.sent secret is)
+    subst (λ n. SendsSome (posts post.hosts post.number (replicate n (stop_bytes secret))) c.loop.sent (link.seen c.args.link.now).sent (link.seen c.loop.link).sent) end (c.loop.invariant.sent secret is)
 
 pub returns-clause-few : goal.returns-clause-few
 returns-clause-few g c = λ never secret is.
     let link = g.L.Link in
     let post = c.args.post.now in
     let end : c.loop.counter ≡ 3 = omega arith in
-    subst (λ n. SendsBut (posts post.hosts post.number (replicate n (stop_bytes secret))) (link.faults c.args.link.now) (link.faults c.loop.link) (link.sent c.args.link.now) (link.sent c.loop.link)) end (c.loop.invariant.few never secret is)
+    subst (λ n. SendsBut (posts post.hosts post.number (replicate n (stop_bytes secret))) (link.seen c.args.link.now).faults (link.seen c.loop.link).faults (link.seen c.args.link.now).sent (link.seen c.loop.link).sent) end (c.loop.invariant.few never secret is)

@@ -16,12 +16,12 @@ invariant-loop g l =
     record {
       long : 5 ≤ length l.self.bytes.items;
       stop : (secret : Bytes) → IsStop secret l.fn.self.bytes.items → IsStop secret l.self.bytes.items;
-      sent : (secret : Bytes) → IsStop secret l.fn.self.bytes.items → SendsSome (posts first.hosts first.number (replicate l.counter (stop_bytes secret))) l.sent (link.sent l.fn.link) (link.sent l.link);
+      sent : (secret : Bytes) → IsStop secret l.fn.self.bytes.items → SendsSome (posts first.hosts first.number (replicate l.counter (stop_bytes secret))) l.sent (link.seen l.fn.link).sent (link.seen l.link).sent;
       number : (secret : Bytes) → l.post.number ≡ number_after first.number (replicate l.counter (stop_bytes secret));
       hosts : l.post.hosts ≡ first.hosts;
       few : link.sends_without_memory → (secret : Bytes) → IsStop secret l.fn.self.bytes.items
-          → SendsBut (posts first.hosts first.number (replicate l.counter (stop_bytes secret))) (link.faults l.fn.link) (link.faults l.link) (link.sent l.fn.link) (link.sent l.link);
-      received : link.received l.link ≡ link.received l.fn.link;
-      opens : link.opens l.link ≡ link.opens l.fn.link;
-      faults : TellsFaults (link.never_fails l.fn.link) (link.never_fails l.link) (link.faults l.fn.link) (link.faults l.link) (IsErrOf l.sent Device);
+          → SendsBut (posts first.hosts first.number (replicate l.counter (stop_bytes secret))) (link.seen l.fn.link).faults (link.seen l.link).faults (link.seen l.fn.link).sent (link.seen l.link).sent;
+      received : (link.seen l.link).received ≡ (link.seen l.fn.link).received;
+      opens : (link.seen l.link).opens ≡ (link.seen l.fn.link).opens;
+      faults : TellsFaults (link.never_fails l.fn.link) (link.never_fails l.link) (link.seen l.fn.link).faults (link.seen l.link).faults (IsErrOf l.sent Device);
     }

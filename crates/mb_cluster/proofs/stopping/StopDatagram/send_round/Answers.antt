@@ -14,11 +14,11 @@ pub loop-host-init : goal.loop-host-init
 loop-host-init g c =
     let link = g.L.Link in
     record {
-      sent = sends_none (link.sent c.args.link.now);
-      few = λ never. buts_none (link.faults c.args.link.now) (link.sent c.args.link.now);
+      sent = sends_none (link.seen c.args.link.now).sent;
+      few = λ never. buts_none (link.seen c.args.link.now).faults (link.seen c.args.link.now).sent;
       received = refl;
       opens = refl;
-      faults = tells_none (link.faults c.args.link.now) (λ is. absurd cc);
+      faults = tells_none (link.seen c.args.link.now).faults (λ is. absurd cc);
     }
 
 pub loop-host-preserved : goal.loop-host-preserved
@@ -29,16 +29,16 @@ loop-host-preserved g c =
     let datagram = c.args.self.now.bytes.items in
     record {
       sent = rw (round_more host datagram, c.first_failure-sent.ensures)
-          (sends_both (round host datagram) ((host, datagram) ∷ []) c.loop-host.sent c.send.result (link.sent c.args.link.now) (link.sent c.loop-host.link) (link.sent c.send.new.self) now.sent
-          (sends_call (host, datagram) c.send.result (link.sent c.loop-host.link) (link.sent c.send.new.self) (rw c.deref.ensures.value at c.send.ensures.sent)));
+          (sends_both (round host datagram) ((host, datagram) ∷ []) c.loop-host.sent c.send.result (link.seen c.args.link.now).sent (link.seen c.loop-host.link).sent (link.seen c.send.new.self).sent now.sent
+          (sends_call (host, datagram) c.send.result (link.seen c.loop-host.link).sent (link.seen c.send.new.self).sent (rw c.deref.ensures.value at c.send.ensures.sent)));
       few = λ never. rw (round_more host datagram)
-          (buts_both (round host datagram) ((host, datagram) ∷ []) (link.faults c.args.link.now) (link.faults c.loop-host.link) (link.faults c.send.new.self) (link.sent c.args.link.now) (link.sent c.loop-host.link) (link.sent c.send.new.self) (now.few never)
-          (buts_call (host, datagram) c.send.result (link.faults c.loop-host.link) (link.faults c.send.new.self) (link.sent c.loop-host.link) (link.sent c.send.new.self) (rw c.deref.ensures.value at c.send.ensures.sent) c.send.ensures.cause (c.send.ensures.ample never))
+          (buts_both (round host datagram) ((host, datagram) ∷ []) (link.seen c.args.link.now).faults (link.seen c.loop-host.link).faults (link.seen c.send.new.self).faults (link.seen c.args.link.now).sent (link.seen c.loop-host.link).sent (link.seen c.send.new.self).sent (now.few never)
+          (buts_call (host, datagram) c.send.result (link.seen c.loop-host.link).faults (link.seen c.send.new.self).faults (link.seen c.loop-host.link).sent (link.seen c.send.new.self).sent (rw c.deref.ensures.value at c.send.ensures.sent) c.send.ensures.cause (c.send.ensures.ample never))
           c.send.ensures.cause.later);
       received = c.send.ensures.received ∙ now.received;
       opens = c.send.ensures.opens ∙ now.opens;
-      faults = tells_both (link.faults c.args.link.now) (link.faults c.loop-host.link) (link.faults c.send.new.self) now.faults
-          (tells_call (link.faults c.loop-host.link) (link.faults c.send.new.self) c.send.result c.send.ensures.cause c.send.ensures.sound c.send.ensures.quiet)
+      faults = tells_both (link.seen c.args.link.now).faults (link.seen c.loop-host.link).faults (link.seen c.send.new.self).faults now.faults
+          (tells_call (link.seen c.loop-host.link).faults (link.seen c.send.new.self).faults c.send.result c.send.ensures.cause c.send.ensures.sound c.send.ensures.quiet)
           (λ is. either_failed c.loop-host.sent c.send.result Device (sym c.first_failure-sent.ensures ∙ is));
     }
 
@@ -46,10 +46,10 @@ pub returns-clause-sent : goal.returns-clause-sent
 returns-clause-sent g c =
     let link = g.L.Link in
     let end : c.loop-host.host ≡ c.args.hosts = omega arith in
-    subst (λ n. SendsSome (round n c.args.self.now.bytes.items) c.loop-host.sent (link.sent c.args.link.now) (link.sent c.loop-host.link)) end c.loop-host.invariant.sent
+    subst (λ n. SendsSome (round n c.args.self.now.bytes.items) c.loop-host.sent (link.seen c.args.link.now).sent (link.seen c.loop-host.link).sent) end c.loop-host.invariant.sent
 
 pub returns-clause-few : goal.returns-clause-few
 returns-clause-few g c = λ never.
     let link = g.L.Link in
     let end : c.loop-host.host ≡ c.args.hosts = omega arith in
-    subst (λ n. SendsBut (round n c.args.self.now.bytes.items) (link.faults c.args.link.now) (link.faults c.loop-host.link) (link.sent c.args.link.now) (link.sent c.loop-host.link)) end (c.loop-host.invariant.few never)
+    subst (λ n. SendsBut (round n c.args.self.now.bytes.items) (link.seen c.args.link.now).faults (link.seen c.loop-host.link).faults (link.seen c.args.link.now).sent (link.seen c.loop-host.link).sent) end (c.loop-host.invariant.few never)

@@ -5,7 +5,7 @@ use Rattle.mb_core.proofs.replica.Replica.step_told.Goals as goal
 
 -- src/replica.rt
 pub on_event-requires-clause-stepping : goal.on_event-requires-clause-stepping
-on_event-requires-clause-stepping g c = step_begins _ _ _ _ _ c.args.self.now.state c.new-done.result (c.requires.rests c.if-self.false) c.new-done.ensures.sent c.new-done.ensures.executed c.new-done.ensures.installed
+on_event-requires-clause-stepping g c = step_begins _ c.args.self.now.state c.new-done.result (c.requires.rests c.if-self.false) c.new-done.ensures.sent c.new-done.ensures.executed c.new-done.ensures.installed
 
 pub returns-in-Ok-clause-stands : goal.returns-in-Ok-clause-stands
 returns-in-Ok-clause-stands g c = λ me d serves represents whole.
@@ -17,7 +17,7 @@ returns-in-Ok-clause-stands g c = λ me d serves represents whole.
 
 pub returns-in-Ok-clause-rests : goal.returns-in-Ok-clause-rests
 returns-in-Ok-clause-rests g c = λ running.
-    step_ends _ _ _ _ _ c.args.self.now.state _ c.args.event.now (c.requires.rests c.if-self.false)
+    step_ends _ c.args.self.now.state _ c.args.event.now (c.requires.rests c.if-self.false)
     (λ me d serves represents whole.
     let begun = stands_begin me c.args.self.now.state c.new-done.result d represents whole c.new-done.ensures.sent c.new-done.ensures.executed c.new-done.ensures.installed in
     (c.in-Ok.ensures me d serves begun).1.represents)

@@ -1,4 +1,5 @@
 use Rattle.std.proofs.Common.{◌≡◌, ◌≤◌, ◌∙◌, subst, ℕ, true, false, get_or, arith}
+use Rattle.mb_base.specs.Limits.{part_count}
 use Rattle.mb_fetch.specs.Fetched.{Fetched, IsFetched}
 use Rattle.mb_fetch.proofs.Whole.{missing_stands, missing_found, missing_step, missing_end}
 use Rattle.mb_fetch.proofs.parts.Parts.missing.Goals as goal
@@ -32,7 +33,7 @@ returns-clause-part c =
     let n = c.loop-part.part in
     let is : IsFetched t = subst IsFetched c.self.view_is c.self.invariant in
     let last = c.loop-part-test.false in
-    let end : 65 ≤ n = omega (arith, last) in
+    let end : part_count ≤ n = omega (arith, last) in
     missing_end t is n end c.loop-part.invariant
 
 pub returns-clause-stands : goal.returns-clause-stands

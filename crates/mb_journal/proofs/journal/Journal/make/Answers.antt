@@ -25,12 +25,12 @@ returns-in_err-start-clause-any_moment g c old is empty = leaves_same (SaysNothi
 
 pub returns-clause-any_moment : goal.returns-clause-any_moment
 returns-clause-any_moment g c old is empty =
-    leaves_nothing (header_text c.args.config.now c.args.id) c.deref.result.now (c.deref.ensures.value ∙ c.in_ok-start.ensures) old (g.D.Disk.moments c.len.new.self) (g.D.Disk.moments c.write_and_sync.new.disk)
+    leaves_nothing (header_text c.args.config.now c.args.id) c.deref.result.now (c.deref.ensures.value ∙ c.in_ok-start.ensures) old (g.D.Disk.seen c.len.new.self).moments (g.D.Disk.seen c.write_and_sync.new.disk).moments
     (c.len.ensures.same ∙ is) empty c.write_and_sync.ensures.crash
 
 pub returns-in_err-write_and_sync-clause-any_moment : goal.returns-in_err-write_and_sync-clause-any_moment
 returns-in_err-write_and_sync-clause-any_moment g c old is empty =
-    leaves_nothing (header_text c.args.config.now c.args.id) c.deref.result.now (c.deref.ensures.value ∙ c.in_ok-start.ensures) old (g.D.Disk.moments c.len.new.self) (g.D.Disk.moments c.write_and_sync.new.disk)
+    leaves_nothing (header_text c.args.config.now c.args.id) c.deref.result.now (c.deref.ensures.value ∙ c.in_ok-start.ensures) old (g.D.Disk.seen c.len.new.self).moments (g.D.Disk.seen c.write_and_sync.new.disk).moments
     (c.len.ensures.same ∙ is) empty c.write_and_sync.ensures.crash
 
 -- ---- a file with bytes

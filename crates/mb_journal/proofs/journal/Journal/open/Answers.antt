@@ -15,7 +15,7 @@ returns-in_err-found-clause-bad g c at told old is =
 
 pub returns-in_err-found-clause-any_moment : goal.returns-in_err-found-clause-any_moment
 returns-in_err-found-clause-any_moment g c old is =
-    subst (λ (h : Bytes). LeavesOnly (λ image. IsImage old.now image ⊎ StaysWhole h old.now.reads image) old (g.D.Disk.moments c.open_file.new.disk)) (c.deref.ensures.value ∙ c.in_ok-header.ensures) (c.open_file.ensures.any_moment old is)
+    subst (λ (h : Bytes). LeavesOnly (λ image. IsImage old.now image ⊎ StaysWhole h old.now.reads image) old (g.D.Disk.seen c.open_file.new.disk).moments) (c.deref.ensures.value ∙ c.in_ok-header.ensures) (c.open_file.ensures.any_moment old is)
 
 pub returns-clause-events : goal.returns-clause-events
 returns-clause-events g c old is = record {
@@ -31,4 +31,4 @@ returns-clause-rests g c old is new new_is =
 
 pub returns-clause-any_moment : goal.returns-clause-any_moment
 returns-clause-any_moment g c old is =
-    subst (λ (h : Bytes). LeavesOnly (λ image. IsImage old.now image ⊎ StaysWhole h old.now.reads image) old (g.D.Disk.moments c.open_file.new.disk)) (c.deref.ensures.value ∙ c.in_ok-header.ensures) (c.open_file.ensures.any_moment old is)
+    subst (λ (h : Bytes). LeavesOnly (λ image. IsImage old.now image ⊎ StaysWhole h old.now.reads image) old (g.D.Disk.seen c.open_file.new.disk).moments) (c.deref.ensures.value ∙ c.in_ok-header.ensures) (c.open_file.ensures.any_moment old is)

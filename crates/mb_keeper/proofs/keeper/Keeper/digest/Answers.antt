@@ -9,7 +9,7 @@ use Rattle.mb_keeper.proofs.keeper.Keeper.digest.Goals as goal
 
 pub returns-clause-stands : goal.returns-clause-stands
 returns-clause-stands g c = λ id d same here.
-    let snapshots = snapshots_of g.V.Service.part_of g.V.Service.restored in
+    let snapshots = snapshots_of g.V.Service.machine in
     let pos = c.args.pos in
     let is : parts_of snapshots (joined c.self.inside.service c.self.inside.table) ≡ parts_of id.snapshots (state_of id d) =
     ap (parts_of snapshots) (ap (λ (k : Keeping _). k.served) c.self.view_is ∙ here) ∙ ap (λ (s : Snapshots _). parts_of s (state_of id d)) (sym same) in

@@ -1,6 +1,7 @@
 use Rattle.std.proofs.Common.{◌≡◌, ◌<◌, ℕ, length, take, get_or, ap, ◌∙◌, sym, arith}
 use Rattle.std.proofs.lemmas.List.{length-replicate}
 use Rattle.std.proofs.lemmas.Result.{err_from_is_err_and}
+use Rattle.mb_base.specs.Limits.{table_part}
 use Rattle.mb_base.specs.Shapes.{client_count}
 use Rattle.mb_model.specs.declared.known.LastReply.{LastReply}
 use Rattle.mb_model.specs.Service.{no_reply}
@@ -14,24 +15,24 @@ use Rattle.mb_keeper.proofs.keeper.Keeper.install.Goals as goal
 pub returns-in_err-restore : goal.returns-in_err-restore
 returns-in_err-restore g c =
     let p = err_from_is_err_and c.from_residual-in_err-restore.result c.from_residual-in_err-restore.ensures.1 in
-    let snapshots = snapshots_of g.V.Service.part_of g.V.Service.restored in
+    let snapshots = snapshots_of g.V.Service.machine in
     let parts = c.args.parts.now in
     let old = c.args.self.now in
     let part = c.index-parts-count.result in
-    let many : 64 < length parts = omega (arith, c.requires) in
-    let bytes : c.as_slice.result.now ≡ table_in parts = c.as_slice.ensures ∙ (c.index-parts-count.is ∙ (ap (λ (i : ℕ). get_or parts i part) c.from-count.ensures ∙ string_in parts 64 part many)) in
+    let many : table_part < length parts = omega (arith, c.requires) in
+    let bytes : c.as_slice.result.now ≡ table_in parts = c.as_slice.ensures ∙ (c.index-parts-count.is ∙ (ap (λ (i : ℕ). get_or parts i part) c.from-count.ensures ∙ string_in parts table_part part many)) in
     let clients : length old.served.table ≡ length c.in_ok-table.table = sym (ap (λ (k : Keeping _). length k.served.table) c.self.view_is) ∙ (c.self.invariant.clients_are ∙ sym (ap length c.in_ok-table.ensures ∙ length-replicate {A = LastReply} (client_count c.self.inside.shape) no_reply)) in
     rw (p.1, p.2) (table_refused snapshots parts old c.in_ok-table.table c.restore.new.self c.as_slice.result.now c.in_err-restore.field-0.0 clients bytes c.in_err-restore.ensures.restored)
 
 pub returns-in_err-restore-2 : goal.returns-in_err-restore-2
 returns-in_err-restore-2 g c =
     let p = err_from_is_err_and c.from_residual-in_err-restore-2.result c.from_residual-in_err-restore-2.ensures.1 in
-    let snapshots = snapshots_of g.V.Service.part_of g.V.Service.restored in
+    let snapshots = snapshots_of g.V.Service.machine in
     let parts = c.args.parts.now in
     let old = c.args.self.now in
     let part = c.index-parts-count.result in
-    let many : 64 < length parts = omega (arith, c.requires) in
-    let bytes : c.as_slice.result.now ≡ table_in parts = c.as_slice.ensures ∙ (c.index-parts-count.is ∙ (ap (λ (i : ℕ). get_or parts i part) c.from-count.ensures ∙ string_in parts 64 part many)) in
+    let many : table_part < length parts = omega (arith, c.requires) in
+    let bytes : c.as_slice.result.now ≡ table_in parts = c.as_slice.ensures ∙ (c.index-parts-count.is ∙ (ap (λ (i : ℕ). get_or parts i part) c.from-count.ensures ∙ string_in parts table_part part many)) in
     let clients : length old.served.table ≡ length c.in_ok-table.table = sym (ap (λ (k : Keeping _). length k.served.table) c.self.view_is) ∙ (c.self.invariant.clients_are ∙ sym (ap length c.in_ok-table.ensures ∙ length-replicate {A = LastReply} (client_count c.self.inside.shape) no_reply)) in
     let read = ap (λ (n : ℕ). table_of n (table_in parts)) clients ∙ (ap (table_of (length c.in_ok-table.table)) (sym bytes) ∙ c.in_ok-restore.ensures.restored) in
     let first = ap (λ (i : ℕ). take i parts) c.from-count.ensures in
@@ -40,12 +41,12 @@ returns-in_err-restore-2 g c =
 
 pub returns : goal.returns
 returns g c =
-    let snapshots = snapshots_of g.V.Service.part_of g.V.Service.restored in
+    let snapshots = snapshots_of g.V.Service.machine in
     let parts = c.args.parts.now in
     let old = c.args.self.now in
     let part = c.index-parts-count.result in
-    let many : 64 < length parts = omega (arith, c.requires) in
-    let bytes : c.as_slice.result.now ≡ table_in parts = c.as_slice.ensures ∙ (c.index-parts-count.is ∙ (ap (λ (i : ℕ). get_or parts i part) c.from-count.ensures ∙ string_in parts 64 part many)) in
+    let many : table_part < length parts = omega (arith, c.requires) in
+    let bytes : c.as_slice.result.now ≡ table_in parts = c.as_slice.ensures ∙ (c.index-parts-count.is ∙ (ap (λ (i : ℕ). get_or parts i part) c.from-count.ensures ∙ string_in parts table_part part many)) in
     let clients : length old.served.table ≡ length c.in_ok-table.table = sym (ap (λ (k : Keeping _). length k.served.table) c.self.view_is) ∙ (c.self.invariant.clients_are ∙ sym (ap length c.in_ok-table.ensures ∙ length-replicate {A = LastReply} (client_count c.self.inside.shape) no_reply)) in
     let read = ap (λ (n : ℕ). table_of n (table_in parts)) clients ∙ (ap (table_of (length c.in_ok-table.table)) (sym bytes) ∙ c.in_ok-restore.ensures.restored) in
     let first = ap (λ (i : ℕ). take i parts) c.from-count.ensures in

@@ -25,7 +25,7 @@ returns-in-Ok g c = λ search st.
 pub returns-in-Ok-2 : goal.returns-in-Ok-2
 returns-in-Ok-2 g c = λ search st.
     let m = c.args.m.now in
-    let snapshots = snapshots_of g.V.Service.part_of g.V.Service.restored in
+    let snapshots = snapshots_of g.V.Service.machine in
     let more = sym (c.are_all_held-are_held.ensures _ _ search st) ∙ c.if-are_held.false in
     more_taken snapshots c.args.parts.digest search m c.args.self.now c.install_where_all.new.self c.in-Ok.ensures.answer more c.install_where_all.result
     (c.install_where_all.ensures _ _ (joined search m) (c.in-Ok.ensures.stands _ _ search st))

@@ -1,7 +1,7 @@
 use Rattle.std.proofs.Common.{◌≡◌, length, sym, subst}
 use Rattle.std.specs.List.{AllByRecursion}
 use Rattle.std.specs.Prelude.{nat_le}
-use Rattle.mb_model.specs.States.{part_count}
+use Rattle.mb_base.specs.Limits.{part_count}
 use Rattle.mb_steps.proofs.StepPlanBases.{all_filter}
 use Rattle.mb_fetch.specs.Snapshots.{Snapshot}
 use Rattle.mb_keeper.specs.Keeping.{AreShort}

@@ -11,7 +11,7 @@ returns g c =
     let m = c.args.m.now in
     let old = c.args.self.now in
     let new = c.join.new.self in
-    let snapshots = snapshots_of g.V.Service.part_of g.V.Service.restored in
+    let snapshots = snapshots_of g.V.Service.machine in
     let search = found old.fetched in
     let held = c.in_ok-parts.ensures.parts in
     let joins = c.join.ensures search (record { pos_is = held.pos_is; digest_is = refl; finds = held.finds }) in

@@ -1,4 +1,5 @@
 use Rattle.std.proofs.Common.{◌≡◌, ℕ, ◌+◌, ◌*◌, ◌/◌, ◌<◌, ◌≤◌, ap, sym, ◌∙◌, refl, subst, arith, length}
+use Rattle.mb_base.specs.Limits.{least_interval}
 use Rattle.mb_base.specs.Shapes.{interval, host_count}
 use Rattle.mb_window.specs.Represents.{StandsWith}
 use Rattle.mb_window.proofs.Searches.{put_stands}
@@ -13,7 +14,7 @@ returns-clause-stands c = λ s low search st.
     let more = c.requires.place.0 in
     let number : ℕ = t.first + more in
     let k_is : c.from.result ≡ interval t.shape = c.from.ensures ∙ c.k.ensures in
-    let some : 4 ≤ interval t.shape = t.shape.interval_in.0 in
+    let some : least_interval ≤ interval t.shape = t.shape.interval_in.0 in
     let hosts : host_count t.shape ≤ 7 = let most = t.shape.faults_in.1 in omega (arith, most) in
     let host : m.ui.host < 7 = let below = c.requires.host in omega (arith, below, hosts) in
     let divided : m.pos / c.from.result ≡ number = ap (λ k. m.pos / k) k_is ∙ ap (λ p. p / interval t.shape) c.requires.place.2 ∙ number_is (interval t.shape) number some in

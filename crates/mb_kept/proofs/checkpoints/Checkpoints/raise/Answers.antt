@@ -1,4 +1,5 @@
 use Rattle.std.proofs.Common.{◌≡◌, ◌*◌, ◌/◌, ◌≤◌, ap, sym, ◌∙◌, refl, subst, arith}
+use Rattle.mb_base.specs.Limits.{least_interval}
 use Rattle.mb_base.specs.Shapes.{interval}
 use Rattle.mb_window.specs.Represents.{StandsAbove}
 use Rattle.mb_kept.proofs.Places.{keeps_above, number_is}
@@ -10,7 +11,7 @@ returns c = record {
       let t = c.args.self.now in
       let number = c.requires.multiple.0 in
       let k_is : c.from.result ≡ interval t.shape = c.from.ensures ∙ c.k.ensures in
-      let some : 4 ≤ interval t.shape = t.shape.interval_in.0 in
+      let some : least_interval ≤ interval t.shape = t.shape.interval_in.0 in
       let divided : c.args.low / c.from.result ≡ number = ap (λ k. c.args.low / k) k_is ∙ ap (λ p. p / interval t.shape) c.requires.multiple.1 ∙ number_is (interval t.shape) number some in
       keeps_above t _ number c.args.low c.requires.multiple.1 some c.requires.above refl divided
       (subst (λ q. StandsAbove t.window (q * 7) c.raise.new.self) divided c.raise.ensures.stands) s low search st;
@@ -21,7 +22,7 @@ invariant_of-self-clause-low_in c =
     let t = c.args.self.now in
     let number = c.requires.multiple.0 in
     let k_is : c.from.result ≡ interval t.shape = c.from.ensures ∙ c.k.ensures in
-    let some : 4 ≤ interval t.shape = t.shape.interval_in.0 in
+    let some : least_interval ≤ interval t.shape = t.shape.interval_in.0 in
     let divided : c.args.low / c.from.result ≡ number = ap (λ k. c.args.low / k) k_is ∙ ap (λ p. p / interval t.shape) c.requires.multiple.1 ∙ number_is (interval t.shape) number some in
     let product : c.args.low / c.from.result * interval t.shape ≡ c.args.low = ap (λ n. n * interval t.shape) divided ∙ sym c.requires.multiple.1 in
     let most = c.requires.most in

@@ -6,7 +6,7 @@ use Rattle.mb_learn.proofs.Finishing.{executing_first, executing_next, executing
 use Rattle.mb_learn.proofs.learner.Learner.execute_proved.Goals as goal
 
 pub loop-batch-init : goal.loop-batch-init
-loop-batch-init g c = (executing_first (machine_of g.V.Service.after g.V.Service.answer) (snapshots_of g.V.Service.part_of g.V.Service.restored) c.args.self.now.heard c.args.self.now.line c.requires.running, c.requires.halted)
+loop-batch-init g c = (executing_first (machine_of g.V.Service.machine) (snapshots_of g.V.Service.machine) c.args.self.now.heard c.args.self.now.line c.requires.running, c.requires.halted)
 
 pub proved-requires : goal.proved-requires
 proved-requires g c = c.loop-batch.invariant.0.running.ready
@@ -24,7 +24,7 @@ pub loop-batch-preserved : goal.loop-batch-preserved
 loop-batch-preserved g c =
     let now = c.loop-batch.self in
     let rest = c.in_ok-execute.ensures.rest in (
-      executing_next (machine_of g.V.Service.after g.V.Service.answer) (snapshots_of g.V.Service.part_of g.V.Service.restored) c.args.self.now.heard c.args.self.now.line now.heard now.line c.loop-batch.invariant.0
+      executing_next (machine_of g.V.Service.machine) (snapshots_of g.V.Service.machine) c.args.self.now.heard c.args.self.now.line now.heard now.line c.loop-batch.invariant.0
           c.execute.new.self c.raise.new.self c.push.new.self c.in-Some.batch.now (λ s initial l ex. c.in_ok-execute.ensures.executes s initial l ex)
           (λ s secret claims said shown lists h. c.in-Some.ensures.some s secret claims said shown lists h) c.raise.ensures.raises
           (c.in_ok-push.ensures.items ∙ ap (λ (n : ℕ). now.heard.newly_said.items ++ n ∷ []) c.executed.ensures) rest.2 c.in-Some.ensures.next.low rest.0 rest.1,
@@ -43,7 +43,7 @@ returns g c =
       halted = c.loop-batch.invariant.1;
       longer = done.longer;
       executed = λ s secret initial taken lists slots e.
-          executing_last (machine_of g.V.Service.after g.V.Service.answer) (snapshots_of g.V.Service.part_of g.V.Service.restored) c.args.self.now.heard c.args.self.now.line now.heard now.line done
+          executing_last (machine_of g.V.Service.machine) (snapshots_of g.V.Service.machine) c.args.self.now.heard c.args.self.now.line now.heard now.line done
           (λ z k claims said shown ls h b next. c.in_default.ensures.none z k claims said shown ls h b next) s secret initial taken lists slots e;
       news = done.news;
     }

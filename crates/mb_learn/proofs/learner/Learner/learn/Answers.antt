@@ -43,7 +43,7 @@ returns-in_err-compare g c =
       answers = λ s secret initial taken slots rep.
           let hears = c.in_ok-take.ensures.takes s secret taken rep.lists rep.hears in
           rw failed
-          (call_stops s secret (machine_of g.V.Service.after g.V.Service.answer) (snapshots_of g.V.Service.part_of g.V.Service.restored) initial taken c.args.bytes.now slots c.args.self.now c.execute_proved.new.self rep c.take.new.self hears
+          (call_stops s secret (machine_of g.V.Service.machine) (snapshots_of g.V.Service.machine) initial taken c.args.bytes.now slots c.args.self.now c.execute_proved.new.self rep c.take.new.self hears
           c.in_ok-take.ensures.keeps.news c.in_ok-execute_proved.ensures.news (λ lists e. c.in_ok-execute_proved.ensures.executed s secret initial (taken ++ c.args.bytes.now ∷ []) lists slots e)
           c.in_err-compare.field-0.0 c.compare.new.self done.compares (done.halted ∙ c.execute_proved.ensures.halted));
       halts = rw failed (stops_otherwise c.args.self.now c.execute_proved.new.self c.compare.new.self c.in_err-compare.field-0.0 done.compares c.if-self.false (done.halted ∙ c.execute_proved.ensures.halted));
@@ -68,7 +68,7 @@ returns g c = record {
       let hears = c.in_ok-take.ensures.takes s secret taken rep.lists rep.hears in
       let done = c.in_ok-compare.ensures in
       let same = ap (λ (l : Line _). length l.slots.items) done.line in
-      call_goes s secret (machine_of g.V.Service.after g.V.Service.answer) (snapshots_of g.V.Service.part_of g.V.Service.restored) initial taken c.args.bytes.now slots c.args.self.now c.execute_proved.new.self rep c.take.new.self hears
+      call_goes s secret (machine_of g.V.Service.machine) (snapshots_of g.V.Service.machine) initial taken c.args.bytes.now slots c.args.self.now c.execute_proved.new.self rep c.take.new.self hears
       c.in_ok-take.ensures.keeps.news c.in_ok-execute_proved.ensures.news (λ lists e. c.in_ok-execute_proved.ensures.executed s secret initial (taken ++ c.args.bytes.now ∷ []) lists slots e)
       _ _ done.compares refl done.line done.heard done.news (omega (arith, same, c.executed.ensures, c.executed-before.ensures));
   halts = (c.if-self.false, refl);

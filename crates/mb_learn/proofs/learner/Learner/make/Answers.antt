@@ -20,8 +20,8 @@ invariant_of-result g c =
 
 pub returns : goal.returns
 returns g c =
-    let m = machine_of g.V.Service.after g.V.Service.answer in
-    let snapshots = snapshots_of g.V.Service.part_of g.V.Service.restored in
+    let m = machine_of g.V.Service.machine in
+    let snapshots = snapshots_of g.V.Service.machine in
     record {
       runs = refl;
       lists = λ h. [];

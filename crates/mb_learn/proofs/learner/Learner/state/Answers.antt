@@ -8,7 +8,7 @@ use Rattle.mb_learn.proofs.learner.Learner.state.Goals as goal
 
 pub returns-clause-digest : goal.returns-clause-digest
 returns-clause-digest g c s secret initial taken slots rep =
-    let m = machine_of g.V.Service.after g.V.Service.answer in
-    let snapshots = snapshots_of g.V.Service.part_of g.V.Service.restored in
+    let m = machine_of g.V.Service.machine in
+    let snapshots = snapshots_of g.V.Service.machine in
     IfOk-weaker c.state.result (λ d. d ≡ state_now snapshots c.args.self.now.line) (λ d. d ≡ digest_behind s m initial snapshots slots (length slots))
     (λ d is. is ∙ state_behind s m initial snapshots slots c.args.self.now.line rep.executes) c.state.ensures.digest

@@ -14,8 +14,8 @@ pub returns : goal.returns
 returns g c = record {
   executes = λ s initial slots ex.
       on_ok_weaker c.note_state.result
-      (λ notes. executes_more s (machine_of g.V.Service.after g.V.Service.answer) initial (snapshots_of g.V.Service.part_of g.V.Service.restored) slots c.args.self.now c.place_all.new.self c.note_state.new.self c.args.batch.now (c.executed-pos.result + 1) c.in_ok-requests.requests c.push.new.self
-      ex (let wide = s.interval_in.0 in omega (arith, wide)) (ap (λ n. n + 1) c.executed-pos.ensures) (c.in_ok-requests.ensures.placed ∙ ap (λ (l : List Request). placed_all (machine_of g.V.Service.after g.V.Service.answer) (joined c.args.self.now.service c.args.self.now.table) (c.executed-pos.result + 1) l) c.as_slice.ensures) c.in_ok-requests.ensures.served c.in_ok-requests.ensures.rest c.in_ok-push.ensures.items notes) c.note_state.ensures;
+      (λ notes. executes_more s (machine_of g.V.Service.machine) initial (snapshots_of g.V.Service.machine) slots c.args.self.now c.place_all.new.self c.note_state.new.self c.args.batch.now (c.executed-pos.result + 1) c.in_ok-requests.requests c.push.new.self
+      ex (let wide = s.interval_in.0 in omega (arith, wide)) (ap (λ n. n + 1) c.executed-pos.ensures) (c.in_ok-requests.ensures.placed ∙ ap (λ (l : List Request). placed_all (machine_of g.V.Service.machine) (joined c.args.self.now.service c.args.self.now.table) (c.executed-pos.result + 1) l) c.as_slice.ensures) c.in_ok-requests.ensures.served c.in_ok-requests.ensures.rest c.in_ok-push.ensures.items notes) c.note_state.ensures;
   rest = on_ok_weaker c.note_state.result
       (λ notes. let kept = c.in_ok-requests.ensures.rest in (
         notes.shape ∙ kept.shape,

@@ -9,6 +9,6 @@ use Rattle.mb_learn.proofs.line.Line.make.Goals as goal
 
 pub returns : goal.returns
 returns g c = record {
-  executes = nothing_executed c.args.shape (machine_of g.V.Service.after g.V.Service.answer) c.args.service (snapshots_of g.V.Service.part_of g.V.Service.restored) _ refl refl c.in_ok-make.ensures c.new.ensures.items c.new-2.ensures.items;
+  executes = nothing_executed c.args.shape (machine_of g.V.Service.machine) c.args.service (snapshots_of g.V.Service.machine) _ refl refl c.in_ok-make.ensures c.new.ensures.items c.new-2.ensures.items;
   shape = (refl, ap (λ (t : List LastReply). length t) c.in_ok-make.ensures ∙ length-replicate (client_count c.args.shape) no_reply, c.new.ensures.items);
 }

@@ -5,10 +5,10 @@ use Rattle.mb_learn.proofs.line.Line.note_state.Goals as goal
 
 pub returns-then-pos-from-ne0 : goal.returns-then-pos-from-ne0
 returns-then-pos-from-ne0 g c =
-    notes_not (snapshots_of g.V.Service.part_of g.V.Service.restored) c.args.pos c.args.self.now
+    notes_not (snapshots_of g.V.Service.machine) c.args.pos c.args.self.now
     (subst (λ (k : ℕ). c.args.pos % k ≡ 0 → ⊥) (c.from.ensures ∙ c.k.ensures) c.if-pos-from-ne0.true)
 
 pub returns : goal.returns
 returns g c =
-    notes_so (snapshots_of g.V.Service.part_of g.V.Service.restored) c.args.pos c.args.self.now c.state.new.self c.push.new.self c.in_ok-state.state c.state.ensures.kept
+    notes_so (snapshots_of g.V.Service.machine) c.args.pos c.args.self.now c.state.new.self c.push.new.self c.in_ok-state.state c.state.ensures.kept
     (subst (λ (k : ℕ). c.args.pos % k ≡ 0) (c.from.ensures ∙ c.k.ensures) c.if-pos-from-ne0.false) c.in_ok-state.ensures.digest c.in_ok-push.ensures.items

@@ -18,15 +18,15 @@ use Rattle.mb_node.proofs.node.Node.kept_round.Goals as goal
 pub returns-in_err-arrived-clause-rounds : goal.returns-in_err-arrived-clause-rounds
 returns-in_err-arrived-clause-rounds g c =
     let p = err_from_is_err_and c.from_residual.result c.from_residual.ensures.1 in
-    stopped_kept _ _ _ _ _ _ _ _ _ _ _ _ _ _ _ _ _ c.from_residual.result p.0 p.1 (λ n is. link_no_budget c.in_err-arrived.field-0.0 n (sym p.2 ∙ is))
-    (kept_lost _ _ _ _ _ c.args.self.now c.args.replica.now _ _ _ _ refl c.receive.ensures.sent p.0 (subst (λ (s : ServeStop). ¬ IsOfDisk s) (sym p.2) (link_alone c.in_err-arrived.field-0.0)) (λ is. link_unwritten c.in_err-arrived.field-0.0 (sym p.2 ∙ is))
+    stopped_kept _ _ _ _ _ _ _ _ _ _ _ _ _ c.from_residual.result p.0 p.1 (λ n is. link_no_budget c.in_err-arrived.field-0.0 n (sym p.2 ∙ is))
+    (kept_lost _ c.args.self.now c.args.replica.now _ _ _ _ refl c.receive.ensures.sent p.0 (subst (λ (s : ServeStop). ¬ IsOfDisk s) (sym p.2) (link_alone c.in_err-arrived.field-0.0)) (λ is. link_unwritten c.in_err-arrived.field-0.0 (sym p.2 ∙ is))
     c.args.journal.now _ c.requires.keeps c.requires.runs c.in_err-arrived.ensures.gives)
 
 pub returns-in_default-clause-rounds : goal.returns-in_default-clause-rounds
 returns-in_default-clause-rounds g c =
     let r = c.requires.rests in
     let counts = c.event_of.ensures.counts in
-    kept_quietly _ _ _ _ _ c.args.self.now c.args.replica.now _ _ _ _ refl c.receive.ensures.sent c.receive.new.self c.in_ok-arrived.arrived c.in_ok-arrived.ensures.gives c.event_of.result (λ me d rep. c.event_of.ensures.event me d rep)
+    kept_quietly _ c.args.self.now c.args.replica.now _ _ _ _ refl c.receive.ensures.sent c.receive.new.self c.in_ok-arrived.arrived c.in_ok-arrived.ensures.gives c.event_of.result (λ me d rep. c.event_of.ensures.event me d rep)
     c.event_of.new.self _ _ c.in_default.is (ap (λ (n : Node). n.receiver) counts)
     (ap (λ (n : Node). n.quiets) counts ∙ none_counts (wants r.me r.history) c.args.self.now.quiets c.in_ok-arrived.arrived (sym (c.event_of.ensures.event r.me r.history r.represents) ∙ c.in_default.is))
     (ap (λ (n : Node). n.outbox) counts)
@@ -35,9 +35,9 @@ pub returns-in_err-keep-clause-rounds : goal.returns-in_err-keep-clause-rounds
 returns-in_err-keep-clause-rounds g c =
     let p = err_from_is_err_and c.from_residual-in_err-keep.result c.from_residual-in_err-keep.ensures.1 in
     let causes : IsOfKeeping p.0 = subst IsOfKeeping (sym p.2) c.in_err-keep.ensures.causes in
-    let kept = subst (λ (s : ServeStop). AreKept c.args.journal.now c.keep.new.journal (g.D.Disk.moments c.args.disk.now) (g.D.Disk.moments c.keep.new.disk) (c.in-Some.event ∷ []) [] × IsFullFor s c.keep.new.journal c.in-Some.event) (sym p.2) c.in_err-keep.ensures.kept in
-    stopped_kept _ _ _ _ _ _ _ _ _ _ _ _ _ _ _ _ _ c.from_residual-in_err-keep.result p.0 p.1 (λ n is. keeping_no_budget p.0 n causes is)
-    (kept_unsaid _ _ _ _ _ c.args.self.now c.args.replica.now _ _ _ _ refl c.receive.ensures.sent c.receive.new.self c.in_ok-arrived.arrived c.in_ok-arrived.ensures.gives c.event_of.result (λ me d rep. c.event_of.ensures.event me d rep)
+    let kept = subst (λ (s : ServeStop). AreKept c.args.journal.now c.keep.new.journal (g.D.Disk.seen c.args.disk.now).moments (g.D.Disk.seen c.keep.new.disk).moments (c.in-Some.event ∷ []) [] × IsFullFor s c.keep.new.journal c.in-Some.event) (sym p.2) c.in_err-keep.ensures.kept in
+    stopped_kept _ _ _ _ _ _ _ _ _ _ _ _ _ c.from_residual-in_err-keep.result p.0 p.1 (λ n is. keeping_no_budget p.0 n causes is)
+    (kept_unsaid _ c.args.self.now c.args.replica.now _ _ _ _ refl c.receive.ensures.sent c.receive.new.self c.in_ok-arrived.arrived c.in_ok-arrived.ensures.gives c.event_of.result (λ me d rep. c.event_of.ensures.event me d rep)
     c.in-Some.event c.in-Some.is c.args.journal.now c.keep.new.journal _ _ p.0 (keeping_unwritten p.0 causes) c.requires.runs kept)
 
 pub returns-in_err-keep-clause-link : goal.returns-in_err-keep-clause-link
@@ -62,19 +62,19 @@ returns-in_err-turn-clause-rounds g c =
     let p = err_from_is_err_and c.from_residual-in_err-turn.result c.from_residual-in_err-turn.ensures.1 in
     let counts = c.event_of.ensures.counts in
     let same : c.event_of.new.self.outbox ≡ c.args.self.now.outbox = ap (λ (n : Node). n.outbox) counts in
-    let gives = subst (λ (t : Option Receives). GivesOne c.args.self.now.receiver c.receive.new.self c.in_ok-arrived.arrived (g.L.Link.received c.args.link.now) t) (sym c.in_err-turn.ensures.received) c.in_ok-arrived.ensures.gives in
-    stopped_kept _ _ _ _ _ _ _ _ _ _ _ _ _ _ _ _ _ c.from_residual-in_err-turn.result p.0 p.1 (λ n is. c.in_err-turn.ensures.unspent n (let e = sym p.2 ∙ is in cc))
-    (kept_cut _ _ _ _ _ c.args.self.now c.args.replica.now _ _ _ _ refl c.receive.ensures.sent c.receive.new.self c.in_ok-arrived.arrived gives c.event_of.result (λ me d rep. c.event_of.ensures.event me d rep)
+    let gives = subst (λ (t : Option Receives). GivesOne c.args.self.now.receiver c.receive.new.self c.in_ok-arrived.arrived (g.L.Link.seen c.args.link.now).received t) (sym c.in_err-turn.ensures.received) c.in_ok-arrived.ensures.gives in
+    stopped_kept _ _ _ _ _ _ _ _ _ _ _ _ _ c.from_residual-in_err-turn.result p.0 p.1 (λ n is. c.in_err-turn.ensures.unspent n (let e = sym p.2 ∙ is in cc))
+    (kept_cut _ c.args.self.now c.args.replica.now _ _ _ _ refl c.receive.ensures.sent c.receive.new.self c.in_ok-arrived.arrived gives c.event_of.result (λ me d rep. c.event_of.ensures.event me d rep)
     c.in-Some.event c.in-Some.is c.args.journal.now c.keep.new.journal _ _ c.take_turn.new.replica _ p.0 (subst (λ (s : ServeStop). ¬ IsOfDisk s) (sym p.2) c.in_err-turn.ensures.alone) c.in_ok-keep.ensures.kept c.in_ok-keep.ensures.runs
-    (λ me d n serves rep whole hosts host number. (turn_stopped me d n c.in-Some.event (record { written = g.K.Sink.written c.args.out.now; sent = g.L.Link.sent c.receive.new.link }) (record { written = g.K.Sink.written c.take_turn.new.out; sent = g.L.Link.sent c.take_turn.new.link }) c.take_turn.new.replica c.take_turn.new.outbox c.in_err-turn.field-0.0
+    (λ me d n serves rep whole hosts host number. (turn_stopped me d n c.in-Some.event (record { written = (g.K.Sink.seen c.args.out.now).bytes; sent = (g.L.Link.seen c.receive.new.link).sent }) (record { written = (g.K.Sink.seen c.take_turn.new.out).bytes; sent = (g.L.Link.seen c.take_turn.new.link).sent }) c.take_turn.new.replica c.take_turn.new.outbox c.in_err-turn.field-0.0
     (c.in_err-turn.ensures.stands me d n serves rep whole (ap (λ (b : Outbox). b.hosts) same ∙ hosts) (ap (λ (b : Outbox). b.host) same ∙ host) (ap (λ (b : Outbox). b.number) same ∙ number))).1))
 
 pub returns-then-turn-clause-rounds : goal.returns-then-turn-clause-rounds
 returns-then-turn-clause-rounds g c =
     let counts = c.event_of.ensures.counts in
     let same : c.event_of.new.self.outbox ≡ c.args.self.now.outbox = ap (λ (n : Node). n.outbox) counts in
-    let gives = subst (λ (t : Option Receives). GivesOne c.args.self.now.receiver c.receive.new.self c.in_ok-arrived.arrived (g.L.Link.received c.args.link.now) t) (sym c.in_ok-turn.ensures.received) c.in_ok-arrived.ensures.gives in
-    kept_turned _ _ _ _ _ c.args.self.now c.args.replica.now _ _ _ _ refl c.receive.ensures.sent c.receive.new.self c.in_ok-arrived.arrived gives c.event_of.result (λ me d rep. c.event_of.ensures.event me d rep)
+    let gives = subst (λ (t : Option Receives). GivesOne c.args.self.now.receiver c.receive.new.self c.in_ok-arrived.arrived (g.L.Link.seen c.args.link.now).received t) (sym c.in_ok-turn.ensures.received) c.in_ok-arrived.ensures.gives in
+    kept_turned _ c.args.self.now c.args.replica.now _ _ _ _ refl c.receive.ensures.sent c.receive.new.self c.in_ok-arrived.arrived gives c.event_of.result (λ me d rep. c.event_of.ensures.event me d rep)
     c.in-Some.event c.in-Some.is c.args.journal.now c.keep.new.journal _ _ c.take_turn.new.replica _ _ c.in_ok-turn.turn c.in_ok-turn.turn.stops c.in_ok-keep.ensures.kept refl c.in_ok-turn.ensures.runs (ap (λ (n : Node). n.receiver) counts) (rw c.if-turn.true refl)
     (c.in_ok-turn.ensures.who.1 ∙ ap (λ (b : Outbox). b.hosts) same) (c.in_ok-turn.ensures.who.0 ∙ ap (λ (b : Outbox). b.host) same)
     (λ me d n serves rep whole hosts host number. c.in_ok-turn.ensures.stands me d n serves rep whole (ap (λ (b : Outbox). b.hosts) same ∙ hosts) (ap (λ (b : Outbox). b.host) same ∙ host) (ap (λ (b : Outbox). b.number) same ∙ number))
@@ -83,8 +83,8 @@ pub returns-else-turn-clause-rounds : goal.returns-else-turn-clause-rounds
 returns-else-turn-clause-rounds g c =
     let counts = c.event_of.ensures.counts in
     let same : c.event_of.new.self.outbox ≡ c.args.self.now.outbox = ap (λ (n : Node). n.outbox) counts in
-    let gives = subst (λ (t : Option Receives). GivesOne c.args.self.now.receiver c.receive.new.self c.in_ok-arrived.arrived (g.L.Link.received c.args.link.now) t) (sym c.in_ok-turn.ensures.received) c.in_ok-arrived.ensures.gives in
-    kept_turned _ _ _ _ _ c.args.self.now c.args.replica.now _ _ _ _ refl c.receive.ensures.sent c.receive.new.self c.in_ok-arrived.arrived gives c.event_of.result (λ me d rep. c.event_of.ensures.event me d rep)
+    let gives = subst (λ (t : Option Receives). GivesOne c.args.self.now.receiver c.receive.new.self c.in_ok-arrived.arrived (g.L.Link.seen c.args.link.now).received t) (sym c.in_ok-turn.ensures.received) c.in_ok-arrived.ensures.gives in
+    kept_turned _ c.args.self.now c.args.replica.now _ _ _ _ refl c.receive.ensures.sent c.receive.new.self c.in_ok-arrived.arrived gives c.event_of.result (λ me d rep. c.event_of.ensures.event me d rep)
     c.in-Some.event c.in-Some.is c.args.journal.now c.keep.new.journal _ _ c.take_turn.new.replica _ _ c.in_ok-turn.turn c.in_ok-turn.turn.stops c.in_ok-keep.ensures.kept refl c.in_ok-turn.ensures.runs (ap (λ (n : Node). n.receiver) counts) (rw c.if-turn.false (ap (λ (n : Node). n.quiets) counts))
     (c.in_ok-turn.ensures.who.1 ∙ ap (λ (b : Outbox). b.hosts) same) (c.in_ok-turn.ensures.who.0 ∙ ap (λ (b : Outbox). b.host) same)
     (λ me d n serves rep whole hosts host number. c.in_ok-turn.ensures.stands me d n serves rep whole (ap (λ (b : Outbox). b.hosts) same ∙ hosts) (ap (λ (b : Outbox). b.host) same ∙ host) (ap (λ (b : Outbox). b.number) same ∙ number))

@@ -13,14 +13,14 @@ use Rattle.mb_node.proofs.node.Node.round.Goals as goal
 pub returns-in_err-arrival-clause-rounds : goal.returns-in_err-arrival-clause-rounds
 returns-in_err-arrival-clause-rounds g c =
     let p = err_from_is_err_and c.from_residual.result c.from_residual.ensures.1 in
-    stopped_round _ _ _ _ _ _ _ _ _ _ _ _ _ c.from_residual.result p.0 p.1 (λ n is. link_no_budget c.in_err-arrival.field-0.0 n (sym p.2 ∙ is))
-    (round_lost _ _ _ _ _ c.args.self.now c.args.replica.now _ _ _ _ refl c.receive.ensures.sent c.requires.runs c.in_err-arrival.ensures.gives)
+    stopped_round _ _ _ _ _ _ _ _ _ c.from_residual.result p.0 p.1 (λ n is. link_no_budget c.in_err-arrival.field-0.0 n (sym p.2 ∙ is))
+    (round_lost _ c.args.self.now c.args.replica.now _ _ _ _ refl c.receive.ensures.sent c.requires.runs c.in_err-arrival.ensures.gives)
 
 pub returns-in_default-clause-rounds : goal.returns-in_default-clause-rounds
 returns-in_default-clause-rounds g c =
     let r = c.requires.rests in
     let counts = c.event_of.ensures.counts in
-    round_quietly _ _ _ _ _ c.args.self.now c.args.replica.now _ _ _ _ refl c.receive.ensures.sent c.receive.new.self c.in_ok-arrival.arrival c.in_ok-arrival.ensures.gives c.event_of.result (λ me d rep. c.event_of.ensures.event me d rep)
+    round_quietly _ c.args.self.now c.args.replica.now _ _ _ _ refl c.receive.ensures.sent c.receive.new.self c.in_ok-arrival.arrival c.in_ok-arrival.ensures.gives c.event_of.result (λ me d rep. c.event_of.ensures.event me d rep)
     c.event_of.new.self c.in_default.is (ap (λ (n : Node). n.receiver) counts)
     (ap (λ (n : Node). n.quiets) counts ∙ none_counts (wants r.me r.history) c.args.self.now.quiets c.in_ok-arrival.arrival (sym (c.event_of.ensures.event r.me r.history r.represents) ∙ c.in_default.is))
     (ap (λ (n : Node). n.outbox) counts)
@@ -33,11 +33,11 @@ returns-in_err-turn-clause-rounds g c =
     let p = err_from_is_err_and c.from_residual-in_err-turn.result c.from_residual-in_err-turn.ensures.1 in
     let counts = c.event_of.ensures.counts in
     let same : c.event_of.new.self.outbox ≡ c.args.self.now.outbox = ap (λ (n : Node). n.outbox) counts in
-    let gives = subst (λ (t : Option Receives). GivesOne c.args.self.now.receiver c.receive.new.self c.in_ok-arrival.arrival (g.L.Link.received c.args.link.now) t) (sym c.in_err-turn.ensures.received) c.in_ok-arrival.ensures.gives in
-    stopped_round _ _ _ _ _ _ _ _ _ _ _ _ _ c.from_residual-in_err-turn.result p.0 p.1 (λ n is. c.in_err-turn.ensures.unspent n (let e = sym p.2 ∙ is in cc))
-    (round_cut _ _ _ _ _ c.args.self.now c.args.replica.now _ _ _ _ refl c.receive.ensures.sent c.receive.new.self c.in_ok-arrival.arrival gives c.event_of.result (λ me d rep. c.event_of.ensures.event me d rep)
+    let gives = subst (λ (t : Option Receives). GivesOne c.args.self.now.receiver c.receive.new.self c.in_ok-arrival.arrival (g.L.Link.seen c.args.link.now).received t) (sym c.in_err-turn.ensures.received) c.in_ok-arrival.ensures.gives in
+    stopped_round _ _ _ _ _ _ _ _ _ c.from_residual-in_err-turn.result p.0 p.1 (λ n is. c.in_err-turn.ensures.unspent n (let e = sym p.2 ∙ is in cc))
+    (round_cut _ c.args.self.now c.args.replica.now _ _ _ _ refl c.receive.ensures.sent c.receive.new.self c.in_ok-arrival.arrival gives c.event_of.result (λ me d rep. c.event_of.ensures.event me d rep)
     c.in-Some.event c.in-Some.is c.take_turn.new.replica _
-    (λ me d n serves rep whole hosts host number. (turn_stopped me d n c.in-Some.event (record { written = g.K.Sink.written c.args.out.now; sent = g.L.Link.sent c.receive.new.link }) (record { written = g.K.Sink.written c.take_turn.new.out; sent = g.L.Link.sent c.take_turn.new.link }) c.take_turn.new.replica c.take_turn.new.outbox c.in_err-turn.field-0.0
+    (λ me d n serves rep whole hosts host number. (turn_stopped me d n c.in-Some.event (record { written = (g.K.Sink.seen c.args.out.now).bytes; sent = (g.L.Link.seen c.receive.new.link).sent }) (record { written = (g.K.Sink.seen c.take_turn.new.out).bytes; sent = (g.L.Link.seen c.take_turn.new.link).sent }) c.take_turn.new.replica c.take_turn.new.outbox c.in_err-turn.field-0.0
     (c.in_err-turn.ensures.stands me d n serves rep whole (ap (λ (b : Outbox). b.hosts) same ∙ hosts) (ap (λ (b : Outbox). b.host) same ∙ host) (ap (λ (b : Outbox). b.number) same ∙ number))).1))
 
 pub returns-in_err-turn-clause-link : goal.returns-in_err-turn-clause-link
@@ -54,8 +54,8 @@ pub returns-then-turn-clause-rounds : goal.returns-then-turn-clause-rounds
 returns-then-turn-clause-rounds g c =
     let counts = c.event_of.ensures.counts in
     let same : c.event_of.new.self.outbox ≡ c.args.self.now.outbox = ap (λ (n : Node). n.outbox) counts in
-    let gives = subst (λ (t : Option Receives). GivesOne c.args.self.now.receiver c.receive.new.self c.in_ok-arrival.arrival (g.L.Link.received c.args.link.now) t) (sym c.in_ok-turn.ensures.received) c.in_ok-arrival.ensures.gives in
-    round_turned _ _ _ _ _ c.args.self.now c.args.replica.now _ _ _ _ refl c.receive.ensures.sent c.receive.new.self c.in_ok-arrival.arrival gives c.event_of.result (λ me d rep. c.event_of.ensures.event me d rep)
+    let gives = subst (λ (t : Option Receives). GivesOne c.args.self.now.receiver c.receive.new.self c.in_ok-arrival.arrival (g.L.Link.seen c.args.link.now).received t) (sym c.in_ok-turn.ensures.received) c.in_ok-arrival.ensures.gives in
+    round_turned _ c.args.self.now c.args.replica.now _ _ _ _ refl c.receive.ensures.sent c.receive.new.self c.in_ok-arrival.arrival gives c.event_of.result (λ me d rep. c.event_of.ensures.event me d rep)
     c.in-Some.event c.in-Some.is c.take_turn.new.replica _ _ c.in_ok-turn.turn c.in_ok-turn.turn.stops refl c.in_ok-turn.ensures.runs (ap (λ (n : Node). n.receiver) counts) (rw c.if-turn.true refl)
     (c.in_ok-turn.ensures.who.1 ∙ ap (λ (b : Outbox). b.hosts) same) (c.in_ok-turn.ensures.who.0 ∙ ap (λ (b : Outbox). b.host) same)
     (λ me d n serves rep whole hosts host number. c.in_ok-turn.ensures.stands me d n serves rep whole (ap (λ (b : Outbox). b.hosts) same ∙ hosts) (ap (λ (b : Outbox). b.host) same ∙ host) (ap (λ (b : Outbox). b.number) same ∙ number))
@@ -64,8 +64,8 @@ pub returns-else-turn-clause-rounds : goal.returns-else-turn-clause-rounds
 returns-else-turn-clause-rounds g c =
     let counts = c.event_of.ensures.counts in
     let same : c.event_of.new.self.outbox ≡ c.args.self.now.outbox = ap (λ (n : Node). n.outbox) counts in
-    let gives = subst (λ (t : Option Receives). GivesOne c.args.self.now.receiver c.receive.new.self c.in_ok-arrival.arrival (g.L.Link.received c.args.link.now) t) (sym c.in_ok-turn.ensures.received) c.in_ok-arrival.ensures.gives in
-    round_turned _ _ _ _ _ c.args.self.now c.args.replica.now _ _ _ _ refl c.receive.ensures.sent c.receive.new.self c.in_ok-arrival.arrival gives c.event_of.result (λ me d rep. c.event_of.ensures.event me d rep)
+    let gives = subst (λ (t : Option Receives). GivesOne c.args.self.now.receiver c.receive.new.self c.in_ok-arrival.arrival (g.L.Link.seen c.args.link.now).received t) (sym c.in_ok-turn.ensures.received) c.in_ok-arrival.ensures.gives in
+    round_turned _ c.args.self.now c.args.replica.now _ _ _ _ refl c.receive.ensures.sent c.receive.new.self c.in_ok-arrival.arrival gives c.event_of.result (λ me d rep. c.event_of.ensures.event me d rep)
     c.in-Some.event c.in-Some.is c.take_turn.new.replica _ _ c.in_ok-turn.turn c.in_ok-turn.turn.stops refl c.in_ok-turn.ensures.runs (ap (λ (n : Node). n.receiver) counts) (rw c.if-turn.false (ap (λ (n : Node). n.quiets) counts))
     (c.in_ok-turn.ensures.who.1 ∙ ap (λ (b : Outbox). b.hosts) same) (c.in_ok-turn.ensures.who.0 ∙ ap (λ (b : Outbox). b.host) same)
     (λ me d n serves rep whole hosts host number. c.in_ok-turn.ensures.stands me d n serves rep whole (ap (λ (b : Outbox). b.hosts) same ∙ hosts) (ap (λ (b : Outbox). b.host) same ∙ host) (ap (λ (b : Outbox). b.number) same ∙ number))

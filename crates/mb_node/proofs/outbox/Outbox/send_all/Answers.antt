@@ -35,7 +35,7 @@ returns-in_err-send-clause-sends g c = λ n is.
     let later : Sends = numbered hosts host (n + length (take (i + 1) xs)) (drop (i + 1) xs) in
     let whole = numbered_parted hosts host n xs i x c.loop-message-test.true c.message-item.is in
     let same : datagrams_of c.loop-message.self.hosts c.loop-message.self.host (n + i) x ≡ one = ap (λ (k : ℕ). datagrams_of k c.loop-message.self.host (n + i) x) so_far.hosts ∙ ap (λ (k : ℕ). datagrams_of hosts k (n + i) x) so_far.host in
-    let part = subst (λ (d : Sends). SendsPart d (g.L.Link.sent c.loop-message.link) (g.L.Link.sent c.send.new.link)) same (c.in_err-send.ensures.sends (n + i) (so_far.number n is)) in
+    let part = subst (λ (d : Sends). SendsPart d (g.L.Link.seen c.loop-message.link).sent (g.L.Link.seen c.send.new.link).sent) same (c.in_err-send.ensures.sends (n + i) (so_far.number n is)) in
     stopped _ _ _ _ p.0 p.1 (rw whole (sends_before (before ++ one) later _ _ (sends_behind before one _ _ _ (so_far.sent n is) part)))
 
 pub loop-message-preserved : goal.loop-message-preserved
@@ -46,11 +46,11 @@ loop-message-preserved g c =
     let i = c.loop-message.message-index in
     let x = c.message-item.result in
     let so_far = c.loop-message.invariant in
-    let told = g.L.Link.sent c.args.link.now in
+    let told = (g.L.Link.seen c.args.link.now).sent in
     record {
       sent = λ n is.
           let same : datagrams_of c.loop-message.self.hosts c.loop-message.self.host (n + i) x ≡ datagrams_of hosts host (n + i) x = ap (λ (k : ℕ). datagrams_of k c.loop-message.self.host (n + i) x) so_far.hosts ∙ ap (λ (k : ℕ). datagrams_of hosts k (n + i) x) so_far.host in
-          sent_both told _ _ (numbered hosts host n (take i xs)) (datagrams_of hosts host (n + i) x) (so_far.sent n is) (c.in_ok-send.ensures.sends (n + i) (so_far.number n is) ∙ ap (with_more (g.L.Link.sent c.loop-message.link)) same)
+          sent_both told _ _ (numbered hosts host n (take i xs)) (datagrams_of hosts host (n + i) x) (so_far.sent n is) (c.in_ok-send.ensures.sends (n + i) (so_far.number n is) ∙ ap (with_more (g.L.Link.seen c.loop-message.link).sent) same)
           ∙ ap (with_more told) (sym (numbered_more hosts host n xs i x c.loop-message-test.true c.message-item.is));
       number = λ n is. ap (λ (k : ℕ). (k + 1) % 2 ^ 32) (so_far.number n is) ∙ one_further n i;
       host = so_far.host;

@@ -30,7 +30,7 @@ loop-peer-preserved g c =
     let pieces = c.args.pieces.now in
     let h = c.loop-peer.peer in
     let so_far = c.loop-peer.invariant in
-    let told = g.L.Link.sent c.args.link.now in
+    let told = (g.L.Link.seen c.args.link.now).sent in
     elim c.if-peer-self.branch [
       | then-peer-self+in_ok-send_pieces w ↦ rw w.link-is (record {
         sent = sent_both told _ _ (others_in host pieces (range_with_len 0 h)) (to_peer pieces h) so_far.sent w.in_ok-send_pieces.ensures.sends ∙ ap (with_more told) (sym (others_more host pieces h (ne_eqb h host w.if-peer-self.true)));

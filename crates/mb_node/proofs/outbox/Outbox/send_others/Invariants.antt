@@ -10,8 +10,8 @@ abbrev pub invariant-loop-peer : goal.invariant-loop-peer
 invariant-loop-peer g l =
     let link = g.L.Link in
     record {
-      sent : link.sent l.link ≡ with_more (link.sent l.fn.link) (flat_map (to_peer l.pieces) (filter (λ h. not (h == l.self.host)) (range_with_len 0 l.peer)));
-      received : link.received l.link ≡ link.received l.fn.link;
-      opens : link.opens l.link ≡ link.opens l.fn.link;
-      calm : Calm (link.faults l.fn.link) (link.faults l.link) (link.never_fails l.fn.link) (link.never_fails l.link);
+      sent : (link.seen l.link).sent ≡ with_more (link.seen l.fn.link).sent (flat_map (to_peer l.pieces) (filter (λ h. not (h == l.self.host)) (range_with_len 0 l.peer)));
+      received : (link.seen l.link).received ≡ (link.seen l.fn.link).received;
+      opens : (link.seen l.link).opens ≡ (link.seen l.fn.link).opens;
+      calm : Calm (link.seen l.fn.link).faults (link.seen l.link).faults (link.never_fails l.fn.link) (link.never_fails l.link);
     }

@@ -37,7 +37,7 @@ install-requires g c =
     let x = t.left in
     let rep = t.stands.represents in
     let k = c.take_state.new.self in
-    let snapshots = snapshots_of g.V.Service.part_of g.V.Service.restored in
+    let snapshots = snapshots_of g.V.Service.machine in
     let wanted = wanted_is t.me r x.history m.pos rep c.requires.stable c.requires.behind in
     let takes = subst (λ (f : Fetched). Takes snapshots r.agreement.stable.state (found r.keeper.fetched) m r.keeper k (Ok f)) c.in-State.is c.in_ok-part.ensures in
     let first = Accepted (message.State m) ∷ x.history in
@@ -51,7 +51,7 @@ returns-in-WrongDigest g c = λ me x serves s.
     let rep = s.represents in
     let wanted = wanted_is me r x.history m.pos rep c.requires.stable c.requires.behind in
     let part = c.in-WrongDigest.part in
-    let takes = subst (λ (f : Fetched). Takes (snapshots_of g.V.Service.part_of g.V.Service.restored) r.agreement.stable.state (found r.keeper.fetched) m r.keeper k (Ok f)) c.in-WrongDigest.is c.in_ok-part.ensures in
+    let takes = subst (λ (f : Fetched). Takes (snapshots_of g.V.Service.machine) r.agreement.stable.state (found r.keeper.fetched) m r.keeper k (Ok f)) c.in-WrongDigest.is c.in_ok-part.ensures in
     gives_as me _ c.args.done.now (outcome.WrongDigest part) (answer (outcome.WrongDigest part) x) (give_state me m x) (wrong_given me r x rep m wanted part takes.0)
     (refl, held_again me r _ c.args.done.now x s m (at_low me r x rep m wanted) (parts_written me r k takes.1.rest_stays) takes.1)
 
@@ -62,7 +62,7 @@ returns-in-Nothing g c = λ me x serves s.
     let k = c.take_state.new.self in
     let rep = s.represents in
     let wanted = wanted_is me r x.history m.pos rep c.requires.stable c.requires.behind in
-    let takes = subst (λ (f : Fetched). Takes (snapshots_of g.V.Service.part_of g.V.Service.restored) r.agreement.stable.state (found r.keeper.fetched) m r.keeper k (Ok f)) c.in-Nothing.is c.in_ok-part.ensures in
+    let takes = subst (λ (f : Fetched). Takes (snapshots_of g.V.Service.machine) r.agreement.stable.state (found r.keeper.fetched) m r.keeper k (Ok f)) c.in-Nothing.is c.in_ok-part.ensures in
     gives_as me _ c.args.done.now outcome.Idle (answer outcome.Idle x) (give_state me m x) (held_given me r x rep m wanted takes.0 takes.1.0)
     (refl, held_again me r _ c.args.done.now x s m (at_low me r x rep m wanted) (parts_written me r k takes.1.1.rest_stays) takes.1.1)
 
@@ -75,7 +75,7 @@ returns-in-BadState g c = λ me x serves s.
     let wanted = wanted_is me r x.history m.pos rep c.requires.stable c.requires.behind in
     let part = c.in-BadState.part in
     let at = c.in-BadState.at in
-    let snapshots = snapshots_of g.V.Service.part_of g.V.Service.restored in
+    let snapshots = snapshots_of g.V.Service.machine in
     let takes = subst (λ (f : Fetched). Takes snapshots r.agreement.stable.state (found r.keeper.fetched) m r.keeper k (Ok f)) c.in-BadState.is c.in_ok-part.ensures in
     gives_as me _ c.args.done.now (outcome.BadState part at) (answer (outcome.BadState part at) (write DroppedParts x)) (give_state me m x)
     (bad_given me r x rep m wanted takes.0.0 takes.0.1 takes.1.0 snapshots serves.snapshots part at takes.1.1.0)
@@ -88,7 +88,7 @@ returns-in-Parts g c = λ me x serves s.
     let k = c.take_state.new.self in
     let rep = s.represents in
     let wanted = wanted_is me r x.history m.pos rep c.requires.stable c.requires.behind in
-    let takes = subst (λ (f : Fetched). Takes (snapshots_of g.V.Service.part_of g.V.Service.restored) r.agreement.stable.state (found r.keeper.fetched) m r.keeper k (Ok f)) c.in-Parts.is c.in_ok-part.ensures in
+    let takes = subst (λ (f : Fetched). Takes (snapshots_of g.V.Service.machine) r.agreement.stable.state (found r.keeper.fetched) m r.keeper k (Ok f)) c.in-Parts.is c.in_ok-part.ensures in
     gives_as me _ c.args.done.now outcome.Took (answer outcome.Took (write (Accepted (message.State m)) x)) (give_state me m x) (parts_given me r x rep m wanted takes.0.0 takes.0.1 takes.1.0)
     (refl, parts_taken me r _ c.args.done.now x s m (at_low me r x rep m wanted) c.requires.fits (parts_pass me r x rep m wanted takes.0.0 takes.0.1 takes.1.0) (held_now me r x rep m wanted) (parts_written me r k takes.1.1.rest_stays) takes.1.1)
 
@@ -99,7 +99,7 @@ returns-in-State g c = λ me x serves s.
     let k = c.take_state.new.self in
     let rep = s.represents in
     let wanted = wanted_is me r x.history m.pos rep c.requires.stable c.requires.behind in
-    let snapshots = snapshots_of g.V.Service.part_of g.V.Service.restored in
+    let snapshots = snapshots_of g.V.Service.machine in
     let takes = subst (λ (f : Fetched). Takes snapshots r.agreement.stable.state (found r.keeper.fetched) m r.keeper k (Ok f)) c.in-State.is c.in_ok-part.ensures in
     let right = takes.0.0 in
     let more = takes.0.1 in

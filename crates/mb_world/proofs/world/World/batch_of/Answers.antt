@@ -1,5 +1,6 @@
 use Rattle.std.proofs.Common.{◌≡◌, ◌+◌, ◌≤◌, ◌<◌, ◌∷◌, [], sym, ap, ◌∙◌, arith}
 use Rattle.std.proofs.lemmas.List.{length_push}
+use Rattle.mb_base.specs.Limits.{batch_bytes_limit}
 use Rattle.mb_parts.specs.Counted.{counted}
 use Rattle.mb_parts.specs.Fits.{FitsRequest}
 use Rattle.mb_parts.specs.Spelling.{request_bytes}
@@ -15,7 +16,7 @@ returns-in_default-clause-stops g c = λ y x h.
 pub returns-then-used-gt-MAX_BATCH-clause-stops : goal.returns-then-used-gt-MAX_BATCH-clause-stops
 returns-then-used-gt-MAX_BATCH-clause-stops g c = λ y x h.
     let l = c.loop-number in
-    let long : 2048 < counted l.used (request_bytes c.in-Some.request) = omega (arith, c.count-used.ensures, c.if-used-gt-MAX_BATCH.true) in
+    let long : batch_bytes_limit < counted l.used (request_bytes c.in-Some.request) = omega (arith, c.count-used.ensures, c.if-used-gt-MAX_BATCH.true) in
     long_told y.schedule x c.args.numbers.now l.number-index l.used c.loop-number-test.true (l.invariant.left y x h) c.in-Some.request (sym c.in-Some.is ∙ c.in_ok-request.ensures.request y x h) long
 
 pub loop-number-preserved : goal.loop-number-preserved
@@ -24,7 +25,7 @@ loop-number-preserved g c =
     let numbers = c.args.numbers.now in
     let r = c.in-Some.request in
     let counts : c.count-used.result ≡ counted l.used (request_bytes r) = c.count-used.ensures in
-    let short : counted l.used (request_bytes r) ≤ 2048 = omega (arith, counts, c.if-used-gt-MAX_BATCH.false) in
+    let short : counted l.used (request_bytes r) ≤ batch_bytes_limit = omega (arith, counts, c.if-used-gt-MAX_BATCH.false) in
     rw (c.in_ok-push.ensures.ok, counts) (record {
       left = λ y x h. left_on y.schedule x numbers l.number-index l.used c.loop-number-test.true (l.invariant.left y x h) r (sym c.in-Some.is ∙ c.in_ok-request.ensures.request y x h) short;
       taken = λ y x h. taken_on y.schedule x numbers l.number-index l.used c.loop-number-test.true (l.invariant.left y x h) l.requests r (l.invariant.taken y x h) (sym c.in-Some.is ∙ c.in_ok-request.ensures.request y x h);

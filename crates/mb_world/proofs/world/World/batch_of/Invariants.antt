@@ -1,5 +1,6 @@
 use Rattle.std.proofs.Common.{◌≡◌, ◌≤◌, drop, filter_map, flat_map, length, take}
 use Rattle.std.specs.List.{AllByRecursion}
+use Rattle.mb_base.specs.Limits.{batch_bytes_limit}
 use Rattle.mb_parts.specs.Fits.{FitsRequest}
 use Rattle.mb_parts.specs.Spelling.{request_bytes}
 use Rattle.mb_world_model.specs.FaultyHosts.{misfit, request_at}
@@ -14,6 +15,6 @@ invariant-loop-number g l = record {
   taken : (y : System _) (x : WorldState) → RepresentsWorld y l.self x → l.requests ≡ filter_map (request_at y.schedule x) (take l.number-index l.numbers);
   fits : AllByRecursion (FitsRequest l.self.shape) l.requests;
   used : l.used ≡ length (flat_map request_bytes l.requests);
-  small : l.used ≤ 2048;
+  small : l.used ≤ batch_bytes_limit;
   count : length l.requests ≡ l.number-index;
 }

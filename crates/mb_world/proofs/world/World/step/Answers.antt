@@ -12,7 +12,7 @@ use Rattle.mb_world.proofs.world.World.step.Goals as goal
 pub step_at-requires-clause-rest : goal.step_at-requires-clause-rest
 step_at-requires-clause-rest g c =
     let has = c.requires.has in
-    all_rest has.system g.V.Service.is_state g.V.Service.after g.V.Service.answer g.V.Service.part_of g.V.Service.restored c.args.self.now has.state has.is has.represents
+    all_rest has.system g.V.Service.machine c.args.self.now has.state has.is has.represents
 
 pub step_at-requires-clause-known : goal.step_at-requires-clause-known
 step_at-requires-clause-known g c = λ r at.

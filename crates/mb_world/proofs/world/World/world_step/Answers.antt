@@ -7,7 +7,7 @@ use Rattle.mb_world.proofs.world.World.world_step.Goals as goal
 
 pub happen-requires-clause-has : goal.happen-requires-clause-has
 happen-requires-clause-has g c =
-    still_has c.args.self.now _ g.V.Service.is_state g.V.Service.after g.V.Service.answer g.V.Service.part_of g.V.Service.restored (c.requires.has c.if-self.false)
+    still_has c.args.self.now _ g.V.Service.machine (c.requires.has c.if-self.false)
     (record { fixed = record { shape = refl; usig = refl; pens = refl; hosts = refl; clients = refl; marks = refl }; members = refl; askers = refl; ledger = refl; pool = refl; line = refl; refused = refl; events = refl })
 
 pub happen-requires-clause-allowed : goal.happen-requires-clause-allowed

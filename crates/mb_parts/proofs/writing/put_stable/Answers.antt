@@ -1,0 +1,4 @@
+use Rattle.mb_parts.proofs.writing.put_stable.Goals as goal
+
+pub returns : goal.returns
+returns c = record { ok = c.put_whole.ensures.ok; err = c.put_whole.ensures.err }
