@@ -1,6 +1,6 @@
 -- What a node with a journal does, and what making a journal does, with a config.
 use Rattle.std.specs.Prelude.{◌≡◌, ◌≢◌, ℕ, ◌≤◌, ◌<◌, ◌⊎◌, false, List, [], ◌∷◌, ◌++◌, length, reverse, Option, Some, Result, Ok, Err}
-use Rattle.std.specs.List.{flat_map}
+use Rattle.std.specs.List.{flat_map, AllByRecursion}
 use Rattle.std.specs.Io.KnownBytes.{Appends}
 use Rattle.mb_base.specs.Shapes.{Bytes, host_count}
 use Rattle.mb_edge.specs.Faults.{Rose}
@@ -27,7 +27,7 @@ use Rattle.mb_node.specs.Recording.{entries_of}
 use Rattle.mb_node.specs.Serving.{Ends}
 use Rattle.mb_node.specs.Keeping.{EndsKept}
 use Rattle.mb_sched.specs.declared.configs.Config.{Config}
-use Rattle.mb_sched.specs.Records.{record_head, entry_text}
+use Rattle.mb_sched.specs.Records.{record_head, entry_text, EventFits}
 use Rattle.mb_answer.specs.Configs.{IsConfigText, Uses}
 use Rattle.mb_answer.specs.Devices.{Device, LinkState, Says}
 use Rattle.mb_answer.specs.Texts.{usage_text, exists_text, bad_journal_text}
@@ -80,11 +80,12 @@ module _ (c : Config) (host : ℕ) where
   abbrev pub Opens : DiskState → DiskState → Type 0
   Opens before after = WhereTold before.moments (λ old. LeavesOnly (λ image. IsImage old.now image ⊎ StaysWhole (header_text c host) old.now.reads image) old after.moments)
 
-  -- The file said these events, and the disk is at rest at them.
+  -- The file said these events, all of them of bytes, and the disk is at rest at them.
   pub record IsOpen (kept : List Event) (journal : JournalState) (before after : DiskState) : Type 0 where
     pub later : before.faults ≤ after.faults
     pub journal_is : journal ≡ record { header = header_text c host; end = journal.end; limit = JOURNAL_LIMIT; halted = false }
     pub says : WhereTold before.moments (λ old. Holds (header_text c host) kept old.now.reads)
+    pub of_bytes : AllByRecursion EventFits kept
     pub rests : WhereTold before.moments (λ old. WhereTold after.moments (λ new. IsAtRest journal kept new.now))
     pub opens : Opens before after
 
