@@ -138,8 +138,9 @@ fn are_of_bytes(events: &[Event])
 fn is_of_bytes(event: &Event)
     ensures { EventFits event.now }
 {
-    if let Event::Given(bytes) = event {
-        are_bytes(bytes.as_slice());
+    match event {
+        Event::Given(bytes) => are_bytes(bytes.as_slice()),
+        Event::Patience | Event::Nudge => {}
     }
 }
 
