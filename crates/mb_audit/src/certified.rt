@@ -1,6 +1,6 @@
 //! The certificates in a message, each as the bare message that it says its host stamped, in the order of the bytes.
 
-ghost use Rattle.std.specs.Prelude.{◌≡◌, ◌∷◌, [], None, OnOk, IfOk, IfSome};
+ghost use Rattle.std.specs.Prelude.{◌≡◌, ◌∷◌, ◌++◌, [], None, OnOk, IfOk, IfSome};
 ghost use Rattle.std.specs.List.{flat_map, AllByRecursion};
 ghost use Rattle.mb_base.specs.declared.shape.Shape.{Shape as TheShape};
 ghost use Rattle.mb_parts.specs.Claims.{stable_claims, floor_claims, evidence_claims, new_view_claim};
@@ -213,14 +213,25 @@ fn add_own(alloc: Global, m: &Stamped, body: &Digest, out: &mut Vec<Stamped>) ->
 
 // ---- in what a VIEW_CHANGE or a NEW_VIEW shows
 
+/// In the message that an entry of a shown log is, with its own certificate behind the others.
+fn add_entry(alloc: Global, shape: &Shape, m: &Stamped, out: &mut Vec<Stamped>) -> Added
+    requires { FitsStamped shape.now m.now }
+    ensures { OnOk result (Adds shape.now out.old.items out.new.items (inner_of shape.now m.now ++ stamp_claim m.now ∷ [])) }
+{
+    let body = m.body_digest(alloc, shape)?;
+    add_inner(shape, m, &body, out)?;
+    add_own(alloc, m, &body, out)
+}
+
+/// In an entry of a shown log. The message that it is ends by one call: at the end of its scope it would be dropped in place, kind by kind, at each exit.
 fn add_shown(alloc: Global, shape: &Shape, entry: &Shown, out: &mut Vec<Stamped>) -> Added
     requires { FitsShown shape.now entry.now }
     ensures { OnOk result (Adds shape.now out.old.items out.new.items (shown_claims shape.now entry.now)) }
 {
     let message = stamped_of(alloc, entry)?;
-    let body = message.body_digest(alloc, shape)?;
-    add_inner(shape, &message, &body, out)?;
-    add_own(alloc, &message, &body, out)
+    let added = add_entry(alloc, shape, &message, out);
+    drop(message);
+    added
 }
 
 fn add_entries(alloc: Global, shape: &Shape, entries: &[Shown], out: &mut Vec<Stamped>) -> Added
@@ -361,8 +372,16 @@ fn add_message(alloc: Global, shape: &Shape, message: Message, out: &mut Vec<Sta
     ensures { OnOk result (Adds shape.now out.old.items out.new.items (claims_in shape.now message)) }
 {
     match message.into_stamped() {
-        Ok(stamped) => add_stamped(alloc, shape, &stamped, out),
-        Err(other) => add_other(alloc, shape, &other, out),
+        Ok(stamped) => {
+            let added = add_stamped(alloc, shape, &stamped, out);
+            drop(stamped);
+            added
+        }
+        Err(other) => {
+            let added = add_other(alloc, shape, &other, out);
+            drop(other);
+            added
+        }
     }
 }
 

@@ -42,7 +42,8 @@ fn keep(
     if !usig.verify_ui(bare.as_slice(), &ui) {
         return Ok(());
     }
-    let _same = kept.insert((ui.counter, bare), stamp.duplicate(alloc)?)?;
+    let same = kept.insert((ui.counter, bare), stamp.duplicate(alloc)?)?;
+    drop(same);
     Ok(())
 }
 

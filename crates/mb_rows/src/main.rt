@@ -7,18 +7,23 @@
 //!
 //! No answer was taken from this program. Reports, and what nodes and clients send, are another program's, which was written from the same rules.
 //!
-//! A line is printed for each row: that all was as expected, or what was not.
+//! A line is printed for each row: that all was as expected, or what was not. Behind the rows come the runs over what the system has (`processes.rt`).
+//!
+//! With words it does what they ask for, as the program itself: so its nodes and children are started.
 #![tactic(auto)]
 
 mod beginnings;
 mod devices;
 mod files;
 mod outside;
+mod processes;
 mod row;
 mod stop;
 mod trial;
 
 use beginnings::wrong_beginning;
+use mb_program::run;
+use mb_system::words_of;
 use row::{Line, Row, line_of};
 use std::io;
 use std::process::ExitCode;
@@ -28,7 +33,7 @@ use trial::difference;
 /// The file of the rows.
 const ROWS: &str = "rows.txt";
 
-/// The status where a row is not as expected, or the rows cannot be run.
+/// The status where a row is not as expected, or the rows or what is run over the system cannot be run.
 const FAILED: u8 = 1;
 
 /// Prints how a row went.
@@ -101,13 +106,28 @@ fn tell(rt: &HostRuntime, stop: Stop) -> io::Result<()> {
     }
 }
 
-fn main(rt: HostRuntime) -> io::Result<ExitCode> {
-    match run_rows(&rt) {
+/// Runs the rows, and then what is run over the system. Answers whether all rows were as expected.
+fn run_all(rt: &HostRuntime) -> Result<bool, Stop> {
+    let all_hold = run_rows(rt)?;
+    processes::run_all(rt)?;
+    Ok(all_hold)
+}
+
+/// Makes all runs, and answers the status.
+fn answer_all(rt: &HostRuntime) -> io::Result<ExitCode> {
+    match run_all(rt) {
         Ok(true) => Ok(ExitCode::SUCCESS),
         Ok(false) => Ok(ExitCode::from(FAILED)),
         Err(stop) => {
-            tell(&rt, stop)?;
+            tell(rt, stop)?;
             Ok(ExitCode::from(FAILED))
         }
+    }
+}
+
+fn main(rt: HostRuntime) -> io::Result<ExitCode> {
+    match words_of(&rt) {
+        Ok(words) if words.is_empty() => answer_all(&rt),
+        _ => Ok(run(&rt)),
     }
 }

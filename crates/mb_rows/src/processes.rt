@@ -1,34 +1,29 @@
-//! Runs of the whole program over what the system has, as the gate makes them: a cluster of real processes over sockets of this machine, and then the other
-//! words, each in a child program with its own standard input, standard output and exit status. This one program is the client program, each of its nodes
-//! and each child.
+//! Runs of the whole program over what the system has: a cluster of real processes over sockets of this machine, and then the other words, each in a child
+//! program with its own standard input, standard output and exit status. This one program is the client program, each of its nodes and each child.
 //!
-//! Without words it reads a config from standard input, starts a node for each of three hosts, asks them the operations and writes the results. Then children
-//! take the steps of each node's record again, run three schedules, one of them long, and a soak. At last a node is started that some other process is said
-//! to have started. Behind each run stands its status. With words it does what they ask for: so its nodes and children are started.
-#![tactic(auto)]
+//! It reads a config from standard input, starts a node for each of three hosts, asks them the operations and writes the results. Then children take the steps
+//! of each node's record again, run three schedules, one of them long, and a soak. At last a node is started that some other process is said to have started.
+//! Behind each run stands its status.
 
 use mb_edge::Spawner;
-use mb_program::{obey, run};
-use mb_system::{ChildSpawner, StdSink, StdSource, own_path, words_of};
+use mb_program::obey;
+use mb_system::{ChildSpawner, StdSink, StdSource, own_path};
 use std::fs::{File, Files, OpenOptions};
 use std::io::ErrorKind;
-use std::process::{Command, ExitCode};
+use std::process::Command;
 use std::{fs, io};
-
-/// The exit status where a run could not be made.
-const FAILED: u8 = 1;
 
 /// What three nodes record.
 const RECORDS: [&str; 3] = ["node-0.record", "node-1.record", "node-2.record"];
 
 /// A schedule whose events all happen, and one that names a message which was not made.
-const SCHEDULES: [&str; 2] = ["one-put.schedule", "not_made.schedule"];
+const SCHEDULES: [&str; 2] = ["examples/one-put.schedule", "schedules/not_made.schedule"];
 
 /// A schedule of which text and report are longer than what a pipe holds.
-const LONG: &str = "ordinary_use.schedule";
+const LONG: &str = "schedules/ordinary_use.schedule";
 
 /// A config at another port than that of the cluster.
-const CONFIG: &str = "node.config";
+const CONFIG: &str = "configs/node.config";
 
 /// Where a child's output goes.
 const ANSWER: &str = "answer";
@@ -123,7 +118,8 @@ fn lonely_node(rt: &HostRuntime) -> io::Result<()> {
     }
 }
 
-fn run_all(rt: &HostRuntime) -> io::Result<()> {
+/// Makes all these runs, and prints what comes of each.
+pub fn run_all(rt: &HostRuntime) -> io::Result<()> {
     run_cluster(rt)?;
     for record in RECORDS {
         retrace(rt, record)?;
@@ -134,14 +130,4 @@ fn run_all(rt: &HostRuntime) -> io::Result<()> {
     replay_long(rt)?;
     soak(rt)?;
     lonely_node(rt)
-}
-
-fn main(rt: HostRuntime) -> ExitCode {
-    match words_of(&rt) {
-        Ok(words) if words.is_empty() => match run_all(&rt) {
-            Ok(()) => ExitCode::SUCCESS,
-            Err(_) => ExitCode::from(FAILED),
-        },
-        _ => run(&rt),
-    }
 }
