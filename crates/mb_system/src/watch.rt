@@ -4,7 +4,7 @@
 //! datagrams in a row or more; what the processes do in between takes no longer than that. So behind a datagram a receive looks for the next one for a while,
 //! and sleeps only where none came. Between two looks other processes go first. Where one of them then keeps the processor, there are more processes than
 //! processors, and looking costs more than it spares: a process that gave way has to wait for its turn, and one that is woken has not. Then receives wait, as
-//! long as [`REST`] says.
+//! long as [`REST`] says, and longer where it stays so.
 
 ghost use Rattle.std.specs.Prelude.{◌≤◌, length, IfOk, IfSome};
 
@@ -24,6 +24,9 @@ const CROWDED: u64 = 1_000;
 /// time of so many.
 const REST: u32 = 8_192;
 
+/// Where it is crowded again and again, that number is doubled each time, up to this.
+const LONGEST_REST: u32 = 131_072;
+
 /// The most looks of a receive, also where the clock stands still.
 const LOOKS: u32 = 10_000;
 
@@ -35,6 +38,8 @@ pub(crate) struct Watch {
     looks: bool,
     /// How many datagrams are waited for before it looks again.
     rest: u32,
+    /// How many that will be when it next finds the processor crowded.
+    next_rest: u32,
 }
 
 impl Watch {
@@ -44,6 +49,7 @@ impl Watch {
             socket,
             looks: false,
             rest: 0,
+            next_rest: REST,
         }
     }
 
@@ -80,10 +86,11 @@ impl Watch {
             thread::yield_now();
             let spent = begun.elapsed(rt)?;
             if spent >= Duration::from_micros(CROWDED) {
-                self.rest = REST;
+                self.crowd();
                 break;
             }
             if let Some(count) = taken(&self.socket, into)? {
+                self.next_rest = REST;
                 return Ok(Some(count));
             }
             if spent >= Duration::from_micros(LOOK_TIME) {
@@ -91,6 +98,12 @@ impl Watch {
             }
         }
         Ok(None)
+    }
+
+    /// The processor is crowded.
+    fn crowd(&mut self) {
+        self.rest = self.next_rest;
+        self.next_rest = self.rest.saturating_mul(2).min(LONGEST_REST);
     }
 
     /// A datagram came while it waited: it looks for the next one, unless it rests.
