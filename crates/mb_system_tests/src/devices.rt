@@ -112,6 +112,8 @@ fn datagrams_come_whole_and_in_order(rt: HostRuntime) -> Result<(), Fail> {
         assert!(rt; into[..len].iter().all(|x| *x == i));
     }
     assert_eq!(rt; second.recv(&mut into), Got::Quiet);
+    assert_eq!(rt; first.send(1, b"abc"), Ok(()));
+    assert_eq!(rt; next_datagram(&mut second, &mut into), Got::Datagram(3));
     Ok(())
 }
 
