@@ -107,6 +107,8 @@ fn datagrams_come_whole_and_in_order(rt: HostRuntime) {
         assert!(rt; into[..len].iter().all(|x| *x == i));
     }
     assert!(rt; second.recv(&mut into) == Got::Quiet);
+    assert!(rt; first.send(1, b"abc") == Ok(()));
+    assert!(rt; next_datagram(&mut second, &mut into) == Got::Datagram(3));
 }
 
 #[test]
