@@ -22,7 +22,7 @@ use mb_base::{Counter, Host, NoMemory};
 use mb_edge::{Sink, Source, read_all};
 use mb_kv::Kv;
 use mb_sched::{BadText, MAX_TEXT, parse_schedule, print_report};
-use mb_schedule::Schedule;
+use mb_schedule::{Schedule, WorldEvent};
 use mb_world::{World, WorldStop};
 use std::alloc::{AllocError, Global};
 
@@ -112,27 +112,40 @@ fn world_of(alloc: Global, schedule: &Schedule) -> Result<World<Kv>, NoMemory>
     )
 }
 
-/// The world after all events of a schedule, or what stands in the way of the first that cannot be or delivers what is forged.
-fn run(alloc: Global, schedule: &Schedule) -> Result<World<Kv>, RunStop>
-    requires { IsSchedule schedule.now }
-    ensures { Runs schedule.now result }
+/// Gives the room of events that are gone back to the allocator, whenever half of the list's room is empty.
+fn give_room_back(events: &mut Vec<WorldEvent>)
+    ensures { events.new.items ≡ events.old.items }
 {
-    let mut world = world_of(alloc, schedule)?;
-    for event in schedule.events.as_slice() {
+    if events.len() <= events.capacity() / 2 {
+        events.shrink_to_fit();
+    }
+}
+
+/// The world after all events of a schedule, or what stands in the way of the first that cannot be or delivers what is forged. An event is let go
+/// once it happened: the world grows as the schedule shrinks.
+fn run(alloc: Global, schedule: Schedule) -> Result<World<Kv>, RunStop>
+    requires { IsSchedule schedule }
+    ensures { Runs schedule result }
+{
+    let mut world = world_of(alloc, &schedule)?;
+    let mut left = schedule.events.into_vec();
+    left.reverse();
+    while let Some(event) = left.pop() {
         let number = world.events() + 1;
-        match world.world_step(alloc, event) {
-            Ok(_) => {}
+        match world.world_step(alloc, &event) {
+            Ok(_) => give_room_back(&mut left),
             Err(stop) => return Err(run_stop(number, stop)),
         }
     }
     Ok(world)
 }
 
-/// The report of a world.
-fn report_on(alloc: Global, world: &World<Kv>) -> Result<Answer, NoMemory>
-    ensures { (s : Schedule) (x : WorldState) → RepresentsWorld (system_of s) world.now x → IfOk result (λ a. (a.status ≡ 0) × (a.text.items ≡ report_text (report_of (system_of s) x))) }
+/// The report of a world, which is let go before the text is written.
+fn report_on(alloc: Global, world: World<Kv>) -> Result<Answer, NoMemory>
+    ensures { (s : Schedule) (x : WorldState) → RepresentsWorld (system_of s) world x → IfOk result (λ a. (a.status ≡ 0) × (a.text.items ≡ report_text (report_of (system_of s) x))) }
 {
     let report = world.report(alloc)?;
+    drop(world);
     Ok(Answer {
         status: DONE,
         text: print_report(alloc, &report)?,
@@ -140,12 +153,12 @@ fn report_on(alloc: Global, world: &World<Kv>) -> Result<Answer, NoMemory>
 }
 
 /// The answer to a schedule: the report after its events, or what stands in the way of the first event that is not done.
-fn answer_schedule(alloc: Global, schedule: &Schedule) -> Result<Answer, NoMemory>
-    requires { IsSchedule schedule.now }
-    ensures { IfOk result (λ a. AnswersSchedule schedule.now a.status a.text.items) }
+fn answer_schedule(alloc: Global, schedule: Schedule) -> Result<Answer, NoMemory>
+    requires { IsSchedule schedule }
+    ensures { IfOk result (λ a. AnswersSchedule schedule a.status a.text.items) }
 {
     match run(alloc, schedule) {
-        Ok(world) => report_on(alloc, &world),
+        Ok(world) => report_on(alloc, world),
         Err(RunStop::BadEvent { number }) => bad_line(alloc, number + HEADER_LINES),
         Err(
             RunStop::Forged {
@@ -159,12 +172,14 @@ fn answer_schedule(alloc: Global, schedule: &Schedule) -> Result<Answer, NoMemor
     }
 }
 
-/// The answer to the text of a schedule.
-fn answer_to(alloc: Global, text: &[u8]) -> Result<Answer, NoMemory>
-    ensures { IfOk result (λ a. Answers text.now a.status a.text.items) }
+/// The answer to the text of a schedule, which is let go once it is read.
+fn answer_to(alloc: Global, text: Vec<u8>) -> Result<Answer, NoMemory>
+    ensures { IfOk result (λ a. Answers text.items a.status a.text.items) }
 {
-    match parse_schedule(alloc, text) {
-        Ok(schedule) => answer_schedule(alloc, &schedule),
+    let read = parse_schedule(alloc, &text);
+    drop(text);
+    match read {
+        Ok(schedule) => answer_schedule(alloc, schedule),
         Err(BadText::TooLong) => too_long(alloc),
         Err(BadText::BadLine { number }) => bad_line(alloc, u64::from(number)),
         Err(BadText::NoMemory) => Err(NoMemory),
@@ -183,7 +198,7 @@ pub(crate) fn replay<S: Source, K: Sink>(alloc: Global, source: &mut S, sink: &m
     ensures sink { TellsFaults (K.never_fails sink.old) (K.never_fails sink.new) (K.faults sink.old) (K.faults sink.new) (result ≡ 6) }
 {
     match read_all(alloc, MAX_TEXT, source) {
-        Ok(text) => respond(sink, answer_to(alloc, &text)),
+        Ok(text) => respond(sink, answer_to(alloc, text)),
         Err(stop) => tell_unread(alloc, sink, stop),
     }
 }
