@@ -7,6 +7,7 @@ ghost use Rattle.mb_edge.specs.Faults.{TellsFaults};
 ghost use Rattle.mb_edge.specs.Pieces.{ConsumesBetween};
 ghost use Rattle.mb_schedule.specs.Limits.{IsSchedule};
 ghost use Rattle.mb_sched.specs.Report.{report_text};
+ghost use Rattle.mb_sched.specs.Schedules.{Parses};
 ghost use Rattle.mb_schedule.specs.Limits.{max_text};
 ghost use Rattle.mb_theory.specs.World.{World as WorldState, nothing_happened};
 ghost use Rattle.mb_world.specs.Reports.{report_of};
@@ -172,13 +173,18 @@ fn answer_schedule(alloc: Global, schedule: Schedule) -> Result<Answer, NoMemory
     }
 }
 
-/// The answer to the text of a schedule, which is let go once it is read.
+/// The schedule of a text. The text is let go here, before the first event happens.
+fn schedule_of(alloc: Global, text: Vec<u8>) -> Result<Schedule, BadText>
+    ensures { Parses result text.items }
+{
+    parse_schedule(alloc, &text)
+}
+
+/// The answer to the text of a schedule.
 fn answer_to(alloc: Global, text: Vec<u8>) -> Result<Answer, NoMemory>
     ensures { IfOk result (λ a. Answers text.items a.status a.text.items) }
 {
-    let read = parse_schedule(alloc, &text);
-    drop(text);
-    match read {
+    match schedule_of(alloc, text) {
         Ok(schedule) => answer_schedule(alloc, schedule),
         Err(BadText::TooLong) => too_long(alloc),
         Err(BadText::BadLine { number }) => bad_line(alloc, u64::from(number)),
