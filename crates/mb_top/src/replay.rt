@@ -113,12 +113,13 @@ fn world_of(alloc: Global, schedule: &Schedule) -> Result<World<Kv>, NoMemory>
     )
 }
 
-/// Gives the room of events that are gone back to the allocator, whenever half of the list's room is empty.
-fn give_room_back(events: &mut Vec<WorldEvent>)
-    ensures { events.new.items ≡ events.old.items }
+/// Lets an event go, and gives the room of those that are gone back, whenever half of the room for those that are left is empty.
+fn let_go(event: WorldEvent, left: &mut Vec<WorldEvent>)
+    ensures { left.new.items ≡ left.old.items }
 {
-    if events.len() <= events.capacity() / 2 {
-        events.shrink_to_fit();
+    drop(event);
+    if left.len() <= left.capacity() / 2 {
+        left.shrink_to_fit();
     }
 }
 
@@ -134,7 +135,7 @@ fn run(alloc: Global, schedule: Schedule) -> Result<World<Kv>, RunStop>
     while let Some(event) = left.pop() {
         let number = world.events() + 1;
         match world.world_step(alloc, &event) {
-            Ok(_) => give_room_back(&mut left),
+            Ok(_) => let_go(event, &mut left),
             Err(stop) => return Err(run_stop(number, stop)),
         }
     }

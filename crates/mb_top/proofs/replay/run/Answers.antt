@@ -60,7 +60,7 @@ loop-event-preserved c =
     let k = c.loop-event.world.events in
     let next = next_left s.events k c.loop-event.left.items c.pop.new.self.items c.in-Some.event c.in-Some.ensures.items now.left in
     let more = c.in-Ok.ensures.counts in
-    let room = c.give_room_back.ensures in
+    let room = c.let_go.ensures in
     record {
       left = ap (λ n. drop n s.events) more ∙ (next.1 ∙ ap reverse (sym room));
       count = omega (arith, more, now.count, one_longer c.pop.new.self.items c.loop-event.left.items c.in-Some.event (length c.pop.new.self.items) c.in-Some.ensures.items refl, ap length room);
