@@ -38,7 +38,7 @@ impl Follower {
     ghost use Rattle.mb_audit.specs.Walks.{log_of};
     ghost use Rattle.mb_learn.specs.Lists.{may_follow, IsList};
     ghost use Rattle.mb_learn.specs.Followers.{Follows, IsAwaited, Advances, IsFollowing, shown_too};
-    ghost use Rattle.mb_audit.specs.Certified.{IsBareStamp};
+    ghost use Rattle.mb_certified.specs.Certified.{IsBareStamp};
 
     /// Nothing was shown yet.
     pub(crate) fn make(alloc: Global, shape: Shape, host: Host) -> Follower

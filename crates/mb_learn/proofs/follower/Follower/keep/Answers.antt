@@ -2,7 +2,7 @@ use Rattle.std.proofs.Common.{◌≡◌, ℕ, cond, Some, refl, subst}
 use Rattle.std.specs.Ordering.{is_eq, nat_cmp}
 use Rattle.std.specs.BTreeMap.{get}
 use Rattle.mb_base.specs.declared.names.Ui.{Ui}
-use Rattle.mb_audit.specs.Certified.{IsBareStamp}
+use Rattle.mb_certified.specs.Certified.{IsBareStamp}
 use Rattle.mb_learn.proofs.Followed.{put_fits, keeps_one}
 use Rattle.mb_learn.proofs.follower.Follower.keep.Goals as goal
 

@@ -3,7 +3,7 @@ use Rattle.std.proofs.lemmas.Option.{slice_get_read}
 use Rattle.mb_base.specs.declared.shape.Shape.{Shape}
 use Rattle.std.specs.BTreeMap.{btree_map_len}
 use Rattle.mb_msg.specs.declared.stamped.Stamped.{Stamped}
-use Rattle.mb_audit.specs.Certified.{IsBareStamp}
+use Rattle.mb_certified.specs.Certified.{IsBareStamp}
 use Rattle.mb_learn.specs.Followers.{IsFollowing, Advances}
 use Rattle.mb_learn.proofs.Follow.{keeps_set, goes_first, goes_next, goes_last, keeps_last, waits_less}
 use Rattle.mb_learn.proofs.Keeping.{of_shape, own_shape}
