@@ -1,7 +1,7 @@
 //! The story of a text.
 
 ghost use Rattle.std.specs.Prelude.{IfOk};
-ghost use Rattle.mb_trace.specs.Stories.{IsStoryOf};
+ghost use Rattle.mb_rows.specs.Stories.{IsStoryOf};
 
 use crate::hosts::played;
 use crate::printing::{add_stop, add_telling};

@@ -1,7 +1,7 @@
 use Rattle.std.proofs.Common.{[], refl}
 use Rattle.mb_top.specs.Systems.{system_of}
 use Rattle.mb_top.proofs.KvService.{is_system, are_services}
-use Rattle.mb_trace.proofs.hosts.played.Goals as goal
+use Rattle.mb_rows.proofs.hosts.played.Goals as goal
 
 pub play-requires-clause-system : goal.play-requires-clause-system
 play-requires-clause-system c =
