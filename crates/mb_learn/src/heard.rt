@@ -236,8 +236,8 @@ impl Heard {
         ensures keeps { OnOk result (KeepsPlace self.old self.new) }
     {
         while let Some(stamp) = self.followers[usize::from(host)].advance(alloc, &self.usig)? {
-            self.count(alloc, &stamp)?;
-            drop(stamp);
+            let counted = self.count(alloc, &stamp).and(Ok(stamp))?;
+            drop(counted);
         }
         Ok(())
     }
