@@ -5,12 +5,12 @@ ghost use Rattle.std.specs.List.{AllByRecursion, flat_map};
 ghost use Rattle.mb_base.specs.declared.shape.Shape.{Shape as TheShape};
 ghost use Rattle.mb_parts.specs.Claims.{Claim};
 ghost use Rattle.mb_model.specs.GateChecks.{stamp_claim};
-ghost use Rattle.mb_audit.specs.Certified.{IsBareStamp};
+ghost use Rattle.mb_certified.specs.Certified.{IsBareStamp};
 ghost use Rattle.mb_audit.specs.Stamps.{claims_of};
 ghost use Rattle.mb_audit.specs.Kept.{KeepsStamps};
 
-use crate::certified::certified_in;
 use mb_base::{Counter, Duplicate, Host, NoMemory, Shape};
+use mb_certified::certified_in;
 use mb_msg::{Stamped, Undecoded, decode};
 use mb_usig::Usig;
 use std::alloc::Global;

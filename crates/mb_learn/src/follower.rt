@@ -38,7 +38,7 @@ impl Follower {
     ghost use Rattle.mb_audit.specs.Walks.{log_of};
     ghost use Rattle.mb_learn.specs.Lists.{may_follow, IsList};
     ghost use Rattle.mb_learn.specs.Followers.{Follows, IsAwaited, Advances, IsFollowing, shown_too};
-    ghost use Rattle.mb_audit.specs.Certified.{IsBareStamp};
+    ghost use Rattle.mb_certified.specs.Certified.{IsBareStamp};
 
     /// Nothing was shown yet.
     pub(crate) fn make(alloc: Global, shape: Shape, host: Host) -> Follower
@@ -78,7 +78,8 @@ impl Follower {
         ensures follows { (s : TheShape) (secret : Bytes) (host : ℕ) (first : ℕ → Option Bare) (l : List Bare) → Follows s secret host first self.old l → IsAwaited s secret host first self.old l (ui_of stamp).counter
             → (ui_of stamp).host ≡ host → OnOk result (Follows s secret host (shown_too first (ui_of stamp).counter (bare_of stamp)) self.new l) }
     {
-        let _none = self.waiting.insert(stamp.ui().counter, stamp)?;
+        let none = self.waiting.insert(stamp.ui().counter, stamp)?;
+        drop(none);
         Ok(())
     }
 
