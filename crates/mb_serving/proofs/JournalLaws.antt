@@ -225,7 +225,7 @@ module _ (r : Result (Unit {0}) ServeStop) where
   written_alone of = IfErr-weaker r IsOfWriting (λ s. ¬ IsOfDisk s) writing_alone of
 
   pub written_unlinked : IfErr r IsOfWriting → IsErrOf r stop.LinkFault → ⊥
-  written_unlinked of is = let told : IfErr (Err {T = Unit {0}} stop.LinkFault) IsOfWriting = subst (λ (x : Result (Unit {0}) ServeStop). IfErr x IsOfWriting) is of in told
+  written_unlinked of is = subst (λ (x : Result (Unit {0}) ServeStop). IfErr x IsOfWriting) is of
 
 module _ (c : Config) (host : ℕ) (head more : Bytes) where
   -- What failed before a receive failed so too where more was to be written.
