@@ -1,5 +1,5 @@
 -- A JOIN is made of what its host holds: so its evidence is of its view, and valid as each that is held, and ends where its cause says.
-use Rattle.std.proofs.Common.{◌≡◌, ℕ, ◌≤◌, ◌<◌, true, ◌∷◌, refl, sym, ap, subst, ◌∙◌, inl, inr, arith, Option, Some, None}
+use Rattle.std.proofs.Common.{◌≡◌, ◌≤◌, ◌<◌, true, ◌∷◌, refl, sym, ap, subst, ◌∙◌, inl, inr, arith, Option, Some, None}
 use Rattle.std.proofs.lemmas.Bool.{eq-eqb, ne_eqb}
 use Rattle.mb_parts.specs.declared.certificates.StableCert.{StableCert}
 use Rattle.mb_parts.specs.declared.certificates.Evidence.{Evidence}
@@ -20,7 +20,6 @@ use Rattle.mb_steps.proofs.StepHeldStable.{stable_checks}
 use Rattle.mb_steps.proofs.StepOwnStamped.{steady}
 use Rattle.mb_theory.specs.JoinsWithCause.{MayStampJoin}
 use Rattle.mb_theory.specs.World.{self_of}
-use Rattle.mb_theory.specs.WorldSteps.{world}
 use Rattle.mb_theory.proofs.KeptByWorlds.{world_arises}
 use Rattle.mb_known.proofs.Moments.{arises_by}
 use Rattle.mb_due.proofs.JoinsWithCause.{hosts_join_with_cause}

@@ -8,7 +8,6 @@ use Rattle.mb_base.specs.Shapes.{Bytes}
 use Rattle.mb_base.specs.declared.names.Ui.{Ui}
 use Rattle.mb_parts.specs.declared.floor.Floor.{Floor}
 use Rattle.mb_parts.specs.declared.request.Request.{Request}
-use Rattle.mb_parts.specs.declared.batch.Batch.{Batch}
 use Rattle.mb_msg.specs.declared.event.Placed.{Placed}
 use Rattle.mb_msg.specs.declared.normal.Prepare.{Prepare}
 use Rattle.mb_msg.specs.declared.message.Message.{Message}
@@ -26,7 +25,7 @@ use Rattle.mb_msg.specs.declared.event.Outcome.{Outcome}
 use Rattle.mb_msg.specs.declared.event.Outcome.TheVariants as outcome
 use Rattle.mb_msg.specs.Reading.{message_of}
 use Rattle.mb_msg.specs.Stamps.{ui_of, as_message}
-use Rattle.mb_model.specs.Histories.{Entry, Accepted, Stamped, Jumped, Closed, Served, Executed, Installed, DroppedParts, LostPatience, Nudged, History, Identity, origin, taken_of, gate, closed_at, view_of}
+use Rattle.mb_model.specs.Histories.{Entry, Accepted, Stamped, Jumped, Closed, Served, Executed, DroppedParts, LostPatience, Nudged, History, Identity, origin, taken_of, gate, closed_at, view_of}
 use Rattle.mb_model.specs.Held.{view_limit, wish_of}
 use Rattle.mb_model.specs.Stable.{low_of}
 use Rattle.mb_model.specs.Positions.{exec_of, is_behind}
@@ -44,7 +43,7 @@ use Rattle.mb_model.proofs.Options.{option_cases}
 use Rattle.mb_theory.specs.World.{self_of}
 use Rattle.mb_theory.specs.WorldSteps.{world}
 use Rattle.mb_theory.proofs.Walks.{KeepsGiven, give_keeps, state_keeps, carried_keeps}
-use Rattle.mb_pins.specs.Sent.{AtMostOne, IsWish, letters_of, letters_of_all, AnswersMessage, AnswersBytes, AnswersNudge, Answers, IsOfState, MayAsk, IsAsking, SendsThis, SendsNoMore, HostsSendNoMore}
+use Rattle.mb_pins.specs.Sent.{AtMostOne, IsWish, letters_of, letters_of_all, AnswersMessage, AnswersBytes, AnswersNudge, Answers, IsOfState, MayAsk, SendsThis, SendsNoMore, HostsSendNoMore}
 
 nothing_more : {A : Type 0} (a b : List A) → a ≡ [] → b ≡ [] → a ++ b ≡ []
 nothing_more a b is none = rw (is, none) refl
