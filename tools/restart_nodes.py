@@ -1,11 +1,11 @@
 #!/usr/bin/env python3
 """restart_nodes.py [--audit PROGRAM] CONFIG TIMES PROGRAM..: three nodes with journals, of which one is ended by signal 9 and started again, so often.
 
-Host H is started by the H-th PROGRAM (words behind it: `node H 1000000 PATH`). While a client asks the config's operations again and again, a node is
-drawn, ended at a random moment and started from its journal, with a record of its own each time. Right is: each result is that of a key-value store
-kept here; each record begins with all whole pairs of lines of those before, or ended while it wrote them, but for the last; each PROGRAM retraces
-that; and, where a program is named that audits, it finds in no last record two messages of a host with one counter. Prints what is not, and how long
-the nodes took to come back."""
+Host H is started by the H-th PROGRAM (words behind it: `node H 1000000 PATH`). While a client asks the config's operations again and again, a node is drawn,
+ended at a random moment and started from its journal, with a record of its own each time. Right is: each result is that of a key-value store kept here, at
+positions that rise; each record begins with all whole pairs of lines of those before, or ended while it wrote them, but for the last; each PROGRAM retraces
+that; and, where a program is named that audits, it finds in no last record two messages of a host with one counter. Prints what is not, and how long the nodes
+took to come back."""
 import argparse
 import os
 import random
@@ -92,10 +92,19 @@ def ask_all(config, client):
     return [f"result {answer[0]} {answer[1].hex()}" if answer else "no answer" for answer in answers]
 
 
-def wanted_lines(config, count):
-    """The results of the operations again and again, each at its position."""
+def wanted_results(config, count):
+    """The results of the operations again and again."""
     config.operations = config.operations * (count // len(config.operations))
-    return [" ".join(["result", *line.split(" ")[2:]]) for line in expected_lines(config)]
+    return [line.split(" ")[-1] for line in expected_lines(config)]
+
+
+def not_right(config, lines):
+    """The lines with another result than that of the store, and those whose position is not above the one before. A request that is ordered again behind
+    a view change takes a position more and changes nothing, so positions may leave one out."""
+    words = [line.split(" ") for line in lines]
+    others = [line for line, want in zip(lines, wanted_results(config, len(lines))) if line.split(" ")[-1] != want]
+    places = [int(word[1]) if word[0] == "result" else 0 for word in words]
+    return others + [line for line, before, here in zip(lines[1:], places, places[1:]) if here <= before]
 
 
 def audit_all(hosts, program):
@@ -125,9 +134,9 @@ def main():
         retraced = [host.answer(host.program, "retrace") for host in hosts]
         doubles = audit_all(hosts, words.audit) if words.audit else []
         sizes = [os.path.getsize(host.journal) for host in hosts]
-    wrong = [(line, want) for line, want in zip(lines, wanted_lines(config, len(lines))) if line != want]
+    wrong, last = not_right(config, lines), lines[-1].split(" ")[1]
     slowest = max(second for host in hosts for second in host.back)
-    print(f"{words.times} restarts, {len(lines)} answers, {len(wrong)} not right {wrong[:3]}; lost {lost}; statuses {statuses}")
+    print(f"{words.times} restarts, {len(lines)} answers, the last at position {last}, {len(wrong)} not right {wrong[:3]}; lost {lost}; statuses {statuses}")
     print(f"retraced {retraced}; audits that blame {doubles}; journals of {sizes} bytes; the slowest start {slowest:.2f} s")
     return 1 if wrong or lost or doubles or any(status != 0 for status in statuses) or any(answer[0] != 0 for answer in retraced) else 0
 

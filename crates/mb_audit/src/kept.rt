@@ -4,12 +4,12 @@ ghost use Rattle.std.specs.Prelude.{◌≡◌, ◌∷◌, [], ℕ, map, IfOk};
 ghost use Rattle.std.specs.List.{AllByRecursion, flat_map};
 ghost use Rattle.mb_base.specs.declared.shape.Shape.{Shape as TheShape};
 ghost use Rattle.mb_model.specs.GateChecks.{stamp_claim};
-ghost use Rattle.mb_audit.specs.Certified.{IsBareStamp};
+ghost use Rattle.mb_certified.specs.Certified.{IsBareStamp};
 ghost use Rattle.mb_audit.specs.Stamps.{claims_of};
 ghost use Rattle.mb_audit.specs.Kept.{KeepsStamps, KeepsMore};
 
-use crate::certified::certified_in;
 use mb_base::{Counter, Duplicate, Host, NoMemory, Shape};
+use mb_certified::certified_in;
 use mb_msg::{Stamped, Undecoded, decode};
 use mb_usig::Usig;
 use std::alloc::Global;
@@ -40,7 +40,8 @@ fn keep(
     if !usig.verify_ui(bare.as_slice(), &ui) {
         return Ok(());
     }
-    let _same = kept.insert((ui.counter, bare), stamp.duplicate(alloc)?)?;
+    let same = kept.insert((ui.counter, bare), stamp.duplicate(alloc)?)?;
+    drop(same);
     Ok(())
 }
 

@@ -9,11 +9,8 @@
 #![tactic(auto)]
 
 mod auditing;
-mod bare;
-mod certified;
 mod kept;
 mod shown;
 
 pub use auditing::{Verdict, audit, illegal_is_disorder, verdicts_are_one};
-pub use certified::certified_in;
 pub use shown::stamps;

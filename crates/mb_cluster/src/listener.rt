@@ -136,7 +136,10 @@ fn as_reply(message: Message) -> Option<Reply>
 {
     match message {
         Message::Reply(reply) => Some(reply),
-        _ => None,
+        other => {
+            drop(other);
+            None
+        }
     }
 }
 

@@ -130,6 +130,21 @@ struct Rewriting<'a> {
 }
 
 impl Rewriting<'_> {
+    /// Takes all six parts, behind which there must be no byte.
+    fn take_all(&mut self) -> Result<(), Stop> {
+        self.request()?;
+        self.batch()?;
+        self.stable()?;
+        self.floor_cert()?;
+        self.evidence()?;
+        self.floor()?;
+        if self.fields.is_at_end() {
+            Ok(())
+        } else {
+            Err(Stop::NoRow)
+        }
+    }
+
     fn request(&mut self) -> Result<(), Stop> {
         let part = read_request(self.alloc, &self.shape, &mut self.fields)?;
         part.tell(&mut self.teller);
@@ -196,15 +211,7 @@ pub fn parts_text(alloc: Global, shape: &Shape, bytes: &[u8]) -> Result<String, 
         teller: Teller::new(alloc),
         written: Vec::new(alloc),
     };
-    parts.request()?;
-    parts.batch()?;
-    parts.stable()?;
-    parts.floor_cert()?;
-    parts.evidence()?;
-    parts.floor()?;
-    if !parts.fields.is_at_end() {
-        return Err(Stop::NoRow);
-    }
+    parts.take_all()?;
     let Rewriting {
         mut teller,
         written,

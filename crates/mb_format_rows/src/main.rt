@@ -49,6 +49,7 @@ mod words;
 
 use cuts::cuts_text;
 use formats::Messages;
+use mb_base::Shape;
 use std::alloc::Global;
 use std::io;
 use std::process::ExitCode;
@@ -63,14 +64,36 @@ const FAILED: u8 = 1;
 fn answer_of_bytes(alloc: Global, pieces: &Pieces, call: &str, row: &str) -> Result<String, Stop> {
     let (shape, words) = shape_before(row)?;
     let given = pieces.lists_of(words)?;
-    match (call, given.as_slice()) {
-        ("plan", changes) => plans::plan_text(alloc, &shape, changes),
-        ("opens", [first, second]) => plans::opens_text(alloc, &shape, first, second),
-        ("cuts", [bytes]) => cuts_text(alloc, &Messages { shape }, bytes),
-        ("parts", [bytes]) => formats::parts_text(alloc, &shape, bytes),
-        (_, [bytes]) => formats::message_text(alloc, call, &shape, bytes, &[]),
-        (_, [bytes, more]) => formats::message_text(alloc, call, &shape, bytes, more),
+    if call == "plan" {
+        return plans::plan_text(alloc, &shape, &given);
+    }
+    match given.as_slice() {
+        [bytes] => answer_of_list(alloc, call, &shape, bytes),
+        [first, second] => answer_of_two(alloc, call, &shape, first, second),
         _ => Err(Stop::NoRow),
+    }
+}
+
+/// The answer to a row of one list of bytes.
+fn answer_of_list(alloc: Global, call: &str, shape: &Shape, bytes: &[u8]) -> Result<String, Stop> {
+    match call {
+        "cuts" => cuts_text(alloc, &Messages { shape: *shape }, bytes),
+        "parts" => formats::parts_text(alloc, shape, bytes),
+        _ => formats::message_text(alloc, call, shape, bytes, &[]),
+    }
+}
+
+/// The answer to a row of two lists of bytes.
+fn answer_of_two(
+    alloc: Global,
+    call: &str,
+    shape: &Shape,
+    first: &[u8],
+    second: &[u8],
+) -> Result<String, Stop> {
+    match call {
+        "opens" => plans::opens_text(alloc, shape, first, second),
+        _ => formats::message_text(alloc, call, shape, first, second),
     }
 }
 

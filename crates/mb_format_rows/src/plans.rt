@@ -136,8 +136,10 @@ pub fn opens_text(
 ) -> Result<String, Stop> {
     let first = open_of(alloc, shape, first)?;
     let second = open_of(alloc, shape, second)?;
-    let opens = opens(alloc, shape, &first, &second)?;
-    let text = if opens { "its body" } else { "another body" };
+    let opens = opens(alloc, shape, &first, &second);
+    drop(first);
+    drop(second);
+    let text = if opens? { "its body" } else { "another body" };
     Ok(String::from_str(alloc, text)?)
 }
 

@@ -7,22 +7,21 @@ use mb_frag::{
 };
 use std::alloc::Global;
 use std::process::Abort;
-use std::test::Fail;
 
 /// A message of so many bytes, whose pieces differ.
-fn message_of(rt: &HostRuntime, len: usize) -> Result<Vec<u8>, Fail> {
-    let mut message = Vec::new(rt.alloc());
+fn message_of(rt: &impl Abort, alloc: Global, len: usize) -> Vec<u8> {
+    let mut message = Vec::new(alloc);
     for i in 0..len {
-        message.push((i % 251) as u8)?;
+        message.push((i % 251) as u8).expect(rt, "memory");
     }
-    Ok(message)
+    message
 }
 
-fn pieces(rt: &HostRuntime, message: &[u8]) -> Result<Vec<Items<u8>>, Fail>
+fn pieces(rt: &impl Abort, alloc: Global, message: &[u8]) -> Vec<Items<u8>>
     requires some { 1 ≤ length message.now }
     requires fits { length message.now ≤ MESSAGE_LIMIT }
 {
-    Ok(cut(rt.alloc(), 3, 0x0102_0304, message)?)
+    cut(alloc, 3, 0x0102_0304, message).expect(rt, "memory")
 }
 
 /// How long the pieces of 70,000 bytes are, which they are, and where they start.
@@ -45,12 +44,11 @@ fn assert_pieces(rt: &impl Abort, pieces: &[Items<u8>], message: &[u8]) {
 }
 
 #[test]
-fn a_message_of_70_000_bytes_is_cut_into_three(rt: HostRuntime) -> Result<(), Fail> {
-    let message = message_of(&rt, 70_000)?;
+fn a_message_of_70_000_bytes_is_cut_into_three(rt: HostRuntime) {
+    let message = message_of(&rt, rt.alloc(), 70_000);
     assert!(rt; message.len() == 70_000);
-    let pieces = pieces(&rt, message.as_slice())?;
+    let pieces = pieces(&rt, rt.alloc(), message.as_slice());
     assert_pieces(&rt, pieces.as_slice(), message.as_slice());
-    Ok(())
 }
 
 /// Pieces in the order in which they are pushed, each with its answer.
@@ -61,7 +59,7 @@ const ANSWERS: [(usize, Pushed); 3] = [
 ];
 
 fn assert_pushed(rt: &impl Abort, reassembler: &mut Reassembler, piece: &[u8], answer: Pushed) {
-    assert_eq!(rt; reassembler.push(piece), answer);
+    assert!(rt; reassembler.push(piece) == answer);
 }
 
 /// Of the three pieces of the message only the one that goes on is taken, and none behind the last.
@@ -83,32 +81,34 @@ fn assert_taken(
 }
 
 #[test]
-fn pieces_are_taken_in_their_order_alone(rt: HostRuntime) -> Result<(), Fail> {
-    let mut reassembler = Reassembler::make(rt.alloc())?;
-    let message = message_of(&rt, 70_000)?;
+fn pieces_are_taken_in_their_order_alone(rt: HostRuntime) {
+    let mut reassembler = Reassembler::make(rt.alloc()).expect(&rt, "memory");
+    let message = message_of(&rt, rt.alloc(), 70_000);
     assert!(rt; message.len() == 70_000);
-    let pieces = pieces(&rt, message.as_slice())?;
+    let pieces = pieces(&rt, rt.alloc(), message.as_slice());
     assert_taken(&rt, &mut reassembler, pieces.as_slice(), message.as_slice());
-    Ok(())
 }
 
 /// A datagram of message 7 with so many bytes behind its header.
-fn datagram(alloc: Global, index: u8, count: u8, len: usize) -> Result<Vec<u8>, Fail> {
-    let mut datagram = vec![in alloc; 3, 0, 0, 0, 7, 0, index, 0, count]?;
-    datagram.extend_from_slice(vec![in alloc; 5u8; len]?.as_slice())?;
-    Ok(datagram)
+fn datagram(rt: &impl Abort, alloc: Global, index: u8, count: u8, len: usize) -> Vec<u8> {
+    let head = [3, 0, 0, 0, 7, 0, index, 0, count];
+    let mut datagram = Vec::from_array(alloc, head).expect(rt, "memory");
+    let rest = vec![in alloc; 5u8; len].expect(rt, "memory");
+    datagram.extend_from_slice(&rest).expect(rt, "memory");
+    datagram
 }
 
 /// What the reassembler answers to a datagram of message 7.
 fn answer_to(
+    rt: &impl Abort,
     alloc: Global,
     reassembler: &mut Reassembler,
     index: u8,
     count: u8,
     len: usize,
-) -> Result<Pushed, Fail> {
-    let datagram = datagram(alloc, index, count, len)?;
-    Ok(reassembler.push(datagram.as_slice()))
+) -> Pushed {
+    let datagram = datagram(rt, alloc, index, count, len);
+    reassembler.push(datagram.as_slice())
 }
 
 /// The answer to the second piece of two, but of message 8.
@@ -116,36 +116,29 @@ fn answer_to_another_number(
     rt: &impl Abort,
     alloc: Global,
     reassembler: &mut Reassembler,
-) -> Result<Pushed, Fail> {
-    let mut other = datagram(alloc, 1, 2, 1)?;
+) -> Pushed {
+    let mut other = datagram(rt, alloc, 1, 2, 1);
     assert!(rt; other.len() == 10);
     other[4] = 8;
-    Ok(reassembler.push(other.as_slice()))
+    reassembler.push(other.as_slice())
 }
 
 /// The answers to the first piece of two, to a second of another message, to one of three pieces, and to a whole message.
-fn answers_to_others(
-    rt: &impl Abort,
-    alloc: Global,
-    reassembler: &mut Reassembler,
-) -> Result<[Pushed; 4], Fail> {
-    let first = answer_to(alloc, reassembler, 0, 2, PIECE)?;
-    let number = answer_to_another_number(rt, alloc, reassembler)?;
-    let count = answer_to(alloc, reassembler, 1, 3, PIECE)?;
-    let short = answer_to(alloc, reassembler, 0, 1, 1)?;
-    Ok([first, number, count, short])
+fn answers_to_others(rt: &impl Abort, alloc: Global, reassembler: &mut Reassembler) -> [Pushed; 4] {
+    let first = answer_to(rt, alloc, reassembler, 0, 2, PIECE);
+    let number = answer_to_another_number(rt, alloc, reassembler);
+    let count = answer_to(rt, alloc, reassembler, 1, 3, PIECE);
+    let short = answer_to(rt, alloc, reassembler, 0, 1, 1);
+    [first, number, count, short]
 }
 
 #[test]
-fn a_message_of_another_number_or_count_is_dropped(rt: HostRuntime) -> Result<(), Fail> {
-    let mut reassembler = Reassembler::make(rt.alloc())?;
-    let answers = answers_to_others(&rt, rt.alloc(), &mut reassembler)?;
+fn a_message_of_another_number_or_count_is_dropped(rt: HostRuntime) {
+    let mut reassembler = Reassembler::make(rt.alloc()).expect(&rt, "memory");
+    let answers = answers_to_others(&rt, rt.alloc(), &mut reassembler);
     let dropped = Pushed::Dropped { expected: 1 };
-    assert_eq!(rt;
-        answers,
-        [Pushed::NotYet { next: 1 }, dropped, dropped, Pushed::Whole]
-    );
-    Ok(())
+    let expected = [Pushed::NotYet { next: 1 }, dropped, dropped, Pushed::Whole];
+    assert!(rt; answers == expected);
 }
 
 /// The piece begins the message each time.
@@ -156,14 +149,13 @@ fn assert_begins(rt: &impl Abort, reassembler: &mut Reassembler, first: &[u8]) {
 }
 
 #[test]
-fn a_first_piece_that_comes_again_begins_anew(rt: HostRuntime) -> Result<(), Fail> {
-    let mut reassembler = Reassembler::make(rt.alloc())?;
-    let first = datagram(rt.alloc(), 0, 128, PIECE)?;
+fn a_first_piece_that_comes_again_begins_anew(rt: HostRuntime) {
+    let mut reassembler = Reassembler::make(rt.alloc()).expect(&rt, "memory");
+    let first = datagram(&rt, rt.alloc(), 0, 128, PIECE);
     assert_begins(&rt, &mut reassembler, first.as_slice());
     drop(first);
-    let third = answer_to(rt.alloc(), &mut reassembler, 2, 128, PIECE)?;
+    let third = answer_to(&rt, rt.alloc(), &mut reassembler, 2, 128, PIECE);
     assert!(rt; third == Pushed::Dropped { expected: 1 });
-    Ok(())
 }
 
 /// The rows: index, count, how many bytes are behind the header, where the datagram is cut off, and the offset of the fault.
@@ -189,36 +181,33 @@ fn assert_bad_piece(
     alloc: Global,
     reassembler: &mut Reassembler,
     row: &(u8, u8, usize, usize, u16),
-) -> Result<(), Fail> {
+) {
     let &(index, count, len, end, at) = row;
-    let datagram = datagram(alloc, index, count, len)?;
+    let datagram = datagram(rt, alloc, index, count, len);
     assert!(rt; end <= datagram.len());
     assert_pushed(rt, reassembler, &datagram[..end], Pushed::BadPiece { at });
-    Ok(())
 }
 
 #[test]
-fn a_bad_piece_is_told_by_its_offset(rt: HostRuntime) -> Result<(), Fail> {
-    let mut reassembler = Reassembler::make(rt.alloc())?;
+fn a_bad_piece_is_told_by_its_offset(rt: HostRuntime) {
+    let mut reassembler = Reassembler::make(rt.alloc()).expect(&rt, "memory");
     for row in &BAD_PIECES {
-        assert_bad_piece(&rt, rt.alloc(), &mut reassembler, row)?;
+        assert_bad_piece(&rt, rt.alloc(), &mut reassembler, row);
     }
-    Ok(())
 }
 
 #[test]
-fn the_longest_message_comes_through(rt: HostRuntime) -> Result<(), Fail> {
-    let mut reassembler = Reassembler::make(rt.alloc())?;
-    let message = message_of(&rt, MESSAGE_LIMIT)?;
+fn the_longest_message_comes_through(rt: HostRuntime) {
+    let mut reassembler = Reassembler::make(rt.alloc()).expect(&rt, "memory");
+    let message = message_of(&rt, rt.alloc(), MESSAGE_LIMIT);
     assert!(rt; message.len() == MESSAGE_LIMIT);
-    let pieces = pieces(&rt, message.as_slice())?;
+    let pieces = pieces(&rt, rt.alloc(), message.as_slice());
     assert!(rt; pieces.len() == 128);
     let mut answer = Pushed::Dropped { expected: 0 };
     for piece in &pieces {
         answer = reassembler.push(piece.as_slice());
     }
     assert!(rt; answer == Pushed::Whole);
-    Ok(())
 }
 
 #[test]

@@ -1,6 +1,5 @@
 use mb_window::{Refused, Window};
 use std::process::Abort;
-use std::test::Fail;
 
 /// The item at position 8 is there to be changed, until the window is cleared.
 fn assert_changed(rt: &impl Abort, window: &mut Window<i32>) {
@@ -15,8 +14,8 @@ fn assert_changed(rt: &impl Abort, window: &mut Window<i32>) {
 }
 
 #[test]
-fn items_stand_in_the_window(rt: HostRuntime) -> Result<(), Fail> {
-    let mut window = Window::make(rt.alloc(), 0, 8)?;
+fn items_stand_in_the_window(rt: HostRuntime) {
+    let mut window = Window::make(rt.alloc(), 0, 8).expect(&rt, "memory");
     assert!(rt; window.put(8, 80) == Ok(()));
     assert!(rt; window.put(9, 90) == Err(Refused::Beyond { low: 0, item: 90 }));
     assert!(rt; window.put(0, 1) == Err(Refused::Below { low: 0, item: 1 }));
@@ -25,5 +24,4 @@ fn items_stand_in_the_window(rt: HostRuntime) -> Result<(), Fail> {
     assert!(rt; window.first_gap() == 5);
     assert!(rt; window.put(12, 120) == Ok(()));
     assert_changed(&rt, &mut window);
-    Ok(())
 }

@@ -3,20 +3,19 @@ use mb_kv::Kv;
 use mb_service::{PARTS, Restore, Service};
 use std::alloc::Global;
 use std::process::Abort;
-use std::test::Fail;
 
 /// PUT with a key and a value of so many bytes.
-fn put_of(alloc: Global, key: u8, value: u16) -> Result<Vec<u8>, Fail> {
-    let mut op = vec![in alloc; 1, key]?;
+fn put_of(rt: &impl Abort, alloc: Global, key: u8, value: u16) -> Vec<u8> {
+    let mut op = vec![in alloc; 1, key].expect(rt, "memory");
     for _ in 0..key {
-        op.push(97)?;
+        op.push(97).expect(rt, "memory");
     }
-    op.push((value / 256) as u8)?;
-    op.push((value % 256) as u8)?;
+    op.push((value / 256) as u8).expect(rt, "memory");
+    op.push((value % 256) as u8).expect(rt, "memory");
     for _ in 0..value {
-        op.push(49)?;
+        op.push(49).expect(rt, "memory");
     }
-    Ok(op)
+    op
 }
 
 /// PUT of an empty value under a key of two bytes.
@@ -25,45 +24,32 @@ fn put_number(number: u16) -> [u8; 6] {
 }
 
 /// All parts of the state.
-fn parts_of(alloc: Global, kv: &Kv) -> Result<Vec<Items<u8>>, Fail> {
+fn parts_of(rt: &impl Abort, alloc: Global, kv: &Kv) -> Vec<Items<u8>> {
     let mut parts = Vec::new(alloc);
-    for part in 0..PARTS {
-        parts.push(kv.snapshot(alloc, part)?)?;
+    for number in 0..PARTS {
+        let part = kv.snapshot(alloc, number).expect(rt, "memory");
+        parts.push(part).expect(rt, "memory");
     }
-    Ok(parts)
+    parts
 }
 
-fn assert_result(
-    rt: &impl Abort,
-    alloc: Global,
-    kv: &mut Kv,
-    op: &[u8],
-    expected: &[u8],
-) -> Result<(), Fail> {
-    let result = kv.apply(alloc, op)?;
+fn assert_result(rt: &impl Abort, alloc: Global, kv: &mut Kv, op: &[u8], expected: &[u8]) {
+    let result = kv.apply(alloc, op).expect(rt, "memory");
     assert!(rt; result.as_slice() == expected);
-    Ok(())
 }
 
 /// Operations in their order, each with its result.
-fn assert_results(
-    rt: &impl Abort,
-    alloc: Global,
-    kv: &mut Kv,
-    rows: &[(&[u8], &[u8])],
-) -> Result<(), Fail> {
+fn assert_results(rt: &impl Abort, alloc: Global, kv: &mut Kv, rows: &[(&[u8], &[u8])]) {
     for &(op, result) in rows {
-        assert_result(rt, alloc, kv, op, result)?;
+        assert_result(rt, alloc, kv, op, result);
     }
-    Ok(())
 }
 
 /// PUTs of the keys 0 to 4,095 succeed.
-fn assert_4_096_puts(rt: &impl Abort, alloc: Global, kv: &mut Kv) -> Result<(), Fail> {
+fn assert_4_096_puts(rt: &impl Abort, alloc: Global, kv: &mut Kv) {
     for number in 0..4096 {
-        assert_result(rt, alloc, kv, &put_number(number), &[0])?;
+        assert_result(rt, alloc, kv, &put_number(number), &[0]);
     }
-    Ok(())
 }
 
 const RESULTS: [(&[u8], &[u8]); 36] = [
@@ -109,25 +95,24 @@ const RESULTS: [(&[u8], &[u8]); 36] = [
 ];
 
 #[test]
-fn each_operation_has_its_result(rt: HostRuntime) -> Result<(), Fail> {
+fn each_operation_has_its_result(rt: HostRuntime) {
     let mut kv = Kv::new(rt.alloc());
-    assert_results(&rt, rt.alloc(), &mut kv, &RESULTS)
+    assert_results(&rt, rt.alloc(), &mut kv, &RESULTS);
 }
 
 #[test]
-fn keys_and_values_have_limits(rt: HostRuntime) -> Result<(), Fail> {
+fn keys_and_values_have_limits(rt: HostRuntime) {
     let mut kv = Kv::new(rt.alloc());
     for (key, value, result) in [(64, 512, 0), (65, 0, 5), (0, 1, 5), (1, 513, 5)] {
-        let op = put_of(rt.alloc(), key, value)?;
-        assert_result(&rt, rt.alloc(), &mut kv, op.as_slice(), &[result])?;
+        let op = put_of(&rt, rt.alloc(), key, value);
+        assert_result(&rt, rt.alloc(), &mut kv, op.as_slice(), &[result]);
     }
-    Ok(())
 }
 
 #[test]
-fn there_is_room_for_4_096_keys(rt: HostRuntime) -> Result<(), Fail> {
+fn there_is_room_for_4_096_keys(rt: HostRuntime) {
     let mut kv = Kv::new(rt.alloc());
-    assert_4_096_puts(&rt, rt.alloc(), &mut kv)?;
+    assert_4_096_puts(&rt, rt.alloc(), &mut kv);
     let (first_left_out, other) = (put_number(4096), put_number(7));
     let rows: [(&[u8], &[u8]); 5] = [
         (&first_left_out, &[4]),
@@ -136,7 +121,7 @@ fn there_is_room_for_4_096_keys(rt: HostRuntime) -> Result<(), Fail> {
         (&first_left_out, &[0]),
         (&other, &[4]),
     ];
-    assert_results(&rt, rt.alloc(), &mut kv, &rows)
+    assert_results(&rt, rt.alloc(), &mut kv, &rows);
 }
 
 const PUTS: [(&[u8], &[u8]); 3] = [
@@ -146,10 +131,10 @@ const PUTS: [(&[u8], &[u8]); 3] = [
 ];
 
 /// The parts of a state with the keys a, lp and b, whose buckets are 10, 10 and 62.
-fn parts_of_three_keys(rt: &impl Abort, alloc: Global) -> Result<Vec<Items<u8>>, Fail> {
+fn parts_of_three_keys(rt: &impl Abort, alloc: Global) -> Vec<Items<u8>> {
     let mut kv = Kv::new(alloc);
-    assert_results(rt, alloc, &mut kv, &PUTS)?;
-    parts_of(alloc, &kv)
+    assert_results(rt, alloc, &mut kv, &PUTS);
+    parts_of(rt, alloc, &kv)
 }
 
 fn assert_three_keys(rt: &impl Abort, parts: &[Items<u8>]) {
@@ -172,14 +157,14 @@ const GETS: [(&[u8], &[u8]); 3] = [
 ];
 
 #[test]
-fn a_state_is_restored_from_its_parts(rt: HostRuntime) -> Result<(), Fail> {
-    let parts = parts_of_three_keys(&rt, rt.alloc())?;
+fn a_state_is_restored_from_its_parts(rt: HostRuntime) {
+    let parts = parts_of_three_keys(&rt, rt.alloc());
     assert!(rt; parts.len() == 64);
     assert_three_keys(&rt, parts.as_slice());
     let mut other = Kv::new(rt.alloc());
-    assert_result(&rt, rt.alloc(), &mut other, PUT_OF_C, &[0])?;
+    assert_result(&rt, rt.alloc(), &mut other, PUT_OF_C, &[0]);
     assert!(rt; other.restore(rt.alloc(), parts.as_slice()) == Ok(()));
-    assert_results(&rt, rt.alloc(), &mut other, &GETS)
+    assert_results(&rt, rt.alloc(), &mut other, &GETS);
 }
 
 /// Damaged texts of part 10, each with the offset of its fault. The bucket of the keys a and lp is 10, that of b is 62.
@@ -207,18 +192,13 @@ const DAMAGED: [(&[u8], u32); 16] = [
 ];
 
 /// The parts of the state, of which 10 is this text, and 11 is empty.
-fn damaged_parts(
-    rt: &impl Abort,
-    alloc: Global,
-    kv: &Kv,
-    text: &[u8],
-) -> Result<Vec<Items<u8>>, Fail> {
-    let text = text.to_vec(alloc)?;
-    let mut parts = parts_of(alloc, kv)?;
+fn damaged_parts(rt: &impl Abort, alloc: Global, kv: &Kv, text: &[u8]) -> Vec<Items<u8>> {
+    let text = text.to_vec(alloc).expect(rt, "memory");
+    let mut parts = parts_of(rt, alloc, kv);
     assert!(rt; parts.len() == 64);
     parts[10] = Items::from_vec(text);
     parts[11] = Items::new(alloc);
-    Ok(parts)
+    parts
 }
 
 fn assert_bad_part(
@@ -235,79 +215,65 @@ fn assert_bad_part(
 }
 
 /// Where a part is damaged, that is told, and the state stays.
-fn assert_damaged(
-    rt: &impl Abort,
-    alloc: Global,
-    kv: &mut Kv,
-    text: &[u8],
-    at: u32,
-) -> Result<(), Fail> {
-    let parts = damaged_parts(rt, alloc, kv, text)?;
+fn assert_damaged(rt: &impl Abort, alloc: Global, kv: &mut Kv, text: &[u8], at: u32) {
+    let parts = damaged_parts(rt, alloc, kv, text);
     assert_bad_part(rt, alloc, kv, parts.as_slice(), 10, at);
-    drop(parts);
-    assert_result(rt, alloc, kv, PUT_OF_C, &[0])
+    assert_result(rt, alloc, kv, PUT_OF_C, &[0]);
 }
 
 #[test]
-fn damaged_parts_have_their_place(rt: HostRuntime) -> Result<(), Fail> {
+fn damaged_parts_have_their_place(rt: HostRuntime) {
     let mut kv = Kv::new(rt.alloc());
-    assert_result(&rt, rt.alloc(), &mut kv, PUT_OF_C, &[0])?;
+    assert_result(&rt, rt.alloc(), &mut kv, PUT_OF_C, &[0]);
     for &(text, at) in &DAMAGED {
-        assert_damaged(&rt, rt.alloc(), &mut kv, text, at)?;
+        assert_damaged(&rt, rt.alloc(), &mut kv, text, at);
     }
-    Ok(())
 }
 
 /// The parts of no keys, of which the first is replaced by an empty one.
-fn parts_without_first(rt: &impl Abort, alloc: Global, kv: &Kv) -> Result<Vec<Items<u8>>, Fail> {
-    let mut parts = parts_of(alloc, kv)?;
+fn parts_without_first(rt: &impl Abort, alloc: Global, kv: &Kv) -> Vec<Items<u8>> {
+    let mut parts = parts_of(rt, alloc, kv);
     assert!(rt; parts.len() == 64);
     for part in &parts[1..] {
         assert!(rt; part.as_slice() == [0, 0].as_slice());
     }
     parts[0] = Items::new(alloc);
-    Ok(parts)
+    parts
 }
 
 #[test]
-fn an_empty_first_part_is_a_fault(rt: HostRuntime) -> Result<(), Fail> {
+fn an_empty_first_part_is_a_fault(rt: HostRuntime) {
     let mut kv = Kv::new(rt.alloc());
-    let parts = parts_without_first(&rt, rt.alloc(), &kv)?;
+    let parts = parts_without_first(&rt, rt.alloc(), &kv);
     assert_bad_part(&rt, rt.alloc(), &mut kv, parts.as_slice(), 0, 0);
-    Ok(())
 }
 
 /// The text of part 48 with 58 keys, and one more key behind them.
-fn with_one_more_key(rt: &impl Abort, alloc: Global, part: &Items<u8>) -> Result<Items<u8>, Fail> {
-    let mut text = part.as_slice().to_vec(alloc)?;
+fn with_one_more_key(rt: &impl Abort, alloc: Global, part: &Items<u8>) -> Items<u8> {
+    let mut text = part.as_slice().to_vec(alloc).expect(rt, "memory");
     assert!(rt; text.len() > 2);
     assert!(rt; &text[..2] == [0, 58].as_slice());
     text[1] = 59;
-    text.extend_from_slice(&[2, 16, 0, 0, 0])?;
-    Ok(Items::from_vec(text))
+    let more = [2, 16, 0, 0, 0];
+    text.extend_from_slice(&more).expect(rt, "memory");
+    Items::from_vec(text)
 }
 
 /// The parts of 4,096 keys are restored, and no more with the key 4,096.
-fn assert_one_too_many(
-    rt: &impl Abort,
-    alloc: Global,
-    kv: &mut Kv,
-    parts: &mut [Items<u8>],
-) -> Result<(), Fail> {
+fn assert_one_too_many(rt: &impl Abort, alloc: Global, kv: &mut Kv, parts: &mut [Items<u8>]) {
     assert!(rt; parts.len() == 64);
     assert!(rt; kv.restore(alloc, parts) == Ok(()));
-    parts[48] = with_one_more_key(rt, alloc, &parts[48])?;
+    parts[48] = with_one_more_key(rt, alloc, &parts[48]);
     assert_bad_part(rt, alloc, kv, parts, 63, 333);
-    Ok(())
 }
 
 /// Of the keys 0 to 4,095, each of two bytes, 67 are in bucket 63. Key 4,096 is in bucket 48, and so the last of the 67 is one too many.
 #[test]
-fn the_4_097th_key_of_all_parts_is_a_fault(rt: HostRuntime) -> Result<(), Fail> {
+fn the_4_097th_key_of_all_parts_is_a_fault(rt: HostRuntime) {
     let mut kv = Kv::new(rt.alloc());
-    assert_4_096_puts(&rt, rt.alloc(), &mut kv)?;
-    let mut parts = parts_of(rt.alloc(), &kv)?;
-    assert_one_too_many(&rt, rt.alloc(), &mut kv, &mut parts)
+    assert_4_096_puts(&rt, rt.alloc(), &mut kv);
+    let mut parts = parts_of(&rt, rt.alloc(), &kv);
+    assert_one_too_many(&rt, rt.alloc(), &mut kv, &mut parts);
 }
 
 /// Operations, and the digest of part 10 behind each. The bucket of the keys a and lp is 10, that of b is 62. The digests are those that sha256sum gives.
@@ -338,22 +304,21 @@ const DIGESTS: [(&[u8], &[u8]); 6] = [
     ),
 ];
 
-fn assert_digest(rt: &impl Abort, alloc: Global, kv: &mut Kv, expected: &[u8]) -> Result<(), Fail> {
-    let digest = kv.part_digest(alloc, 10)?;
+fn assert_digest(rt: &impl Abort, alloc: Global, kv: &mut Kv, expected: &[u8]) {
+    let digest = kv.part_digest(alloc, 10).expect(rt, "memory");
     assert!(rt; digest.as_slice() == expected);
-    Ok(())
 }
 
 #[test]
-fn a_part_has_its_digest(rt: HostRuntime) -> Result<(), Fail> {
-    let parts = parts_of(rt.alloc(), &Kv::new(rt.alloc()))?;
+fn a_part_has_its_digest(rt: HostRuntime) {
+    let parts = parts_of(&rt, rt.alloc(), &Kv::new(rt.alloc()));
     assert!(rt; parts.len() == 64);
     let mut kv = Kv::new(rt.alloc());
     for &(op, digest) in &DIGESTS {
-        kv.apply(rt.alloc(), op)?;
-        assert_digest(&rt, rt.alloc(), &mut kv, digest)?;
-        assert_digest(&rt, rt.alloc(), &mut kv, digest)?;
+        kv.apply(rt.alloc(), op).expect(&rt, "memory");
+        assert_digest(&rt, rt.alloc(), &mut kv, digest);
+        assert_digest(&rt, rt.alloc(), &mut kv, digest);
     }
     assert!(rt; kv.restore(rt.alloc(), parts.as_slice()) == Ok(()));
-    assert_digest(&rt, rt.alloc(), &mut kv, DIGESTS[0].1)
+    assert_digest(&rt, rt.alloc(), &mut kv, DIGESTS[0].1);
 }

@@ -10,7 +10,7 @@ use Rattle.mb_parts.specs.Claims.{Claim}
 use Rattle.mb_msg.specs.declared.stamped.Shown.{Shown}
 use Rattle.mb_msg.specs.declared.stamped.Stamped.{Stamped}
 use Rattle.mb_msg.specs.Stamps.{ui_of, bare_of}
-use Rattle.mb_audit.specs.Certified.{IsBareStamp}
+use Rattle.mb_certified.specs.Certified.{IsBareStamp}
 use Rattle.mb_model.specs.GateChecks.{stamp_claim}
 use Rattle.mb_model.specs.Verified.{verifies}
 use Rattle.mb_learn.specs.declared.follower.Follower.{Follower}

@@ -17,6 +17,7 @@ pub mod Showing
 pub mod HeldMore
 pub mod Voting
 pub mod Opening
+pub mod Still
 pub mod Walking
 pub mod Follow
 pub mod Keeping

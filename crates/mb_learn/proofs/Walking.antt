@@ -13,7 +13,7 @@ use Rattle.mb_msg.specs.declared.stamped.Stamped.{Stamped}
 use Rattle.mb_msg.specs.declared.stamped.Stamped.TheVariants as stamped
 use Rattle.mb_msg.specs.Stamps.{as_stamped, as_message}
 use Rattle.mb_model.specs.Compared.{inside_some}
-use Rattle.mb_audit.proofs.BareForms.{no_log}
+use Rattle.mb_certified.proofs.BareForms.{no_log}
 use Rattle.mb_learn.specs.Shown.{shown_by, shown_in}
 
 -- but for a LOG, in what a USIG stamped alone

@@ -10,7 +10,7 @@ use Rattle.mb_parts.specs.Bares as bare
 use Rattle.mb_gate.specs.Represents.{Represents}
 use Rattle.mb_msg.specs.declared.stamped.Stamped.{Stamped}
 use Rattle.mb_msg.specs.Stamps.{ui_of, bare_of}
-use Rattle.mb_audit.specs.Certified.{IsBareStamp}
+use Rattle.mb_certified.specs.Certified.{IsBareStamp}
 use Rattle.mb_audit.specs.Walks.{log_of}
 use Rattle.mb_learn.specs.declared.follower.Follower.{Follower}
 use Rattle.mb_learn.specs.Lists.{may_follow, AreInOrder, IsList}

@@ -15,7 +15,7 @@ impl Heard {
     ghost use Rattle.std.specs.Prelude.{◌≡◌, ◌^◌, ◌<◌, OnOk};
     ghost use Rattle.mb_msg.specs.declared.stamped.Stamped.TheVariants as stamped;
     ghost use Rattle.mb_msg.specs.Stamps.{ui_of, bare_of};
-    ghost use Rattle.mb_audit.specs.Certified.{IsBareStamp};
+    ghost use Rattle.mb_certified.specs.Certified.{IsBareStamp};
     ghost use Rattle.mb_learn.specs.Tables.{AddsCast, AddsVotes, plan_at, by_plan};
     ghost use Rattle.mb_learn.specs.Hearing.{IsReady, CountsOnly, CountsToo};
 

@@ -34,7 +34,7 @@ impl Follower {
     ghost use Rattle.mb_parts.specs.Counters.{at_counter};
     ghost use Rattle.mb_model.specs.Committed.{leads};
     ghost use Rattle.mb_learn.specs.Followers.{Follows, IsAwaited, Advances, IsFollowing, StaysShown, KeepsShown, OffersNext};
-    ghost use Rattle.mb_audit.specs.Certified.{IsBareStamp};
+    ghost use Rattle.mb_certified.specs.Certified.{IsBareStamp};
 
     /// Nothing was shown yet.
     pub(crate) fn make(alloc: Global, shape: Shape, host: Host) -> Follower
@@ -72,7 +72,8 @@ impl Follower {
         ensures ready { OnOk result (IsFollowing self.old.shape self.new) }
         ensures follows { KeepsShown self.old stamp result self.new }
     {
-        let _none = self.waiting.insert(stamp.ui().counter, stamp)?;
+        let none = self.waiting.insert(stamp.ui().counter, stamp)?;
+        drop(none);
         Ok(())
     }
 

@@ -12,8 +12,8 @@ use crate::checkpoints::Checkpoints;
 use crate::follower::Follower;
 use crate::plans::Plans;
 use crate::votes::Votes;
-use mb_audit::certified_in;
 use mb_base::{Counter, Digest, Duplicate, Host, Key, NoMemory, Pos, Shape, View};
+use mb_certified::certified_in;
 use mb_msg::{Message, Stamped, Undecoded, decode};
 use mb_usig::Usig;
 use std::alloc::Global;
@@ -52,7 +52,7 @@ impl Heard {
     ghost use Rattle.mb_model.specs.Verified.{verifies};
     ghost use Rattle.mb_model.specs.GateChecks.{stamp_claim};
     ghost use Rattle.mb_model.specs.Inside.{claims_in};
-    ghost use Rattle.mb_audit.specs.Certified.{IsBareStamp};
+    ghost use Rattle.mb_certified.specs.Certified.{IsBareStamp};
     ghost use Rattle.mb_learn.specs.Shown.{shown_in};
     ghost use Rattle.mb_learn.specs.Tables.{AddsSaid};
     ghost use Rattle.mb_learn.specs.Hearing.{IsReady, HearsAll, HearsOf, KeepsPlace, Takes, SaysToo, SaysOnly, newly_said, WhereHearsAll, WhereHearsOf, KeepsWhole, FollowsHost, StaysWhole};
@@ -225,8 +225,8 @@ impl Heard {
         ensures keeps { OnOk result (KeepsPlace self.old self.new) }
     {
         while let Some(stamp) = self.followers[usize::from(host)].advance(alloc, &self.usig)? {
-            self.count(alloc, &stamp)?;
-            drop(stamp);
+            let counted = self.count(alloc, &stamp).and(Ok(stamp))?;
+            drop(counted);
         }
         Ok(())
     }

@@ -29,12 +29,12 @@ impl Heard {
     {
         match message.into_stamped() {
             Ok(stamped) => {
-                self.hold_stamped(alloc, &stamped)?;
-                Ok(stamped.into_message())
+                let held = self.hold_stamped(alloc, &stamped).and(Ok(stamped))?;
+                Ok(held.into_message())
             }
             Err(other) => {
-                self.hold_other(alloc, &other)?;
-                Ok(other)
+                let held = self.hold_other(alloc, &other).and(Ok(other))?;
+                Ok(held)
             }
         }
     }

@@ -1,5 +1,6 @@
 -- Logs and LOGs (`Logs`); what outcomes tell (`TellsWhy`); what an event adds to the world (`WorldAdds`), with the strings that a step notes (`Strings`); that what
--- is taken was valid (`OnlyValid`), where no closed gate is passed (`ClosedGates`), and what is refused is silent (`Silent`); what a primary orders (`Batches`).
+-- is taken was valid (`OnlyValid`), where no closed gate is passed (`ClosedGates`), and what is refused is silent (`Silent`); what a primary orders (`Batches`); all that
+-- a step sends (`Sent`); what a JOIN shows (`Joins`).
 pub mod Logs
 pub mod TellsWhy
 pub mod Strings
@@ -8,3 +9,5 @@ pub mod ClosedGates
 pub mod OnlyValid
 pub mod Silent
 pub mod Batches
+pub mod Sent
+pub mod Joins

@@ -3,3 +3,5 @@ pub mod TellsWhy
 pub mod WorldAdds
 pub mod OnlyValid
 pub mod Batches
+pub mod Sent
+pub mod Joins

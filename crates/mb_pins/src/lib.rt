@@ -1,5 +1,5 @@
 //! What definitions of a host and of the world mean, in words that do not use them: what a LOG gives and how long a log is, what each outcome tells, what an
-//! event adds to the world, that what is taken was valid, and what a primary orders. It holds no code.
+//! event adds to the world, that what is taken was valid, what a primary orders, all that a step sends, and what a JOIN shows. It holds no code.
 #![tactic(auto)]
 
 ghost use Rattle.mb_pins.specs.Logs.{HostsKeepLogs};
@@ -7,6 +7,8 @@ ghost use Rattle.mb_pins.specs.TellsWhy.{HostsTellWhy};
 ghost use Rattle.mb_pins.specs.WorldAdds.{EventsAddNoMore};
 ghost use Rattle.mb_pins.specs.OnlyValid.{HostsTakeOnlyValid};
 ghost use Rattle.mb_pins.specs.Batches.{HostsOrderInTurn};
+ghost use Rattle.mb_pins.specs.Sent.{HostsSendNoMore};
+ghost use Rattle.mb_pins.specs.Joins.{HostsShowInJoins};
 
 /// A LOG has as many messages as go into one, at most 64 and 800,000 bytes; the own log has at most six intervals of PREPAREs, COMMITs and CHECKPOINTs and
 /// 768 others; and the longest log that a report tells is the longest that there was. So it is of each host after any events.
@@ -37,4 +39,17 @@ pub fn hosts_take_only_valid<V>()
 /// host after any events.
 pub fn batches_are_in_turn<V>()
     ensures { HostsOrderInTurn V }
+{}
+
+/// What an event makes a host send is this, in this order, and nothing else: what answers the event; each message that the host stamps, to all, and the reply to each
+/// fresh request that it serves; and one FETCH, where it lacks the stable state behind a Nudge or a STATE, or since the stable position rose. So it is of each host after
+/// any events.
+pub fn hosts_send_nothing_more<V>()
+    ensures { HostsSendNoMore V }
+{}
+
+/// A JOIN shows no evidence in view 0, and above it valid evidence of its view, which its host held, and which ends at or below the stable position. Its stable
+/// certificate is valid. So it is of each host after any events.
+pub fn joins_show_evidence<V>()
+    ensures { HostsShowInJoins V }
 {}

@@ -7,18 +7,29 @@
 //!
 //! No answer was taken from this program. Reports, and what nodes and clients send, are another program's, which was written from the same rules.
 //!
-//! A line is printed for each row: that all was as expected, or what was not.
+//! A line is printed for each row: that all was as expected, or what was not. Behind the rows come stories, each played again (`stories.rt`), and the runs
+//! over what the system has (`processes.rt`).
+//!
+//! With the word `story` it writes the story of the schedule in standard input. With other words it does what they ask for, as the program itself: so its
+//! nodes and children are started.
 #![tactic(auto)]
 
 mod beginnings;
 mod devices;
 mod files;
+mod hosts;
 mod outside;
+mod printing;
+mod processes;
 mod row;
 mod stop;
+mod stories;
+mod text;
 mod trial;
 
 use beginnings::wrong_beginning;
+use mb_program::run;
+use mb_system::words_of;
 use row::{Line, Row, line_of};
 use std::io;
 use std::process::ExitCode;
@@ -28,7 +39,10 @@ use trial::difference;
 /// The file of the rows.
 const ROWS: &str = "rows.txt";
 
-/// The status where a row is not as expected, or the rows cannot be run.
+/// The word for a story.
+const STORY: &str = "story";
+
+/// The status where a row is not as expected, or the rows or what is run over the system cannot be run.
 const FAILED: u8 = 1;
 
 /// Prints how a row went.
@@ -97,17 +111,44 @@ fn tell(rt: &HostRuntime, stop: Stop) -> io::Result<()> {
     match stop {
         Stop::NoMemory => println!(rt; "memory ran out"),
         Stop::Unread(name) => println!(rt; "{name} cannot be read"),
+        Stop::BadLine(number) => println!(rt; "bad line {number}"),
+        Stop::TooLong => println!(rt; "too long"),
         Stop::Unprinted(error) => Err(error),
     }
 }
 
-fn main(rt: HostRuntime) -> io::Result<ExitCode> {
-    match run_rows(&rt) {
+/// Runs the rows, plays the stories, and runs what is run over the system. Answers whether all rows and stories were as expected.
+fn run_all(rt: &HostRuntime) -> Result<bool, Stop> {
+    let rows_hold = run_rows(rt)?;
+    let stories_hold = stories::run_all(rt)?;
+    processes::run_all(rt)?;
+    Ok(rows_hold && stories_hold)
+}
+
+/// The status of what was run.
+fn status_of(rt: &HostRuntime, held: Result<bool, Stop>) -> io::Result<ExitCode> {
+    match held {
         Ok(true) => Ok(ExitCode::SUCCESS),
         Ok(false) => Ok(ExitCode::from(FAILED)),
         Err(stop) => {
-            tell(&rt, stop)?;
+            tell(rt, stop)?;
             Ok(ExitCode::from(FAILED))
         }
+    }
+}
+
+/// Whether the words ask for a story.
+fn asks_for_story(words: &[String]) -> bool {
+    match words {
+        [word] => word.as_str() == STORY,
+        _ => false,
+    }
+}
+
+fn main(rt: HostRuntime) -> io::Result<ExitCode> {
+    match words_of(&rt) {
+        Ok(words) if words.is_empty() => status_of(&rt, run_all(&rt)),
+        Ok(words) if asks_for_story(&words) => status_of(&rt, stories::tell(&rt)),
+        _ => Ok(run(&rt)),
     }
 }

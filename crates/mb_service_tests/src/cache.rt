@@ -5,7 +5,6 @@ use mb_counter::Counter;
 use mb_parts::{MAX_POS, Request};
 use std::alloc::Global;
 use std::process::Abort;
-use std::test::Fail;
 
 /// The digest of a state in which no request was executed. It and those of the rows were computed apart from this program, by Python's hashlib.
 const DIGEST_AT_THE_START: &Digest =
@@ -27,9 +26,9 @@ const ZERO: &[u8] = b"\x00\x00\x00\x00\x00\x00\x00\x00\x00";
 const ONE: &[u8] = b"\x00\x00\x00\x00\x00\x00\x00\x00\x01";
 
 /// One of 3 hosts that may be faulty, a checkpoint at each 4th position, and so many clients.
-fn table_of(rt: &HostRuntime, clients: u8) -> Result<Table, Fail> {
-    let shape = Shape::new(1, 4, clients)?;
-    Ok(Table::make(rt.alloc(), shape)?)
+fn table_of(rt: &impl Abort, alloc: Global, clients: u8) -> Table {
+    let shape = Shape::new(1, 4, clients).expect(rt, "a shape");
+    Table::make(alloc, shape).expect(rt, "memory")
 }
 
 /// Executes a request of a client that the table has, at a position that there is.
@@ -40,10 +39,12 @@ fn execute(
     counter: &mut Counter,
     pos: Pos,
     request: &Request,
-) -> Result<Option<Items<u8>>, Fail> {
+) -> Option<Items<u8>> {
     assert!(rt; request.client < table.clients());
     assert!(rt; pos >= 1 && pos <= MAX_POS);
-    Ok(table.execute(alloc, counter, pos, request)?)
+    table
+        .execute(alloc, counter, pos, request)
+        .expect(rt, "memory")
 }
 
 /// What client 1 is answered as it asks for this at a position. None where the request is not executed.
@@ -55,8 +56,8 @@ fn answer(
     pos: Pos,
     seq: Seq,
     op: &[u8],
-) -> Result<Option<Items<u8>>, Fail> {
-    let request = request(alloc, 1, seq, op)?;
+) -> Option<Items<u8>> {
+    let request = request(rt, alloc, 1, seq, op);
     execute(rt, alloc, table, counter, pos, &request)
 }
 
@@ -68,13 +69,13 @@ fn digest_behind(
     counter: &mut Counter,
     first: Pos,
     seq: Seq,
-) -> Result<Digest, Fail> {
+) -> Digest {
     for client in 0..4 {
-        let request = request(alloc, client, seq, ADD)?;
+        let request = request(rt, alloc, client, seq, ADD);
         let pos = first.saturating_add(u64::from(client));
-        execute(rt, alloc, table, counter, pos, &request)?;
+        execute(rt, alloc, table, counter, pos, &request);
     }
-    Ok(digest(alloc, counter, table, first.saturating_add(3))?)
+    digest(alloc, counter, table, first.saturating_add(3)).expect(rt, "memory")
 }
 
 /// What the table says of a number of client 1.
@@ -95,9 +96,9 @@ fn expect_reply(rt: &impl Abort, table: &Table, client: Client, reply: Option<(S
 }
 
 #[test]
-fn a_request_is_executed_once(rt: HostRuntime) -> Result<(), Fail> {
+fn a_request_is_executed_once(rt: HostRuntime) {
     let mut counter = Counter::new();
-    let mut table = table_of(&rt, 2)?;
+    let mut table = table_of(&rt, rt.alloc(), 2);
     let start = [accept(&rt, &table, 0), accept(&rt, &table, 1)];
     assert!(rt; start == [Accept::Again { pos: 0 }, Accept::Fresh]);
     expect_reply(&rt, &table, 1, None);
@@ -109,7 +110,7 @@ fn a_request_is_executed_once(rt: HostRuntime) -> Result<(), Fail> {
         (5, 3, TELL, Some(ONE)),
     ];
     for (seq, pos, op, result) in rows {
-        let answered = answer(&rt, rt.alloc(), &mut table, &mut counter, pos, seq, op)?;
+        let answered = answer(&rt, rt.alloc(), &mut table, &mut counter, pos, seq, op);
         assert!(rt; answered.as_ref().map(|told| told.as_slice()) == result);
     }
     drop(counter);
@@ -118,11 +119,10 @@ fn a_request_is_executed_once(rt: HostRuntime) -> Result<(), Fail> {
     assert!(rt; accept(&rt, &table, 5) == Accept::Again { pos: 3 });
     assert!(rt; accept(&rt, &table, 4) == Accept::Old { last: 5 });
     expect_reply(&rt, &table, 0, None);
-    Ok(())
 }
 
 #[test]
-fn states_have_their_digests(rt: HostRuntime) -> Result<(), Fail> {
+fn states_have_their_digests(rt: HostRuntime) {
     let rows: [(u64, Pos, &[u8]); 2] = [
         (
             1,
@@ -136,36 +136,34 @@ fn states_have_their_digests(rt: HostRuntime) -> Result<(), Fail> {
         ),
     ];
     let mut counter = Counter::new();
-    let mut table = table_of(&rt, 4)?;
-    let start = digest(rt.alloc(), &mut counter, &table, 0)?;
+    let mut table = table_of(&rt, rt.alloc(), 4);
+    let start = digest(rt.alloc(), &mut counter, &table, 0).expect(&rt, "memory");
     assert!(rt; start == *DIGEST_AT_THE_START);
     for (seq, first, state) in rows {
-        let digest = digest_behind(&rt, rt.alloc(), &mut table, &mut counter, first, seq)?;
+        let digest = digest_behind(&rt, rt.alloc(), &mut table, &mut counter, first, seq);
         assert!(rt; digest.as_slice() == state);
     }
-    Ok(())
 }
 
 #[test]
-fn a_table_is_restored_from_its_bytes(rt: HostRuntime) -> Result<(), Fail> {
+fn a_table_is_restored_from_its_bytes(rt: HostRuntime) {
     let mut counter = Counter::new();
-    let mut table = table_of(&rt, 2)?;
-    let request = request(rt.alloc(), 0, 1, ADD)?;
-    execute(&rt, rt.alloc(), &mut table, &mut counter, 1, &request)?;
+    let mut table = table_of(&rt, rt.alloc(), 2);
+    let request = request(&rt, rt.alloc(), 0, 1, ADD);
+    execute(&rt, rt.alloc(), &mut table, &mut counter, 1, &request);
     drop(request);
     drop(counter);
-    let part = table.part(rt.alloc())?;
+    let part = table.part(rt.alloc()).expect(&rt, "memory");
     drop(table);
     assert!(rt; part.as_slice() == PART_BEHIND_ONE_REQUEST);
-    let mut other = table_of(&rt, 2)?;
+    let mut other = table_of(&rt, rt.alloc(), 2);
     assert!(rt; other.restore(rt.alloc(), part.as_slice()) == Ok(()));
     expect_reply(&rt, &other, 0, Some((1, 1, ONE)));
     expect_reply(&rt, &other, 1, None);
-    Ok(())
 }
 
 #[test]
-fn damaged_tables_have_their_place(rt: HostRuntime) -> Result<(), Fail> {
+fn damaged_tables_have_their_place(rt: HostRuntime) {
     let rows: [(&[u8], u32); 8] = [
         (b"", 0),
         (b"\x00\x00\x00\x00\x00\x00\x00\x01\x00\x00", 8),
@@ -195,11 +193,10 @@ fn damaged_tables_have_their_place(rt: HostRuntime) -> Result<(), Fail> {
             19,
         ),
     ];
-    let mut table = table_of(&rt, 1)?;
+    let mut table = table_of(&rt, rt.alloc(), 1);
     for (part, at) in rows {
         let bad = Err(Restore::BadSnapshot { part: 64, at });
         assert!(rt; table.restore(rt.alloc(), part) == bad);
     }
     expect_reply(&rt, &table, 0, None);
-    Ok(())
 }

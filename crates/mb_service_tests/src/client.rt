@@ -4,7 +4,6 @@ use mb_client::{Asker, Taken, accepted_results_have_a_quorum};
 use mb_msg::{Reply, Request};
 use std::alloc::Global;
 use std::process::Abort;
-use std::test::Fail;
 
 const SECRET: Key = [0; 32];
 
@@ -103,160 +102,125 @@ const OTHER_CLIENT: Row = Row {
 };
 
 impl Row {
-    fn reply(&self, alloc: Global) -> Result<Reply, Fail> {
-        Ok(Reply {
+    fn reply(&self, rt: &impl Abort, alloc: Global) -> Reply {
+        Reply {
             host: self.host,
             client: self.client,
             seq: self.seq,
             pos: self.pos,
-            result: bytes(alloc, self.result)?,
+            result: bytes(rt, alloc, self.result),
             tag: *self.tag,
-        })
+        }
     }
 }
 
 /// A client of a system with f = 1.
-fn asker(alloc: Global) -> Result<Asker, Fail> {
-    let shape = Shape::new(1, 4, 4)?;
-    Ok(Asker::make(alloc, shape, &SECRET, CLIENT)?)
+fn asker(rt: &impl Abort, alloc: Global) -> Asker {
+    let shape = Shape::new(1, 4, 4).expect(rt, "1, 4 and 4 are a shape");
+    Asker::make(alloc, shape, &SECRET, CLIENT).expect(rt, "memory")
 }
 
 /// Asks once more.
-fn ask(rt: &impl Abort, alloc: Global, asker: &mut Asker) -> Result<Digest, Fail> {
+fn ask(rt: &impl Abort, alloc: Global, asker: &mut Asker) -> Digest {
     assert!(rt; asker.asked() < 9);
     let Request {
         client,
         seq,
         op,
         tag,
-    } = asker.ask(alloc, OP)?;
+    } = asker.ask(alloc, OP).expect(rt, "memory");
     assert!(rt; op.as_slice() == OP);
     assert!(rt; (client, seq) == (CLIENT, asker.asked()));
-    Ok(tag)
+    tag
 }
 
 /// Gives these replies, one after the other, and compares the answers.
-fn give(
-    rt: &impl Abort,
-    alloc: Global,
-    asker: &mut Asker,
-    rows: &[(Row, Taken)],
-) -> Result<(), Fail> {
+fn give(rt: &impl Abort, alloc: Global, asker: &mut Asker, rows: &[(Row, Taken)]) {
     for (row, answer) in rows {
-        let reply = row.reply(alloc)?;
+        let reply = row.reply(rt, alloc);
         assert!(rt; reply.host < 3 && reply.result.len() == 2);
         assert!(rt; asker.take(&reply) == *answer);
     }
-    Ok(())
+}
+
+/// A client that asked once and was then given these replies.
+fn given(rt: &impl Abort, alloc: Global, rows: &[(Row, Taken)]) -> Asker {
+    let mut asker = asker(rt, alloc);
+    ask(rt, alloc, &mut asker);
+    assert!(rt; asker.result().is_none());
+    give(rt, alloc, &mut asker, rows);
+    asker
 }
 
 #[test]
-fn requests_are_numbered_and_tagged(rt: HostRuntime) -> Result<(), Fail> {
-    let mut asker = asker(rt.alloc())?;
+fn requests_are_numbered_and_tagged(rt: HostRuntime) {
+    let mut asker = asker(&rt, rt.alloc());
     assert!(rt; asker.asked() == 0);
-    let first = ask(&rt, rt.alloc(), &mut asker)?;
-    let second = ask(&rt, rt.alloc(), &mut asker)?;
+    let first = ask(&rt, rt.alloc(), &mut asker);
+    let second = ask(&rt, rt.alloc(), &mut asker);
     assert!(rt; asker.asked() == 2);
-    drop(asker);
     assert!(rt; first.as_slice() == FIRST_REQUEST_TAG);
     assert!(rt; second.as_slice() == SECOND_REQUEST_TAG);
-    Ok(())
 }
 
 #[test]
-fn two_of_three_hosts_that_agree_are_enough(rt: HostRuntime) -> Result<(), Fail> {
-    let mut asker = asker(rt.alloc())?;
-    ask(&rt, rt.alloc(), &mut asker)?;
-    assert!(rt; asker.result().is_none());
-    give(
-        &rt,
-        rt.alloc(),
-        &mut asker,
-        &[
-            (HOST_0, Taken::Waiting { matching: 1 }),
-            (HOST_1, Taken::Accepted { pos: 5 }),
-            (HOST_2, Taken::OtherSeq { seq: 1 }),
-        ],
-    )?;
+fn two_of_three_hosts_that_agree_are_enough(rt: HostRuntime) {
+    let rows = [
+        (HOST_0, Taken::Waiting { matching: 1 }),
+        (HOST_1, Taken::Accepted { pos: 5 }),
+        (HOST_2, Taken::OtherSeq { seq: 1 }),
+    ];
+    let asker = given(&rt, rt.alloc(), &rows);
     assert!(rt; asker.accepted() == 1);
     assert!(rt; asker.result() == Some((1, 5, b"OK".as_slice())));
-    Ok(())
 }
 
 #[test]
-fn the_first_reply_of_each_host_counts(rt: HostRuntime) -> Result<(), Fail> {
-    let mut asker = asker(rt.alloc())?;
-    ask(&rt, rt.alloc(), &mut asker)?;
-    give(
-        &rt,
-        rt.alloc(),
-        &mut asker,
-        &[
-            (OTHER_POSITION, Taken::Waiting { matching: 1 }),
-            (OTHER_RESULT, Taken::Waiting { matching: 1 }),
-            (HOST_0, Taken::Waiting { matching: 1 }),
-            (HOST_0, Taken::Waiting { matching: 1 }),
-            (HOST_1, Taken::Waiting { matching: 1 }),
-            (HOST_2, Taken::Accepted { pos: 5 }),
-        ],
-    )?;
-    Ok(())
+fn the_first_reply_of_each_host_counts(rt: HostRuntime) {
+    let rows = [
+        (OTHER_POSITION, Taken::Waiting { matching: 1 }),
+        (OTHER_RESULT, Taken::Waiting { matching: 1 }),
+        (HOST_0, Taken::Waiting { matching: 1 }),
+        (HOST_0, Taken::Waiting { matching: 1 }),
+        (HOST_1, Taken::Waiting { matching: 1 }),
+        (HOST_2, Taken::Accepted { pos: 5 }),
+    ];
+    given(&rt, rt.alloc(), &rows);
 }
 
 #[test]
-fn another_result_does_not_agree(rt: HostRuntime) -> Result<(), Fail> {
-    let mut asker = asker(rt.alloc())?;
-    ask(&rt, rt.alloc(), &mut asker)?;
-    give(
-        &rt,
-        rt.alloc(),
-        &mut asker,
-        &[
-            (OTHER_RESULT, Taken::Waiting { matching: 1 }),
-            (HOST_0, Taken::Waiting { matching: 1 }),
-            (HOST_2, Taken::Accepted { pos: 5 }),
-        ],
-    )?;
-    Ok(())
+fn another_result_does_not_agree(rt: HostRuntime) {
+    let rows = [
+        (OTHER_RESULT, Taken::Waiting { matching: 1 }),
+        (HOST_0, Taken::Waiting { matching: 1 }),
+        (HOST_2, Taken::Accepted { pos: 5 }),
+    ];
+    given(&rt, rt.alloc(), &rows);
 }
 
 #[test]
-fn bad_tags_and_other_requests_are_told(rt: HostRuntime) -> Result<(), Fail> {
-    let mut asker = asker(rt.alloc())?;
-    let bad_tag = Row { pos: 6, ..HOST_0 };
-    let not_its_host = Row { host: 2, ..HOST_0 };
-    give(
-        &rt,
-        rt.alloc(),
-        &mut asker,
-        &[(HOST_0, Taken::OtherSeq { seq: 1 })],
-    )?;
-    ask(&rt, rt.alloc(), &mut asker)?;
-    give(
-        &rt,
-        rt.alloc(),
-        &mut asker,
-        &[
-            (bad_tag, Taken::BadTag),
-            (not_its_host, Taken::BadTag),
-            (OTHER_CLIENT, Taken::BadTag),
-            (NEXT_REQUEST, Taken::OtherSeq { seq: 2 }),
-            (HOST_1, Taken::Waiting { matching: 1 }),
-        ],
-    )?;
-    ask(&rt, rt.alloc(), &mut asker)?;
-    give(
-        &rt,
-        rt.alloc(),
-        &mut asker,
-        &[
-            (HOST_0, Taken::OtherSeq { seq: 1 }),
-            (NEXT_REQUEST, Taken::Waiting { matching: 1 }),
-        ],
-    )?;
+fn bad_tags_and_other_requests_are_told(rt: HostRuntime) {
+    let alloc = rt.alloc();
+    let mut asker = asker(&rt, alloc);
+    let unasked = [(HOST_0, Taken::OtherSeq { seq: 1 })];
+    let first = [
+        (Row { pos: 6, ..HOST_0 }, Taken::BadTag),
+        (Row { host: 2, ..HOST_0 }, Taken::BadTag),
+        (OTHER_CLIENT, Taken::BadTag),
+        (NEXT_REQUEST, Taken::OtherSeq { seq: 2 }),
+        (HOST_1, Taken::Waiting { matching: 1 }),
+    ];
+    let second = [
+        (HOST_0, Taken::OtherSeq { seq: 1 }),
+        (NEXT_REQUEST, Taken::Waiting { matching: 1 }),
+    ];
+    give(&rt, alloc, &mut asker, &unasked);
+    ask(&rt, alloc, &mut asker);
+    give(&rt, alloc, &mut asker, &first);
+    ask(&rt, alloc, &mut asker);
+    give(&rt, alloc, &mut asker, &second);
     assert!(rt; (asker.asked(), asker.accepted()) == (2, 0));
     assert!(rt; asker.result().is_none());
-    Ok(())
 }
 
 #[test]

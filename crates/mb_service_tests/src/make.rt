@@ -1,9 +1,7 @@
 //! Draws beside those of a program that someone else wrote.
 
-use mb_base::NoMemory;
 use mb_make::Maker;
 use mb_sched::parse_schedule;
-use std::test::Fail;
 
 /// What another program drew of the seed 161 in a soak.
 const SCHEDULE: &str = "\
@@ -52,13 +50,15 @@ const POOLS: [u32; 30] = [
 ];
 
 #[test]
-fn draws_are_those_of_another_program(rt: HostRuntime) -> Result<(), Fail> {
-    let schedule = parse_schedule(rt.alloc(), SCHEDULE.as_bytes()).map_err(|_found| NoMemory)?;
+fn draws_are_those_of_another_program(rt: HostRuntime) {
+    let schedule = parse_schedule(rt.alloc(), SCHEDULE.as_bytes()).expect(&rt, "a schedule");
     assert!(rt; schedule.events.len() == POOLS.len());
     let mut maker = Maker::new(161);
     for (event, pool) in schedule.events.as_slice().iter().zip(POOLS) {
-        let drawn = maker.draw(rt.alloc(), u64::from(pool.max(1)))?;
-        assert!(rt; drawn == *event);
+        let pool = u64::from(pool.max(1));
+        let drawn = maker.draw(rt.alloc(), pool).expect(&rt, "memory");
+        let is_same = drawn == *event;
+        drop(drawn);
+        assert!(rt; is_same);
     }
-    Ok(())
 }

@@ -1,25 +1,25 @@
 //! What several tests begin with.
 
-ghost use Rattle.std.specs.Prelude.{◌≡◌, IfOk};
+ghost use Rattle.std.specs.Prelude.{◌≡◌};
 
 use mb_base::{Client, Items, Seq};
 use mb_parts::Request;
 use std::alloc::Global;
-use std::test::Fail;
+use std::process::Abort;
 
 /// These bytes in a list of their own.
-pub fn bytes(alloc: Global, all: &[u8]) -> Result<Items<u8>, Fail> {
-    Ok(Items::from_vec(Vec::from_slice(alloc, all)?))
+pub fn bytes(rt: &impl Abort, alloc: Global, all: &[u8]) -> Items<u8> {
+    Items::from_vec(Vec::from_slice(alloc, all).expect(rt, "memory"))
 }
 
 /// A request whose tag nobody looks at.
-pub fn request(alloc: Global, client: Client, seq: Seq, op: &[u8]) -> Result<Request, Fail>
-    ensures { IfOk result (λ r. r.client ≡ client) }
+pub fn request(rt: &impl Abort, alloc: Global, client: Client, seq: Seq, op: &[u8]) -> Request
+    ensures { result.client ≡ client }
 {
-    Ok(Request {
+    Request {
         client,
         seq,
-        op: bytes(alloc, op)?,
+        op: bytes(rt, alloc, op),
         tag: [0; 32],
-    })
+    }
 }

@@ -1,11 +1,12 @@
 -- What making and opening a journal say of a host, what a node with one says, and which statuses it can have.
-use Rattle.std.proofs.Common.{◌≡◌, ◌≢◌, ◌⊎◌, inl, inr, ℕ, suc, ◌+◌, ◌≤◌, ◌<◌, false, List, [], ◌∷◌, ◌++◌, length, take, drop, get_or, Option, Some, Ok, Err, refl, sym, ap, subst, ◌∙◌, arith, append-nil, append_assoc, length-append, take-append-drop}
+use Rattle.std.proofs.Common.{◌≡◌, ◌≢◌, ◌⊎◌, inl, inr, ℕ, suc, ◌+◌, ◌≤◌, ◌<◌, false, List, [], ◌∷◌, ◌++◌, length, reverse, take, drop, get_or, Option, Some, Ok, Err, refl, sym, ap, subst, ◌∙◌, arith, append-nil, append_assoc, length-append, take-append-drop}
 use Rattle.std.specs.Prelude.{Contains, Result, IsErrOf, IfOk, IfErr, OnOk, codes}
-use Rattle.std.specs.List.{join_with_byte, flat_map}
+use Rattle.std.specs.List.{join_with_byte, flat_map, AllByRecursion}
 use Rattle.std.specs.Str.{byte}
 use Rattle.std.specs.Io.KnownBytes.{Appends}
 use Rattle.std.proofs.lemmas.List.{take_more, take_at, take-append-le}
 use Rattle.std.proofs.lemmas.List.Concat.{flat_map-append}
+use Rattle.std.proofs.lemmas.Result.{IfErr-weaker}
 use Rattle.mb_base.specs.Shapes.{Bytes, host_count}
 use Rattle.mb_base.specs.declared.writing.NoMemory.{NoMemory}
 use Rattle.mb_edge.specs.declared.outside.Failed.{Failed}
@@ -29,17 +30,19 @@ use Rattle.mb_journal.specs.declared.opening.OpenStop.TheVariants as opening
 use Rattle.mb_journal.specs.Making.{make_stop}
 use Rattle.mb_journal.specs.Opening.{open_stop}
 use Rattle.mb_journal.specs.Headers.{header_text}
+use Rattle.mb_journal.proofs.Crashes.{all-append}
 use Rattle.mb_node.specs.declared.stops.ServeStop.{ServeStop}
 use Rattle.mb_node.specs.declared.stops.ServeStop.TheVariants as stop
 use Rattle.mb_node.specs.Stops.{sink_stop, IsOfDisk}
 use Rattle.mb_node.specs.Receives.{Receives}
 use Rattle.mb_node.specs.Sends.{Sends}
 use Rattle.mb_node.specs.Events.{events}
+use Rattle.mb_node.specs.Recording.{entries_of}
 use Rattle.mb_node.specs.Serving.{Ends}
 use Rattle.mb_node.specs.Keeping.{EndsKept}
 use Rattle.mb_sched.specs.declared.configs.Config.{Config}
 use Rattle.mb_sched.specs.declared.records.Entry.{Entry}
-use Rattle.mb_sched.specs.Records.{entry_text, event_words}
+use Rattle.mb_sched.specs.Records.{record_head, entry_text, event_words, EventFits}
 use Rattle.mb_sched.specs.ScheduleText.{line_text}
 use Rattle.hex.specs.Hex.{encode_lower}
 use Rattle.std.specs.Fmt.{decimal}
@@ -51,8 +54,8 @@ use Rattle.mb_answer.specs.Devices.{Says, said, cut_short, IsToldBy}
 use Rattle.mb_answer.specs.Devices as devices
 use Rattle.mb_answer.proofs.Contained.{any_of}
 use Rattle.mb_answer.proofs.ConfigLaws.{same_config, lacks_none}
+use Rattle.mb_serving.specs.Nodes.{served_status, HasListened, Fails, IsUnbegun, headless, unopened, Begins}
 use Rattle.mb_node.specs.Outside.{outside}
-use Rattle.mb_serving.specs.Nodes.{served_status, HasListened, Fails, IsUnbegun, headless, unopened}
 use Rattle.mb_serving.specs.Records.{host_of}
 use Rattle.mb_serving.specs.declared.journals.TheConstants.{JOURNAL_LIMIT}
 use Rattle.mb_serving.specs.Journals.{SparesFile, IsNew, IsThere, Makes, made, exists, unmade, Opens, IsOpen, IsBad, Rises, start_of, kept_head, ServesMore, served, unbegun, ServesKept, opened, bad, unread, no_host, KeptNodes, IsServedKept, making_statuses, kept_node_statuses, IsMade, IsOpened, IsOfWriting}
@@ -178,37 +181,29 @@ module _ (c : Config) (host : ℕ) (before after : DiskState) where
       → IfOk r (λ o. WhereTold mid (λ old. Holds (header_text c host) o.events.items old.now.reads))
       → ((at : ℕ) → IsErrOf r (opening.BadJournal at) → WhereTold mid (λ old. contents_of (header_text c host) old.now.reads ≡ Err at))
       → IfOk r (λ o. WhereTold mid (λ old. WhereTold after.moments (λ new. IsAtRest o.journal o.events.items new.now)))
-      → Opens c host before after → IsOpened c host r before after
-  opened_of mid (Ok o) same later journal says broken rests opens = record {
+      → IfOk r (λ o. AllByRecursion EventFits o.events.items) → Opens c host before after → IsOpened c host r before after
+  opened_of mid (Ok o) same later journal says broken rests of_bytes opens = record {
     later = later;
     journal_is = journal;
     says = λ old is. says old (same ∙ is);
+    of_bytes = of_bytes;
     rests = λ old is. rests old (same ∙ is);
     opens = opens;
   }
-  opened_of mid (Err (opening.BadJournal at)) same later journal says broken rests opens = record { says = λ old is. broken at refl old (same ∙ is); opens = opens }
-  opened_of mid (Err opening.DiskFault) same later journal says broken rests opens = opens
-  opened_of mid (Err opening.NoMemory) same later journal says broken rests opens = opens
+  opened_of mid (Err (opening.BadJournal at)) same later journal says broken rests of_bytes opens = record { says = λ old is. broken at refl old (same ∙ is); opens = opens }
+  opened_of mid (Err opening.DiskFault) same later journal says broken rests of_bytes opens = opens
+  opened_of mid (Err opening.NoMemory) same later journal says broken rests of_bytes opens = opens
 
--- ---- serving behind it
+-- ---- events of a journal are of bytes
 
-module _ (c : Config) (host : ℕ) (kept : List Event) where
-  -- What failed before a receive failed so too where more was to be written.
-  pub unbegun_longer : (head more : Bytes) (status : ℕ) (sink sink' : Device) (l l' : LinkState) → IsUnbegun c host head status sink sink' l l' → IsUnbegun c host (head ++ more) status sink sink' l l'
-  unbegun_longer head more status sink sink' l l' (headless fails heard sent part) = headless fails heard sent (part_before sink.bytes sink'.bytes head more part)
-  unbegun_longer head more status sink sink' l l' (unopened fails same opens received sent) = unopened fails same opens received sent
+pub events_more : (events : List Event) (i : ℕ) (e : Event) → i < length events → e ≡ get_or events i e → AllByRecursion EventFits (take i events) → EventFits e → AllByRecursion EventFits (take (i + 1) events)
+events_more events i e lt at all fits =
+    subst (AllByRecursion EventFits) (sym (take_more events i e lt ∙ ap (λ (x : Event). take i events ++ x ∷ []) (sym at))) (all-append EventFits (take i events) (e ∷ []) all (fits, tt))
 
-pub starved_kept : (c : Config) (host : ℕ) (kept : List Event) (journal : JournalState) (budget : ℕ) (r : Result (Unit {0}) ServeStop) (e : ServeStop) → r ≡ Err e → e ≡ stop.NoMemory → (sink : Device) (l : LinkState) (disk : DiskState)
-    → ServesMore c host kept journal budget (served_status r) sink sink l l disk disk
-starved_kept c host kept journal budget r e is same sink l disk = rw (is, same) (unbegun (unopened (inr refl) refl refl refl refl) refl)
-
--- beginning failed
-pub fails_behind : (c : Config) (host : ℕ) (kept : List Event) (journal : JournalState) (budget : ℕ) (r : Result (Unit {0}) ServeStop) (e : ServeStop) → r ≡ Err e → (sink sink' : Device) (l l' : LinkState) (disk : DiskState)
-    → IsUnbegun c host (kept_head c host kept) (served_status (Err e)) sink sink' l l' → ServesMore c host kept journal budget (served_status r) sink sink' l l' disk disk
-fails_behind c host kept journal budget r e is sink sink' l l' disk fails = rw is (unbegun fails refl)
+-- ---- beginning behind it
 
 -- a stop of writing
-pub writing_fails : (s : ServeStop) (before now : ℕ) → IsOfWriting s → (s ≡ stop.SinkFault → Rose before now) → Fails 6 (served_status (Err s)) before now
+writing_fails : (s : ServeStop) (before now : ℕ) → IsOfWriting s → (s ≡ stop.SinkFault → Rose before now) → Fails 6 (served_status (Err s)) before now
 writing_fails stop.LinkFault before now of rose = absurd of
 writing_fails stop.SinkFault before now of rose = inl (refl, rose refl)
 writing_fails stop.DiskFault before now of rose = absurd of
@@ -216,21 +211,55 @@ writing_fails (stop.Budget n) before now of rose = absurd of
 writing_fails (stop.Full length) before now of rose = absurd of
 writing_fails stop.NoMemory before now of rose = inr refl
 
-pub writing_unlinked : (s : ServeStop) → IsOfWriting s → s ≡ stop.LinkFault → ⊥
-writing_unlinked stop.LinkFault of is = absurd of
-writing_unlinked stop.SinkFault of is = absurd cc
-writing_unlinked stop.DiskFault of is = absurd of
-writing_unlinked (stop.Budget n) of is = absurd of
-writing_unlinked (stop.Full length) of is = absurd of
-writing_unlinked stop.NoMemory of is = absurd cc
+writing_alone : (s : ServeStop) → IsOfWriting s → ¬ IsOfDisk s
+writing_alone stop.LinkFault of = λ disk. absurd of
+writing_alone stop.SinkFault of = λ disk. disk
+writing_alone stop.DiskFault of = λ disk. absurd of
+writing_alone (stop.Budget n) of = λ disk. absurd of
+writing_alone (stop.Full length) of = λ disk. absurd of
+writing_alone stop.NoMemory of = λ disk. disk
 
-pub writing_undisked : (s : ServeStop) → IsOfWriting s → s ≡ stop.DiskFault → ⊥
-writing_undisked stop.LinkFault of is = absurd of
-writing_undisked stop.SinkFault of is = absurd cc
-writing_undisked stop.DiskFault of is = absurd of
-writing_undisked (stop.Budget n) of is = absurd of
-writing_undisked (stop.Full length) of is = absurd of
-writing_undisked stop.NoMemory of is = absurd cc
+writing_unlinked : (s : ServeStop) → IsOfWriting s → s ≡ stop.LinkFault → ⊥
+writing_unlinked s of is = subst IsOfWriting is of
+
+module _ (r : Result (Unit {0}) ServeStop) where
+  pub written_alone : IfErr r IsOfWriting → IfErr r (λ s. ¬ IsOfDisk s)
+  written_alone of = IfErr-weaker r IsOfWriting (λ s. ¬ IsOfDisk s) writing_alone of
+
+  pub written_unlinked : IfErr r IsOfWriting → IsErrOf r stop.LinkFault → ⊥
+  written_unlinked of is = subst (λ (x : Result (Unit {0}) ServeStop). IfErr x IsOfWriting) is of
+
+module _ (c : Config) (host : ℕ) (head more : Bytes) where
+  -- What failed before a receive failed so too where more was to be written.
+  unbegun_longer : (status : ℕ) (sink sink' : Device) (l l' : LinkState) → IsUnbegun c host head status sink sink' l l' → IsUnbegun c host (head ++ more) status sink sink' l l'
+  unbegun_longer status sink sink' l l' (headless fails heard sent part) = headless fails heard sent (part_before sink.bytes sink'.bytes head more part)
+  unbegun_longer status sink sink' l l' (unopened fails same opens received sent) = unopened fails same opens received sent
+
+  pub begins_longer : (r : Result (Unit {0}) ServeStop) (s e : ServeStop) → r ≡ Err s → s ≡ e → (sink sink' : Device) (l l' : LinkState) → IsUnbegun c host head (served_status (Err e)) sink sink' l l' → Begins c host (head ++ more) r sink sink' l l'
+  begins_longer r s e is same sink sink' l l' fails = rw (is, same) (unbegun_longer (served_status (Err e)) sink sink' l l' fails)
+
+  -- More was written behind what it began with.
+  pub begins_behind : (r : Result (Unit {0}) ServeStop) (sink between sink' : Device) (l l' : LinkState) → HasListened c host l l' [] × (l'.sent ≡ l.sent) × Appends sink.bytes between.bytes head
+      → OnOk r (Appends between.bytes sink'.bytes more) → IfErr r (λ _. AppendsPart more between.bytes sink'.bytes) → IfErr r IsOfWriting → (IsErrOf r stop.SinkFault → Rose sink.faults sink'.faults) → Begins c host (head ++ more) r sink sink' l l'
+  begins_behind (Ok done) sink between sink' l l' begun all part of rose = (begun.0, begun.1, appended_both sink.bytes between.bytes sink'.bytes head more begun.2 all)
+  begins_behind (Err s) sink between sink' l l' begun all part of rose =
+      headless (writing_fails s sink.faults sink'.faults of (λ is. rose (ap Err is))) begun.0 begun.1 (part_behind sink.bytes between.bytes sink'.bytes head more begun.2 part)
+
+-- ---- serving behind it
+
+pub starved_kept : (c : Config) (host : ℕ) (kept : List Event) (journal : JournalState) (budget : ℕ) (r : Result (Unit {0}) ServeStop) (e : ServeStop) → r ≡ Err e → e ≡ stop.NoMemory → (sink : Device) (l : LinkState) (disk : DiskState)
+    → ServesMore c host kept journal budget (served_status r) sink sink l l disk disk
+starved_kept c host kept journal budget r e is same sink l disk = rw (is, same) (unbegun (unopened (inr refl) refl refl refl refl) refl)
+
+module _ (c : Config) (host : ℕ) (kept : List Event) (entries : List Entry) (are : entries ≡ entries_of (host_of c host) [] (reverse kept)) where
+  -- beginning failed
+  pub fails_behind : (journal : JournalState) (budget : ℕ) (r : Result (Unit {0}) ServeStop) (s e : ServeStop) → r ≡ Err s → s ≡ e → (sink sink' : Device) (l l' : LinkState) (disk : DiskState)
+      → IsUnbegun c host (record_head c host ++ flat_map entry_text entries) (served_status (Err e)) sink sink' l l' → ServesMore c host kept journal budget (served_status r) sink sink' l l' disk disk
+  fails_behind journal budget r s e is same sink sink' l l' disk fails =
+      rw (is, same) (unbegun (subst (λ (x : List Entry). IsUnbegun c host (record_head c host ++ flat_map entry_text x) (served_status (Err e)) sink sink' l l') are fails) refl)
+
+  pub kept_begun : (old new : Option Bytes) → Appends old new (record_head c host ++ flat_map entry_text entries) → Appends old new (kept_head c host kept)
+  kept_begun old new begun = subst (λ (x : List Entry). Appends old new (record_head c host ++ flat_map entry_text x)) are begun
 
 pub begun_undisked : (s : ServeStop) → ¬ IsOfDisk s → s ≡ stop.DiskFault → ⊥
 begun_undisked s alone is = alone (subst IsOfDisk (sym is) tt)

@@ -1,5 +1,5 @@
 -- What a node with a journal writes is a record of its host's own steps: of the journal's events, and of those behind them.
-use Rattle.std.proofs.Common.{◌≡◌, ℕ, ◌≤◌, ◌<◌, Bool, true, false, ◌||◌, List, [], ◌∷◌, ◌++◌, length, reverse, take, drop, Option, Some, Ok, Err, refl, sym, ap, subst, ◌∙◌, append-nil, append_assoc}
+use Rattle.std.proofs.Common.{◌≡◌, ℕ, ◌≤◌, ◌<◌, Bool, true, false, ◌||◌, List, [], ◌∷◌, ◌++◌, length, reverse, take, drop, Option, Some, Ok, Err, refl, sym, ap, subst, ◌∙◌, append-nil, append_assoc, inl, inr, arith}
 use Rattle.std.specs.Prelude.{Result}
 use Rattle.std.specs.List.{flat_map, AllByRecursion}
 use Rattle.std.specs.Io.KnownBytes.{Appends}
@@ -31,7 +31,7 @@ use Rattle.mb_sched.specs.Records.{record_head, entry_text, EventFits}
 use Rattle.mb_edge.specs.Seen.{Device, LinkState, DiskState}
 use Rattle.mb_serving.specs.Nodes.{headless, unopened}
 use Rattle.mb_serving.specs.Records.{host_of}
-use Rattle.mb_serving.specs.Journals.{start_of, kept_head, ServesOn, ServesMore, served, unbegun}
+use Rattle.mb_serving.specs.Journals.{start_of, kept_head, ServesOn, served, unbegun, opened, bad, unread, no_host, ServesMore}
 use Rattle.mb_serving.specs.Written.{WritesFront, KeptNodesLeaveRecords}
 use Rattle.mb_serving.proofs.ReadConfigs.{settings_fit}
 use Rattle.mb_serving.proofs.WrittenLaws.{appends_none, parts_are_left}
@@ -154,21 +154,21 @@ module _ (c : Config) (host : ℕ) (kept : List Event) where
     of_bytes : AllByRecursion EventFits (events me start receives)
     writes : WritesFront c host (events me start receives ++ reverse kept) old new
 
-  writes_kept : (journal : JournalState) (budget status : ℕ) (sink sink' : Device) (l l' : LinkState) (opened after : DiskState) → ServesMore c host kept journal budget status sink sink' l l' opened after → WritesKept l l' sink.bytes sink'.bytes
+  writes_kept : (journal : JournalState) (budget status : ℕ) (sink sink' : Device) (l l' : LinkState) (between after : DiskState) → ServesMore c host kept journal budget status sink sink' l l' between after → WritesKept l l' sink.bytes sink'.bytes
   unfolding events
-  writes_kept journal budget status sink sink' l l' opened after (served journal' ended is on) = record {
+  writes_kept journal budget status sink sink' l l' between after (served journal' ended is on) = record {
     receives = on.receives;
     received = on.heard.received;
     of_bytes = events_of_bytes me start on.receives on.heard.of_bytes;
     writes = writes_ended sink.bytes on.begun on.head l.sent (outside sink' l') budget on.replica on.receives ended on.ends;
   }
-  writes_kept journal budget status sink sink' l l' opened after (unbegun (headless fails heard kept_sent part) same) = record {
+  writes_kept journal budget status sink sink' l l' between after (unbegun (headless fails heard kept_sent part) same) = record {
     receives = [];
     received = heard.received;
     of_bytes = tt;
     writes = writes_before sink.bytes sink'.bytes part.count part.appended;
   }
-  writes_kept journal budget status sink sink' l l' opened after (unbegun (unopened fails kept_sink opens received kept_sent) same) = record {
+  writes_kept journal budget status sink sink' l l' between after (unbegun (unopened fails kept_sink opens received kept_sent) same) = record {
     receives = [];
     received = received ∙ sym (with_more-nil l.received);
     of_bytes = tt;
@@ -181,9 +181,22 @@ all_reversed : {A : Type 0} (P : A → Type 0) (xs : List A) → AllByRecursion 
 all_reversed P [] all = tt
 all_reversed P (x ∷ xs) all = subst (AllByRecursion P) (sym (reverse-append (x ∷ []) xs)) (all-append P (reverse xs) (x ∷ []) (all_reversed P xs all.1) (all.0, tt))
 
+nothing_written : (written : Bytes) (old new : Option Bytes) → old ≡ new → old ≡ Some [] → new ≡ Some written → written ≡ []
+nothing_written written old new same empty all = cc
+
 pub kept_nodes_leave_records : KeptNodesLeaveRecords
-kept_nodes_leave_records text c host budget status kept journal sink sink' l l' opened after written is there fit serves empty all =
-    let w = writes_kept c host kept journal budget status sink sink' l l' opened after serves in
+kept_nodes_leave_records text c host budget status sink sink' l l' before after written is there (opened kept journal between below found serves) empty all =
+    let w = writes_kept c host kept journal budget status sink sink' l l' between after serves in
     let es : List Event = events (host_of c host) (start_of c host kept) w.receives in
-    let of_bytes = all-append EventFits es (reverse kept) w.of_bytes (all_reversed EventFits kept fit) in
-    (w.receives, w.received, parts_are_left c host (es ++ reverse kept) written sink.bytes sink'.bytes (settings_fit text c is) there of_bytes w.writes empty all)
+    let of_bytes = all-append EventFits es (reverse kept) w.of_bytes (all_reversed EventFits kept found.of_bytes) in
+    inl (record {
+      kept = kept;
+      says = found.says;
+      receives = w.receives;
+      received = w.received;
+      leaves = parts_are_left c host (es ++ reverse kept) written sink.bytes sink'.bytes (settings_fit text c is) there of_bytes w.writes empty all;
+    })
+kept_nodes_leave_records text c host budget status sink sink' l l' before after written is there (bad at below says broken idle) empty all = inr (inl (at, broken))
+kept_nodes_leave_records text c host budget status sink sink' l l' before after written is there (unread below fails opens same idle) empty all =
+    inr (inr (nothing_written written sink.bytes sink'.bytes (ap (λ (d : Device). d.bytes) same) empty all))
+kept_nodes_leave_records text c host budget status sink sink' l l' before after written is there (no_host beyond says same_link same_disk) empty all = absurd (omega (arith, beyond, there))

@@ -67,26 +67,26 @@ module _ (c : Config) (host budget : ℕ) (sink sink' : Device) (link link' : Li
 -- ---- beginning
 
 module _ (c : Config) (host : ℕ) (r : Result (Unit {0}) ServeStop) (e : ServeStop) (is : r ≡ Err e) where
-  as_begun : (sink sink' : Device) (before after : LinkState) → IsUnbegun c host (record_head c host) (served_status (Err e)) sink sink' before after → Begins c host r sink sink' before after
-  as_begun sink sink' before after all = subst (λ (x : Result (Unit {0}) ServeStop). Begins c host x sink sink' before after) (sym is) all
+  as_begun : (sink sink' : Device) (before after : LinkState) → IsUnbegun c host (record_head c host) (served_status (Err e)) sink sink' before after → Begins c host (record_head c host) r sink sink' before after
+  as_begun sink sink' before after all = subst (λ (x : Result (Unit {0}) ServeStop). Begins c host (record_head c host) x sink sink' before after) (sym is) all
 
-  pub begins_starved : e ≡ stop.NoMemory → (sink : Device) (l : LinkState) → Begins c host r sink sink l l
+  pub begins_starved : e ≡ stop.NoMemory → (sink : Device) (l : LinkState) → Begins c host (record_head c host) r sink sink l l
   begins_starved same sink l = as_begun sink sink l l (rw same (unopened (inr refl) refl refl refl refl))
 
   pub begins_unopened : (cause : Failed) → e ≡ link_stop cause → (sink : Device) (before after : LinkState) → (cause ≡ failed.Device → Rose before.faults after.faults) → after.opens ≡ before.opens → after.received ≡ before.received
-      → after.sent ≡ before.sent → Begins c host r sink sink before after
+      → after.sent ≡ before.sent → Begins c host (record_head c host) r sink sink before after
   begins_unopened failed.Device same sink before after rose opens received sent = as_begun sink sink before after (rw same (unopened (inl (refl, rose refl)) refl opens received sent))
   begins_unopened failed.NoMemory same sink before after rose opens received sent = as_begun sink sink before after (rw same (unopened (inr refl) refl opens received sent))
 
   pub begins_headless : (cause : WriteStop) → e ≡ sink_stop cause → (sink sink' : Device) (before after : LinkState) → (cause ≡ writing.Fault → Rose sink.faults sink'.faults) → HasListened c host before after [] → after.sent ≡ before.sent
-      → AppendsPart (record_head c host) sink.bytes sink'.bytes → Begins c host r sink sink' before after
+      → AppendsPart (record_head c host) sink.bytes sink'.bytes → Begins c host (record_head c host) r sink sink' before after
   begins_headless writing.Fault same sink sink' before after rose heard sent part = as_begun sink sink' before after (rw same (headless (inl (refl, rose refl)) heard sent part))
   begins_headless writing.NoMemory same sink sink' before after rose heard sent part = as_begun sink sink' before after (rw same (headless (inr refl) heard sent part))
 
   -- Where beginning failed nothing was served.
-  pub fails_to_begin : (q : Result (Unit {0}) ServeStop) → q ≡ Err e → (budget : ℕ) (sink sink' : Device) (before after : LinkState) → Begins c host r sink sink' before after → Serves c host budget (served_status q) sink sink' before after
+  pub fails_to_begin : (q : Result (Unit {0}) ServeStop) → q ≡ Err e → (budget : ℕ) (sink sink' : Device) (before after : LinkState) → Begins c host (record_head c host) r sink sink' before after → Serves c host budget (served_status q) sink sink' before after
   fails_to_begin q same budget sink sink' before after begins =
-      let begun : IsUnbegun c host (record_head c host) (served_status (Err e)) sink sink' before after = subst (λ (x : Result (Unit {0}) ServeStop). Begins c host x sink sink' before after) is begins in
+      let begun : IsUnbegun c host (record_head c host) (served_status (Err e)) sink sink' before after = subst (λ (x : Result (Unit {0}) ServeStop). Begins c host (record_head c host) x sink sink' before after) is begins in
       rw same (unbegun begun)
 
 pub starved_node : (c : Config) (host budget : ℕ) (r : Result (Unit {0}) ServeStop) (e : ServeStop) → r ≡ Err e → e ≡ stop.NoMemory → (sink : Device) (l : LinkState) → Serves c host budget (served_status r) sink sink l l

@@ -1,6 +1,6 @@
 -- What a node with a journal does, and what making a journal does, with a config.
-use Rattle.std.specs.Prelude.{◌≡◌, ◌≢◌, ℕ, ◌≤◌, ◌<◌, ◌⊎◌, false, List, [], ◌∷◌, ◌++◌, length, reverse, Option, Some, IfSome, Result, Ok, Err}
-use Rattle.std.specs.List.{flat_map}
+use Rattle.std.specs.Prelude.{◌≡◌, ◌≢◌, ℕ, ◌≤◌, ◌<◌, ◌⊎◌, false, List, [], ◌∷◌, ◌++◌, length, reverse, Option, Some, Result, Ok, Err, IfSome}
+use Rattle.std.specs.List.{flat_map, AllByRecursion}
 use Rattle.std.specs.Io.KnownBytes.{Appends}
 use Rattle.mb_base.specs.Shapes.{Bytes, host_count}
 use Rattle.mb_edge.specs.Faults.{Rose}
@@ -24,10 +24,12 @@ use Rattle.mb_node.specs.declared.stops.ServeStop.TheVariants as stop
 use Rattle.mb_node.specs.Receives.{Receives}
 use Rattle.mb_node.specs.Events.{left_by, events}
 use Rattle.mb_node.specs.Recording.{entries_of}
+use Rattle.mb_node.specs.Replaying.{IsReplayed}
 use Rattle.mb_node.specs.Serving.{Ends}
 use Rattle.mb_node.specs.Keeping.{EndsKept}
 use Rattle.mb_sched.specs.declared.configs.Config.{Config}
-use Rattle.mb_sched.specs.Records.{record_head, entry_text}
+use Rattle.mb_sched.specs.declared.records.Entry.{Entry}
+use Rattle.mb_sched.specs.Records.{record_head, entry_text, EventFits}
 use Rattle.mb_answer.specs.Configs.{IsConfigText, Uses}
 use Rattle.mb_edge.specs.Seen.{Device, LinkState, DiskState}
 use Rattle.mb_answer.specs.Devices.{Says}
@@ -74,11 +76,12 @@ module _ (c : Config) (host : ℕ) where
   abbrev pub Opens : DiskState → DiskState → Type 0
   Opens before after = WhereTold before.moments (λ old. LeavesOnly (λ image. IsImage old.now image ⊎ StaysWhole (header_text c host) old.now.reads image) old after.moments)
 
-  -- The file said these events, and the disk is at rest at them.
+  -- The file said these events, all of them of bytes, and the disk is at rest at them.
   pub record IsOpen (kept : List Event) (journal : JournalState) (before after : DiskState) : Type 0 where
     pub later : before.faults ≤ after.faults
     pub journal_is : journal ≡ record { header = header_text c host; end = journal.end; limit = JOURNAL_LIMIT; halted = false }
     pub says : WhereTold before.moments (λ old. Holds (header_text c host) kept old.now.reads)
+    pub of_bytes : AllByRecursion EventFits kept
     pub rests : WhereTold before.moments (λ old. WhereTold after.moments (λ new. IsAtRest journal kept new.now))
     pub opens : Opens before after
 
@@ -122,6 +125,11 @@ module _ (c : Config) (host : ℕ) where
     served : (journal' : JournalState) (ended : Result (Unit {0}) ServeStop) → status ≡ served_status ended → ServesOn kept journal journal' budget ended sink sink' l l' opened after
         → ServesMore kept journal budget status sink sink' l l' opened after
     unbegun : IsUnbegun c host (kept_head kept) status sink sink' l l' → opened ≡ after → ServesMore kept journal budget status sink sink' l l' opened after
+
+-- A host that stands behind a journal's events, with their entries, resumes: it serves behind these events, whichever they are.
+abbrev pub Resumes : Config → ℕ → List Entry → Replica Pairs → JournalState → ℕ → Result (Unit {0}) ServeStop → Device → Device → LinkState → LinkState → DiskState → DiskState → Type 0
+Resumes c host entries replica journal budget ended sink sink' l l' opened after =
+    (kept : List Event) → IsReplayed (host_of c host) [] (reverse kept) entries replica → ServesMore c host kept journal budget (served_status ended) sink sink' l l' opened after
 
 -- The journal of a host of the config's system is opened, and the host serves behind its events; or it is no journal, or the disk fails or memory runs out;
 -- or the system has no such host.

@@ -74,10 +74,10 @@ module _ (c : Config) (host : ℕ) where
         → length receives ≤ budget → Serves budget status sink sink' before after
     unbegun : IsUnbegun (record_head c host) status sink sink' before after → Serves budget status sink sink' before after
 
--- what comes of beginning: an open link and the record's first lines, or an end before any receive
-abbrev pub Begins : Config → ℕ → Result (Unit {0}) ServeStop → Device → Device → LinkState → LinkState → Type 0
-Begins c host (Ok done) sink sink' before after = HasListened c host before after [] × (after.sent ≡ before.sent) × Appends sink.bytes sink'.bytes (record_head c host)
-Begins c host (Err e) sink sink' before after = IsUnbegun c host (record_head c host) (served_status (Err e)) sink sink' before after
+-- what comes of beginning a record by these bytes: an open link and the bytes, or an end before any receive
+abbrev pub Begins : Config → ℕ → Bytes → Result (Unit {0}) ServeStop → Device → Device → LinkState → LinkState → Type 0
+Begins c host head (Ok done) sink sink' before after = HasListened c host before after [] × (after.sent ≡ before.sent) × Appends sink.bytes sink'.bytes head
+Begins c host head (Err e) sink sink' before after = IsUnbegun c host head (served_status (Err e)) sink sink' before after
 
 -- A host of the config's system serves, or the system has none of this number.
 pub data HostServes (c : Config) (host budget status : ℕ) (sink sink' : Device) (before after : LinkState) : Type 0 where

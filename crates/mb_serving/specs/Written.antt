@@ -4,8 +4,10 @@ use Rattle.std.specs.List.{flat_map, AllByRecursion}
 use Rattle.std.specs.Io.KnownBytes.{Appends}
 use Rattle.mb_base.specs.Shapes.{Bytes, host_count}
 use Rattle.mb_edge.specs.Told.{with_more}
+use Rattle.mb_edge.specs.Disks.{WhereTold}
 use Rattle.mb_msg.specs.declared.event.Event.{Event}
-use Rattle.mb_journal.specs.Keeping.{JournalState}
+use Rattle.mb_journal.specs.Files.{Holds}
+use Rattle.mb_journal.specs.Headers.{header_text}
 use Rattle.mb_node.specs.Receives.{Receives}
 use Rattle.mb_node.specs.Events.{events}
 use Rattle.mb_node.specs.Recording.{entries_of, lines_of}
@@ -19,7 +21,7 @@ use Rattle.mb_edge.specs.Seen.{Device, LinkState, DiskState}
 use Rattle.mb_answer.specs.Records.{IsRecordText}
 use Rattle.mb_serving.specs.Nodes.{events_of, Serves}
 use Rattle.mb_serving.specs.Records.{host_of, IsOwnRecord, same_text}
-use Rattle.mb_serving.specs.Journals.{start_of, ServesMore}
+use Rattle.mb_serving.specs.Journals.{start_of, IsBad, ServesKept}
 
 -- a host of a config
 module _ (c : Config) (host : ℕ) where
@@ -64,6 +66,14 @@ module _ (c : Config) (host : ℕ) where
   abbrev pub LeavesParts : List Event → Bytes → Type 0
   LeavesParts es written = (part rest : Bytes) → part ++ rest ≡ written → length (record_head c host) ≤ length part → length part ≤ max_record → IsLeft es part
 
+  -- The file says these events, and behind them these were received: what was written is what the host left of both.
+  pub record LeavesKept (before : DiskState) (l l' : LinkState) (written : Bytes) : Type 0 where
+    pub kept : List Event
+    pub says : WhereTold before.moments (λ old. Holds (header_text c host) kept old.now.reads)
+    pub receives : Receives
+    pub received : l'.received ≡ with_more l.received (reverse receives)
+    pub leaves : LeavesParts (events (host_of c host) (start_of c host kept) receives ++ reverse kept) written
+
 -- What a node left is answered by how many of its events have whole pairs of lines, unless memory runs out or a device fails.
 abbrev pub RetracesLeft : Bytes → ℕ → Type 0 → Device → Device → Type 0
 RetracesLeft text status fault old new = (c : Config) (host : ℕ) (es : List Event) (left : IsLeft c host es text) → ¬ fault
@@ -75,11 +85,11 @@ NodesLeaveRecords = (text : Bytes) (c : Config) (host budget status : ℕ) (sink
     → sink.bytes ≡ Some [] → sink'.bytes ≡ Some written
     → (receives : Receives) × (after.received ≡ with_more before.received (reverse receives)) × LeavesParts c host (events_of c host receives) written
 
--- So it is where the node has a journal: of the journal's events, where these are of bytes, and of those that it received behind them.
+-- So it is where the node opened a journal: of the journal's events, and of those that it received behind them. Else the file is no journal of the host, or nothing was written.
 abbrev pub KeptNodesLeaveRecords : Type 0
-KeptNodesLeaveRecords = (text : Bytes) (c : Config) (host budget status : ℕ) (kept : List Event) (journal : JournalState) (sink sink' : Device) (l l' : LinkState) (opened after : DiskState) (written : Bytes) → IsConfigText text c → host < host_count c.shape
-    → AllByRecursion EventFits kept → ServesMore c host kept journal budget status sink sink' l l' opened after → sink.bytes ≡ Some [] → sink'.bytes ≡ Some written
-    → (receives : Receives) × (l'.received ≡ with_more l.received (reverse receives)) × LeavesParts c host (events (host_of c host) (start_of c host kept) receives ++ reverse kept) written
+KeptNodesLeaveRecords = (text : Bytes) (c : Config) (host budget status : ℕ) (sink sink' : Device) (l l' : LinkState) (before after : DiskState) (written : Bytes) → IsConfigText text c → host < host_count c.shape
+    → ServesKept c host budget status sink sink' l l' before after → sink.bytes ≡ Some [] → sink'.bytes ≡ Some written
+    → LeavesKept c host before l l' written ⊎ (((at : ℕ) × IsBad c host at before after) ⊎ (written ≡ []))
 
 -- From the end of the record's first lines on, each first part of what a host writes is read as a record of its own entries.
 abbrev pub WrittenRecordsAreOwn : Type 0

@@ -1,26 +1,33 @@
 //! The word `journal`, and the word `node` with the path of a journal: a host that keeps each event on a disk before it acts on it.
 
-ghost use Rattle.std.specs.Prelude.{◌≡◌, ◌+◌, ◌<◌, Contains, OnOk, IfOk, IfErr, IfSome, IsErrOf, false};
-ghost use Rattle.std.specs.List.{flat_map};
+ghost use Rattle.std.specs.Prelude.{◌≡◌, ◌+◌, ◌<◌, ◌++◌, [], reverse, Contains, OnOk, IfOk, IfErr, IfSome, IsErrOf, false};
+ghost use Rattle.std.specs.List.{flat_map, AllByRecursion};
 ghost use Rattle.std.specs.Io.KnownBytes.{IsAtEnd, Appends};
 ghost use Rattle.mb_base.specs.Shapes.{host_count};
+ghost use Rattle.mb_base.specs.Spelling.{IsBytes};
 ghost use Rattle.mb_edge.specs.Faults.{TellsFaults};
 ghost use Rattle.mb_edge.specs.Pieces.{ConsumesBetween, AppendsPart};
+ghost use Rattle.mb_kv.specs.Machine.{kv_machine};
+ghost use Rattle.mb_core.specs.Represents.{IsAtRest};
+ghost use Rattle.mb_node.specs.Replaying.{IsReplayed};
+ghost use Rattle.mb_node.specs.Stops.{IsOfDisk};
 ghost use Rattle.mb_sched.specs.Configs.{max_config};
-ghost use Rattle.mb_sched.specs.Records.{entry_text};
-ghost use Rattle.mb_serving.specs.Nodes.{served_status};
-ghost use Rattle.mb_serving.specs.Journals.{IsMade, SparesFile, IsOpened, Makes, MakesBy, ServesMore, ServesKept, KeepsWith, IsOfWriting, KeepsServing, making_statuses, kept_node_statuses};
+ghost use Rattle.mb_sched.specs.Records.{record_head, entry_text, EventFits};
+ghost use Rattle.mb_serving.specs.Nodes.{served_status, Begins};
+ghost use Rattle.mb_serving.specs.Records.{host_of};
+ghost use Rattle.mb_serving.specs.Journals.{IsMade, SparesFile, IsOpened, Makes, MakesBy, ServesKept, IsOfWriting, making_statuses, kept_node_statuses, ServesMore, Resumes, KeepsWith, KeepsServing};
 
 use crate::node::{begin, served_status};
 use mb_answer::{
     DISK_FAULT, DONE, NO_MEMORY, USAGE, USAGE_TEXT, bad_journal, config_from, journal_exists,
     respond, say,
 };
-use mb_base::Host;
+use mb_base::{Host, NoMemory};
 use mb_core::Replica;
 use mb_edge::{Disk, Link, Sink, Source, write_all};
 use mb_journal::{Journal, MakeStop, OpenStop, Opened};
 use mb_kv::Kv;
+use mb_msg::Event;
 use mb_node::{ServeStop, replay, serve_kept};
 use mb_sched::{Config, Entry, print_entry};
 use std::alloc::Global;
@@ -109,7 +116,59 @@ fn open_in<D: Disk>(
     ensures disk { TellsFaults (D.never_fails disk.old) (D.never_fails disk.new) (D.seen disk.old).faults (D.seen disk.new).faults (IsErrOf result OpenStop.DiskFault) }
 {
     disk.open(path)?;
-    Journal::open(alloc, disk, config, host, JOURNAL_LIMIT)
+    let opened = Journal::open(alloc, disk, config, host, JOURNAL_LIMIT)?;
+    are_of_bytes(&opened.events);
+    Ok(opened)
+}
+
+/// Says what the type says: of each event the bytes are below 256.
+fn are_of_bytes(events: &[Event])
+    ensures { AllByRecursion EventFits events.now }
+{
+    for event in events {
+        is_of_bytes(event);
+    }
+}
+
+/// Says it of one event.
+fn is_of_bytes(event: &Event)
+    ensures { EventFits event.now }
+{
+    match event {
+        Event::Given(bytes) => are_bytes(bytes.as_slice()),
+        Event::Patience | Event::Nudge => {}
+    }
+}
+
+/// Says it of bytes.
+fn are_bytes(bytes: &[u8])
+    ensures { IsBytes bytes.now }
+{
+    let _count = bytes.len();
+}
+
+/// A host behind the events of its journal, and the entries of these.
+#[derive(Drop)]
+struct Replayed {
+    replica: Replica<Kv>,
+    entries: Vec<Entry>,
+}
+
+/// Takes the steps of a journal's events at a host of a config's system to which nothing has happened.
+fn replay_kept(
+    alloc: Global,
+    config: &Config,
+    host: Host,
+    kept: Vec<Event>,
+) -> Result<Replayed, NoMemory>
+    requires { host < host_count config.now.shape }
+    ensures stands { IfOk result (λ replayed. IsReplayed (host_of config.now host) [] (reverse kept.items) replayed.entries.items replayed.replica) }
+    ensures runs { IfOk result (λ replayed. replayed.replica.halted ≡ false) }
+    ensures rests { IfOk result (λ replayed. IsAtRest kv_machine replayed.replica) }
+{
+    let mut replica = Replica::make(alloc, config.shape, host, &config.secret, Kv::new(alloc))?;
+    let entries = replay(alloc, &mut replica, kept)?;
+    Ok(Replayed { replica, entries })
 }
 
 /// Writes entries.
@@ -124,6 +183,54 @@ fn write_entries<K: Sink>(alloc: Global, entries: &[Entry], sink: &mut K) -> Res
         write_all(sink, text.as_slice())?;
     }
     Ok(())
+}
+
+/// Opens the link, and writes a record's first lines and these entries.
+fn begin_behind<K: Sink, L: Link>(
+    alloc: Global,
+    config: &Config,
+    host: Host,
+    entries: &[Entry],
+    sink: &mut K,
+    link: &mut L,
+) -> Result<(), ServeStop>
+    ensures begins { Begins config.now host (record_head config.now host ++ flat_map entry_text entries.now) result (K.seen sink.old) (K.seen sink.new)
+        (L.seen link.old) (L.seen link.new) }
+    ensures alone { IfErr result (λ s. ¬ IsOfDisk s) }
+    ensures sink { TellsFaults (K.never_fails sink.old) (K.never_fails sink.new) (K.seen sink.old).faults (K.seen sink.new).faults (IsErrOf result ServeStop.SinkFault) }
+    ensures link { TellsFaults (L.never_fails link.old) (L.never_fails link.new) (L.seen link.old).faults (L.seen link.new).faults (IsErrOf result ServeStop.LinkFault) }
+{
+    begin(alloc, config, host, sink, link)?;
+    write_entries(alloc, entries, sink)
+}
+
+/// Begins a record with the entries of a journal's events, and serves behind them. Each event is kept in the journal before its step.
+fn serve_behind<K: Sink, L: Link, D: Disk>(
+    alloc: Global,
+    config: &Config,
+    host: Host,
+    events: u64,
+    replayed: Replayed,
+    journal: &mut Journal,
+    sink: &mut K,
+    link: &mut L,
+    disk: &mut D,
+) -> Result<(), ServeStop>
+    requires runs { replayed.replica.halted ≡ false }
+    requires rests { IsAtRest kv_machine replayed.replica }
+    requires keeps { journal.old.halted ≡ false }
+    ensures serves { Resumes config.now host replayed.entries.items replayed.replica journal.old events result (K.seen sink.old) (K.seen sink.new)
+        (L.seen link.old) (L.seen link.new) (D.seen disk.old) (D.seen disk.new) }
+    ensures sink { TellsFaults (K.never_fails sink.old) (K.never_fails sink.new) (K.seen sink.old).faults (K.seen sink.new).faults (IsErrOf result ServeStop.SinkFault) }
+    ensures link { TellsFaults (L.never_fails link.old) (L.never_fails link.new) (L.seen link.old).faults (L.seen link.new).faults (IsErrOf result ServeStop.LinkFault) }
+    ensures disk { TellsFaults (D.never_fails disk.old) (D.never_fails disk.new) (D.seen disk.old).faults (D.seen disk.new).faults (IsErrOf result ServeStop.DiskFault) }
+{
+    let Replayed {
+        mut replica,
+        entries,
+    } = replayed;
+    begin_behind(alloc, config, host, &entries, sink, link)?;
+    serve_kept(alloc, &mut replica, journal, disk, link, sink, events)
 }
 
 /// Takes the steps of the events that a journal had at a host to which nothing has happened, and then serves as that host. Each event is kept in
@@ -150,11 +257,18 @@ fn run_kept<K: Sink, L: Link, D: Disk>(
         mut journal,
         events: kept,
     } = opened;
-    let mut replica = Replica::make(alloc, config.shape, host, &config.secret, Kv::new(alloc))?;
-    let entries = replay(alloc, &mut replica, kept)?;
-    begin(alloc, config, host, sink, link)?;
-    write_entries(alloc, &entries, sink)?;
-    serve_kept(alloc, &mut replica, &mut journal, disk, link, sink, events)
+    let replayed = replay_kept(alloc, config, host, kept)?;
+    serve_behind(
+        alloc,
+        config,
+        host,
+        events,
+        replayed,
+        &mut journal,
+        sink,
+        link,
+        disk,
+    )
 }
 
 /// Serves with a journal as a host of a config's system, where it has one of this number.

@@ -6,6 +6,7 @@ ghost use Rattle.mb_base.specs.Shapes.{host_count};
 ghost use Rattle.mb_edge.specs.Faults.{TellsFaults};
 ghost use Rattle.mb_edge.specs.Pieces.{ConsumesBetween};
 ghost use Rattle.mb_sched.specs.Configs.{max_config};
+ghost use Rattle.mb_sched.specs.Records.{record_head};
 ghost use Rattle.mb_node.specs.Stops.{IsOfDisk};
 ghost use Rattle.mb_serving.specs.Nodes.{served_status, Begins, Serves, HostServes, Nodes, IsNodeStatus, serving_statuses, node_statuses};
 
@@ -44,7 +45,7 @@ pub(crate) fn begin<K: Sink, L: Link>(
     sink: &mut K,
     link: &mut L,
 ) -> Result<(), ServeStop>
-    ensures begins { Begins config.now host result (K.seen sink.old) (K.seen sink.new)
+    ensures begins { Begins config.now host (record_head config.now host) result (K.seen sink.old) (K.seen sink.new)
         (L.seen link.old) (L.seen link.new) }
     ensures alone { IfErr result (λ s. ¬ IsOfDisk s) }
     ensures sink { TellsFaults (K.never_fails sink.old) (K.never_fails sink.new) (K.seen sink.old).faults (K.seen sink.new).faults (IsErrOf result ServeStop.SinkFault) }

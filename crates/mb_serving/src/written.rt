@@ -31,7 +31,7 @@ pub fn what_nodes_write_is_left()
     ensures { NodesLeaveRecords }
 {}
 
-/// So it is of a node that was started again from its journal: `retrace` answers its record too, which begins with the journal's events.
+/// So it is of a node that opened its journal: `retrace` answers its record too, which begins with the journal's events.
 pub fn what_kept_nodes_write_is_left()
     ensures { KeptNodesLeaveRecords }
 {}

@@ -17,8 +17,14 @@ use std::{fs, io, process, thread};
 /// How often a start looks whether the child's output has begun, and how often all waits together look whether a child has ended.
 const LOOKS: u32 = 5_000;
 
-/// How long it waits between two looks, in milliseconds: five seconds in all.
-const LOOK_WAIT: u64 = 1;
+/// How long it waits between two looks, in microseconds: five seconds in all.
+const LOOK_WAIT: u64 = 1_000;
+
+/// How many looks come sooner. A node is at work a millisecond behind its start, and ends as soon behind its STOP.
+const FIRST_LOOKS: u32 = 100;
+
+/// How long it waits between these, in microseconds.
+const FIRST_WAIT: u64 = 100;
 
 /// The status of a child that a signal ended.
 const BY_SIGNAL: u8 = 255;
@@ -165,13 +171,22 @@ fn feed<P: OpenProcess>(child: &mut process::Child<P>, input: &[u8]) -> io::Resu
     }
 }
 
+/// How long a look waits for the next one, by how many were made before it.
+fn wait_behind(looks: u32) -> Duration {
+    if looks < FIRST_LOOKS {
+        Duration::from_micros(FIRST_WAIT)
+    } else {
+        Duration::from_micros(LOOK_WAIT)
+    }
+}
+
 /// Waits until a child's output has begun. It is an error where the child has ended before that, or needs more than five seconds.
 fn await_output<R: Files + Clock, P: OpenProcess>(
     rt: &R,
     child: &mut process::Child<P>,
     output: &str,
 ) -> io::Result<()> {
-    for _ in 0..LOOKS {
+    for look in 0..LOOKS {
         let has_ended = child.try_wait()?.is_some();
         if fs::metadata(rt, output)?.len() > 0 {
             return Ok(());
@@ -179,7 +194,7 @@ fn await_output<R: Files + Clock, P: OpenProcess>(
         if has_ended {
             return Err(io::Error::from(ErrorKind::UnexpectedEof));
         }
-        thread::sleep(rt, Duration::from_millis(LOOK_WAIT));
+        thread::sleep(rt, wait_behind(look));
     }
     Err(io::Error::from(ErrorKind::TimedOut))
 }
@@ -259,8 +274,8 @@ fn ended<R: Clock, P: OpenProcess>(
         if let Some(status) = child.try_wait()? {
             return Ok(status);
         }
+        thread::sleep(rt, wait_behind(LOOKS.saturating_sub(*looks)));
         *looks = looks.saturating_sub(1);
-        thread::sleep(rt, Duration::from_millis(LOOK_WAIT));
     }
     child.kill()?;
     child.wait()

@@ -8,6 +8,7 @@ mod files;
 mod program;
 mod sockets;
 mod streams;
+mod watch;
 
 pub use children::ChildSpawner;
 pub use files::FileDisk;

@@ -4,6 +4,7 @@ ghost use Rattle.std.specs.Prelude.{◌≡◌, ◌≤◌, ◌<◌, ◌+◌, ◌^
 ghost use Rattle.mb_edge.specs.Faults.{one_more};
 ghost use Rattle.mb_system.specs.Addresses.{above, IsHere};
 
+use crate::watch::Watch;
 use mb_edge::{Failed, Got, Link};
 use std::io::ErrorKind;
 use std::net::{Ipv4Addr, Net, SocketAddr, SocketAddrV4, UdpSocket};
@@ -37,7 +38,7 @@ pub struct UdpLink<R> {
     process: Process,
     /// The number of the process that started this one, if its end is to end the link.
     starter: Option<u32>,
-    socket: Option<UdpSocket>,
+    socket: Option<Watch>,
     port: u16,
     faults: u64,
 }
@@ -125,23 +126,6 @@ fn opened<R: Net + Clock>(rt: &R, port: u16, own: u8) -> io::Result<UdpSocket> {
     Ok(socket)
 }
 
-/// One receive, made again as long as it is interrupted. None is a quiet.
-fn received(socket: &UdpSocket, into: &mut [u8]) -> io::Result<Option<usize>>
-    ensures { IfOk result (λ count. IfSome count (λ n. n ≤ length into.new)) }
-{
-    for _ in 0..u64::MAX {
-        match socket.recv(into) {
-            Ok(count) => return Ok(Some(count)),
-            Err(e) => match e.kind() {
-                ErrorKind::Interrupted => {}
-                ErrorKind::WouldBlock | ErrorKind::TimedOut => return Ok(None),
-                _ => return Err(e),
-            },
-        }
-    }
-    Ok(None)
-}
-
 impl<R: Net + Clock> Link for UdpLink<R> {
     ghost use Rattle.mb_edge.specs.Seen.{link_state};
 
@@ -152,7 +136,7 @@ impl<R: Net + Clock> Link for UdpLink<R> {
     fn open(&mut self, port: u16, own: u8) -> Result<(), Failed> {
         match opened(&self.rt, port, own) {
             Ok(socket) => {
-                self.socket = Some(socket);
+                self.socket = Some(Watch::new(socket));
                 self.port = port;
                 Ok(())
             }
@@ -161,10 +145,10 @@ impl<R: Net + Clock> Link for UdpLink<R> {
     }
 
     fn recv(&mut self, into: &mut [u8]) -> Got {
-        let Some(socket) = &self.socket else {
+        let Some(watch) = &mut self.socket else {
             return Got::Failed(self.failed());
         };
-        let got = received(socket, into);
+        let got = watch.receive(&self.rt, into);
         if self.is_left() {
             return Got::Failed(self.failed());
         }
@@ -179,24 +163,27 @@ impl<R: Net + Clock> Link for UdpLink<R> {
         if self.is_left() {
             return Err(self.failed());
         }
-        let Some(socket) = &self.socket else {
+        let Some(watch) = &self.socket else {
             return Err(self.failed());
         };
-        match sent(socket, self.port, to, bytes) {
+        match sent(watch.socket(), self.port, to, bytes) {
             Ok(()) => Ok(()),
             Err(_) => Err(self.failed()),
         }
     }
 }
 
-/// One send, made again as long as it is interrupted.
+/// One send, made again as long as it is interrupted, or the system has no room for it.
 fn sent(socket: &UdpSocket, port: u16, to: u8, bytes: &[u8]) -> io::Result<()> {
     let address = known_address(port, to)?;
     for _ in 0..u64::MAX {
         match socket.send_to(bytes, address) {
             Ok(_) => return Ok(()),
-            Err(e) if e.kind() == ErrorKind::Interrupted => {}
-            Err(e) => return Err(e),
+            Err(e) => match e.kind() {
+                ErrorKind::Interrupted => {}
+                ErrorKind::WouldBlock => thread::yield_now(),
+                _ => return Err(e),
+            },
         }
     }
     Err(io::Error::from(ErrorKind::Interrupted))

@@ -1,12 +1,14 @@
 -- A schedule's events, one more at a time.
-use Rattle.std.proofs.Common.{◌≡◌, ℕ, ◌+◌, ◌-◌, inl, inr, length, Some, None, Err, refl, sym, ap, subst, ◌∙◌, add-one, arith}
+use Rattle.std.proofs.Common.{◌≡◌, ℕ, ◌+◌, ◌-◌, List, [], ◌∷◌, ◌++◌, drop, reverse, inl, inr, length, Some, None, Err, refl, sym, ap, subst, ◌∙◌, add-one, arith}
 use Rattle.std.specs.List.{slice_get}
 use Rattle.std.proofs.lemmas.Bool.{cases_eq}
+use Rattle.std.proofs.lemmas.List.{reverse-append, reverse-reverse}
 use Rattle.std.proofs.lemmas.Option.{same_Some}
 use Rattle.mb_schedule.specs.declared.schedule.Schedule.{Schedule}
 use Rattle.mb_schedule.specs.declared.schedule.WorldEvent.{WorldEvent}
 use Rattle.mb_world_model.specs.Stops.{WorldStop as Stop, NotFaulty, NoSuchMessage, WrongKind, Forged, ForgedTag, stop_of}
 use Rattle.mb_world_model.specs.WorldSteps.{happens, world as any_world}
+use Rattle.mb_parties.proofs.LeftLaws.{drop_one}
 use Rattle.mb_world.specs.declared.seen.Seen.{Seen}
 use Rattle.mb_world.specs.declared.seen.WorldStop.{WorldStop}
 use Rattle.mb_world.specs.declared.seen.WorldStop.TheVariants as stop
@@ -14,6 +16,15 @@ use Rattle.mb_world.specs.Answers.{Tells}
 use Rattle.mb_top.specs.Systems.{system_of, world}
 use Rattle.mb_top.specs.Runs.{AreUnstopped, IsFirstStopped, run_stop_of, StopsAt}
 use Rattle.mb_top.proofs.StopLaws.{found_is_of}
+
+-- all events are left, last first
+pub all_left : (events kept left : List WorldEvent) → kept ≡ events → left ≡ reverse kept → events ≡ reverse left
+all_left events kept left same turned = sym (ap reverse turned ∙ (reverse-reverse kept ∙ same))
+
+-- the next event is the last of those that are left
+pub next_left : (events : List WorldEvent) (k : ℕ) (left rest : List WorldEvent) (e : WorldEvent) → left ≡ rest ++ e ∷ [] → drop k events ≡ reverse left
+    → (slice_get events k ≡ Some e) × (drop (k + 1) events ≡ reverse rest)
+next_left events k left rest e split is = drop_one events k e (reverse rest) (is ∙ (ap reverse split ∙ reverse-append rest (e ∷ [])))
 
 module _ (s : Schedule) (k : ℕ) (e : WorldEvent) (at : slice_get s.events k ≡ Some e) where
   -- the world after one more event

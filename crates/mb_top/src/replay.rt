@@ -7,6 +7,7 @@ ghost use Rattle.mb_edge.specs.Faults.{TellsFaults};
 ghost use Rattle.mb_edge.specs.Pieces.{ConsumesBetween};
 ghost use Rattle.mb_schedule.specs.Limits.{IsSchedule};
 ghost use Rattle.mb_sched.specs.Report.{report_text};
+ghost use Rattle.mb_sched.specs.Schedules.{Parses};
 ghost use Rattle.mb_schedule.specs.Limits.{max_text};
 ghost use Rattle.mb_world_model.specs.World.{World as WorldState, nothing_happened};
 ghost use Rattle.mb_world.specs.Reports.{report_of};
@@ -22,7 +23,7 @@ use mb_base::{Counter, Host, NoMemory};
 use mb_edge::{Sink, Source, read_all};
 use mb_kv::Kv;
 use mb_sched::{BadText, MAX_TEXT, parse_schedule, print_report};
-use mb_schedule::Schedule;
+use mb_schedule::{Schedule, WorldEvent};
 use mb_world::{World, WorldStop};
 use std::alloc::{AllocError, Global};
 
@@ -112,27 +113,41 @@ fn world_of(alloc: Global, schedule: &Schedule) -> Result<World<Kv>, NoMemory>
     )
 }
 
-/// The world after all events of a schedule, or what stands in the way of the first that cannot be or delivers what is forged.
-fn run(alloc: Global, schedule: &Schedule) -> Result<World<Kv>, RunStop>
-    requires { IsSchedule schedule.now }
-    ensures { Runs schedule.now result }
+/// Lets an event go, and gives the room of those that are gone back, whenever half of the room for those that are left is empty.
+fn let_go(event: WorldEvent, left: &mut Vec<WorldEvent>)
+    ensures { left.new.items ≡ left.old.items }
 {
-    let mut world = world_of(alloc, schedule)?;
-    for event in schedule.events.as_slice() {
+    drop(event);
+    if left.len() <= left.capacity() / 2 {
+        left.shrink_to_fit();
+    }
+}
+
+/// The world after all events of a schedule, or what stands in the way of the first that cannot be or delivers what is forged. An event is let go
+/// once it happened: the world grows as the schedule shrinks.
+fn run(alloc: Global, schedule: Schedule) -> Result<World<Kv>, RunStop>
+    requires { IsSchedule schedule }
+    ensures { Runs schedule result }
+{
+    let mut world = world_of(alloc, &schedule)?;
+    let mut left = schedule.events.into_vec();
+    left.reverse();
+    while let Some(event) = left.pop() {
         let number = world.events() + 1;
-        match world.world_step(alloc, event) {
-            Ok(_) => {}
+        match world.world_step(alloc, &event) {
+            Ok(_) => let_go(event, &mut left),
             Err(stop) => return Err(run_stop(number, stop)),
         }
     }
     Ok(world)
 }
 
-/// The report of a world.
-fn report_on(alloc: Global, world: &World<Kv>) -> Result<Answer, NoMemory>
-    ensures { (s : Schedule) (x : WorldState) → RepresentsWorld (system_of s) world.now x → IfOk result (λ a. (a.status ≡ 0) × (a.text.items ≡ report_text (report_of (system_of s) x))) }
+/// The report of a world, which is let go before the text is written.
+fn report_on(alloc: Global, world: World<Kv>) -> Result<Answer, NoMemory>
+    ensures { (s : Schedule) (x : WorldState) → RepresentsWorld (system_of s) world x → IfOk result (λ a. (a.status ≡ 0) × (a.text.items ≡ report_text (report_of (system_of s) x))) }
 {
     let report = world.report(alloc)?;
+    drop(world);
     Ok(Answer {
         status: DONE,
         text: print_report(alloc, &report)?,
@@ -140,12 +155,12 @@ fn report_on(alloc: Global, world: &World<Kv>) -> Result<Answer, NoMemory>
 }
 
 /// The answer to a schedule: the report after its events, or what stands in the way of the first event that is not done.
-fn answer_schedule(alloc: Global, schedule: &Schedule) -> Result<Answer, NoMemory>
-    requires { IsSchedule schedule.now }
-    ensures { IfOk result (λ a. AnswersSchedule schedule.now a.status a.text.items) }
+fn answer_schedule(alloc: Global, schedule: Schedule) -> Result<Answer, NoMemory>
+    requires { IsSchedule schedule }
+    ensures { IfOk result (λ a. AnswersSchedule schedule a.status a.text.items) }
 {
     match run(alloc, schedule) {
-        Ok(world) => report_on(alloc, &world),
+        Ok(world) => report_on(alloc, world),
         Err(RunStop::BadEvent { number }) => bad_line(alloc, number + HEADER_LINES),
         Err(
             RunStop::Forged {
@@ -159,12 +174,19 @@ fn answer_schedule(alloc: Global, schedule: &Schedule) -> Result<Answer, NoMemor
     }
 }
 
-/// The answer to the text of a schedule.
-fn answer_to(alloc: Global, text: &[u8]) -> Result<Answer, NoMemory>
-    ensures { IfOk result (λ a. Answers text.now a.status a.text.items) }
+/// The schedule of a text. The text is let go here, before the first event happens.
+fn schedule_of(alloc: Global, text: Vec<u8>) -> Result<Schedule, BadText>
+    ensures { Parses result text.items }
 {
-    match parse_schedule(alloc, text) {
-        Ok(schedule) => answer_schedule(alloc, &schedule),
+    parse_schedule(alloc, &text)
+}
+
+/// The answer to the text of a schedule.
+fn answer_to(alloc: Global, text: Vec<u8>) -> Result<Answer, NoMemory>
+    ensures { IfOk result (λ a. Answers text.items a.status a.text.items) }
+{
+    match schedule_of(alloc, text) {
+        Ok(schedule) => answer_schedule(alloc, schedule),
         Err(BadText::TooLong) => too_long(alloc),
         Err(BadText::BadLine { number }) => bad_line(alloc, u64::from(number)),
         Err(BadText::NoMemory) => Err(NoMemory),
@@ -183,7 +205,7 @@ pub(crate) fn replay<S: Source, K: Sink>(alloc: Global, source: &mut S, sink: &m
     ensures sink { TellsFaults (K.never_fails sink.old) (K.never_fails sink.new) (K.seen sink.old).faults (K.seen sink.new).faults (result ≡ 6) }
 {
     match read_all(alloc, MAX_TEXT, source) {
-        Ok(text) => respond(sink, answer_to(alloc, &text)),
+        Ok(text) => respond(sink, answer_to(alloc, text)),
         Err(stop) => tell_unread(alloc, sink, stop),
     }
 }

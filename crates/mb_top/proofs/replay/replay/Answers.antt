@@ -1,4 +1,4 @@
-use Rattle.std.proofs.Common.{Err, refl, ap, subst, ◌∙◌, arith}
+use Rattle.std.proofs.Common.{Err, refl, ap, subst, arith}
 use Rattle.std.specs.Prelude.{Contains}
 use Rattle.std.proofs.lemmas.Option.{IfSome_then}
 use Rattle.std.proofs.lemmas.Result.{IfOk-weaker}
@@ -16,7 +16,7 @@ respond-requires g c = IfOk-weaker c.answer_to.result _ _ (λ a h. answers_told 
 pub returns-in-Ok-clause-told : goal.returns-in-Ok-clause-told
 returns-in-Ok-clause-told g c =
     IfSome_then (g.S.Source.seen c.args.source.now).bytes c.in-Ok.ensures.all (λ text is.
-    responded (Answers text) c.answer_to.result _ _ _ _ _ (IfOk-weaker c.answer_to.result _ _ (λ a h. subst (λ (t : Bytes). Answers t a.status a.text.items) (c.deref.ensures.value ∙ is) h) c.answer_to.ensures)
+    responded (Answers text) c.answer_to.result _ _ _ _ _ (IfOk-weaker c.answer_to.result _ _ (λ a h. subst (λ (t : Bytes). Answers t a.status a.text.items) is h) c.answer_to.ensures)
     c.respond.ensures.says c.respond.ensures.lacks)
 
 pub returns-in-Ok-clause-source : goal.returns-in-Ok-clause-source

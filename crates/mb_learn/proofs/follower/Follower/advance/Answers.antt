@@ -1,7 +1,7 @@
 use Rattle.std.proofs.Common.{ℕ, Option, [], ◌∷◌, ◌++◌, IfSome, refl, sym, ap, subst, ◌∙◌, arith}
 use Rattle.std.specs.Global.{Vec}
 use Rattle.std.specs.BTreeMap.{btree_map_len}
-use Rattle.mb_audit.specs.Certified.{IsBareStamp}
+use Rattle.mb_certified.specs.Certified.{IsBareStamp}
 use Rattle.mb_learn.proofs.Advancing.{still_following, takes_it, refuses_it}
 use Rattle.mb_learn.proofs.Followed.{led_long, ended_list, none_next}
 use Rattle.mb_learn.proofs.follower.Follower.advance.Goals as goal

@@ -3,7 +3,7 @@ use Rattle.std.proofs.lemmas.Option.{slice_get-get_or}
 use Rattle.mb_base.specs.declared.shape.Shape.{Shape}
 use Rattle.mb_msg.specs.declared.stamped.Stamped.{Stamped as Item}
 use Rattle.mb_model.specs.GateChecks.{stamp_claim}
-use Rattle.mb_audit.specs.Certified.{IsBareStamp}
+use Rattle.mb_certified.specs.Certified.{IsBareStamp}
 use Rattle.mb_learn.specs.Hearing.{Takes}
 use Rattle.mb_learn.proofs.Going.{takes_none, takes_next}
 use Rattle.mb_learn.proofs.Set.{all_at}

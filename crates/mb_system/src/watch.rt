@@ -1,0 +1,140 @@
+//! A socket that looks for its next datagram before it waits for one.
+//!
+//! Who waits sleeps. To wake it takes a processor that has nothing else to do 20 to 40 microseconds on a virtual machine, and each request to a cluster is three
+//! datagrams in a row or more; what the processes do in between takes no longer than that. So behind a datagram a receive looks for the next one for a while,
+//! and sleeps only where none came. Between two looks other processes go first. Where one of them then keeps the processor, there are more processes than
+//! processors, and looking costs more than it spares: a process that gave way has to wait for its turn, and one that is woken has not. Then receives wait, as
+//! long as [`REST`] says, and longer where it stays so.
+
+ghost use Rattle.std.specs.Prelude.{◌≤◌, length, IfOk, IfSome};
+
+use std::io::ErrorKind;
+use std::net::UdpSocket;
+use std::time::{Clock, Duration, Instant};
+use std::{io, thread};
+
+/// How long a receive looks, in microseconds: the time of a request, so that nobody sleeps as long as requests follow each other. No longer, so that a process
+/// to which nothing comes uses no processor.
+const LOOK_TIME: u64 = 200;
+
+/// After so many microseconds somebody else had the processor between two looks: a process that has work for more than a few datagrams.
+const CROWDED: u64 = 1_000;
+
+/// How many datagrams are waited for before a receive looks again, once the processor was crowded. To find out costs some milliseconds, which is little in the
+/// time of so many.
+const REST: u32 = 8_192;
+
+/// Where it is crowded again and again, that number is doubled each time, up to this.
+const LONGEST_REST: u32 = 131_072;
+
+/// The most looks of a receive, also where the clock stands still.
+const LOOKS: u32 = 10_000;
+
+/// A socket, and how its receives go.
+#[derive(Drop)]
+pub(crate) struct Watch {
+    socket: UdpSocket,
+    /// Whether it looks. Then a receive of the socket doesn't wait.
+    looks: bool,
+    /// How many datagrams are waited for before it looks again.
+    rest: u32,
+    /// How many that will be when it next finds the processor crowded.
+    next_rest: u32,
+}
+
+impl Watch {
+    /// A socket that waits, up to the first datagram.
+    pub(crate) fn new(socket: UdpSocket) -> Watch {
+        Watch {
+            socket,
+            looks: false,
+            rest: 0,
+            next_rest: REST,
+        }
+    }
+
+    pub(crate) fn socket(&self) -> &UdpSocket {
+        &self.socket
+    }
+
+    /// One receive. None is a quiet.
+    pub(crate) fn receive<R: Clock>(&mut self, rt: &R, into: &mut [u8]) -> io::Result<Option<usize>>
+        ensures { IfOk result (λ count. IfSome count (λ n. n ≤ length into.new)) }
+    {
+        if self.looks {
+            if let Some(count) = self.look(rt, into)? {
+                return Ok(Some(count));
+            }
+            self.set_looks(false)?;
+        }
+        let got = taken(&self.socket, into)?;
+        if got.is_some() {
+            self.look_again()?;
+        }
+        Ok(got)
+    }
+
+    /// Looks for a datagram. None where none came in time, or the processor was crowded.
+    fn look<R: Clock>(&mut self, rt: &R, into: &mut [u8]) -> io::Result<Option<usize>>
+        ensures { IfOk result (λ count. IfSome count (λ n. n ≤ length into.new)) }
+    {
+        if let Some(count) = taken(&self.socket, into)? {
+            return Ok(Some(count));
+        }
+        let begun = Instant::now(rt)?;
+        for _ in 0..LOOKS {
+            thread::yield_now();
+            let spent = begun.elapsed(rt)?;
+            if spent >= Duration::from_micros(CROWDED) {
+                self.crowd();
+                break;
+            }
+            if let Some(count) = taken(&self.socket, into)? {
+                self.next_rest = REST;
+                return Ok(Some(count));
+            }
+            if spent >= Duration::from_micros(LOOK_TIME) {
+                break;
+            }
+        }
+        Ok(None)
+    }
+
+    /// The processor is crowded.
+    fn crowd(&mut self) {
+        self.rest = self.next_rest;
+        self.next_rest = self.rest.saturating_mul(2).min(LONGEST_REST);
+    }
+
+    /// A datagram came while it waited: it looks for the next one, unless it rests.
+    fn look_again(&mut self) -> io::Result<()> {
+        if self.rest == 0 {
+            return self.set_looks(true);
+        }
+        self.rest -= 1;
+        Ok(())
+    }
+
+    fn set_looks(&mut self, looks: bool) -> io::Result<()> {
+        self.socket.set_nonblocking(looks)?;
+        self.looks = looks;
+        Ok(())
+    }
+}
+
+/// One receive of a socket, made again as long as it is interrupted. None where the socket has no datagram.
+fn taken(socket: &UdpSocket, into: &mut [u8]) -> io::Result<Option<usize>>
+    ensures { IfOk result (λ count. IfSome count (λ n. n ≤ length into.new)) }
+{
+    for _ in 0..u64::MAX {
+        match socket.recv(into) {
+            Ok(count) => return Ok(Some(count)),
+            Err(e) => match e.kind() {
+                ErrorKind::Interrupted => {}
+                ErrorKind::WouldBlock | ErrorKind::TimedOut => return Ok(None),
+                _ => return Err(e),
+            },
+        }
+    }
+    Ok(None)
+}
