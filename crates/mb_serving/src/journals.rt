@@ -171,8 +171,13 @@ fn replay_kept(
     ensures rests { IfOk result (λ replayed. IsAtRest IsState after answer part_of restored replayed.replica) }
 {
     let mut replica = Replica::make(alloc, config.shape, host, &config.secret, Kv::new(alloc))?;
-    let entries = replay(alloc, &mut replica, kept)?;
-    Ok(Replayed { replica, entries })
+    match replay(alloc, &mut replica, kept) {
+        Ok(entries) => Ok(Replayed { replica, entries }),
+        Err(NoMemory) => {
+            drop(replica);
+            Err(NoMemory)
+        }
+    }
 }
 
 /// Writes entries.
@@ -214,28 +219,25 @@ fn serve_behind<K: Sink, L: Link, D: Disk>(
     config: &Config,
     host: Host,
     events: u64,
-    replayed: Replayed,
+    replica: &mut Replica<Kv>,
+    entries: &[Entry],
     journal: &mut Journal,
     sink: &mut K,
     link: &mut L,
     disk: &mut D,
 ) -> Result<(), ServeStop>
-    requires runs { replayed.replica.halted ≡ false }
-    requires rests { IsAtRest IsState after answer part_of restored replayed.replica }
+    requires runs { replica.old.halted ≡ false }
+    requires rests { IsAtRest IsState after answer part_of restored replica.old }
     requires keeps { journal.old.halted ≡ false }
-    ensures serves { (kept : List Event) → IsReplayed (host_of config.now host) [] (reverse kept) replayed.entries.items replayed.replica
+    ensures serves { (kept : List Event) → IsReplayed (host_of config.now host) [] (reverse kept) entries.now replica.old
         → ServesBehind config.now host kept journal.old events (served_status result) (device (K.written sink.old) (K.faults sink.old)) (device (K.written sink.new) (K.faults sink.new))
         (link_state (L.received link.old) (L.sent link.old) (L.opens link.old) (L.faults link.old)) (link_state (L.received link.new) (L.sent link.new) (L.opens link.new) (L.faults link.new)) (disk_state (D.moments disk.old) (D.faults disk.old)) (disk_state (D.moments disk.new) (D.faults disk.new)) }
     ensures sink { TellsFaults (K.never_fails sink.old) (K.never_fails sink.new) (K.faults sink.old) (K.faults sink.new) (IsErrOf result ServeStop.SinkFault) }
     ensures link { TellsFaults (L.never_fails link.old) (L.never_fails link.new) (L.faults link.old) (L.faults link.new) (IsErrOf result ServeStop.LinkFault) }
     ensures disk { TellsFaults (D.never_fails disk.old) (D.never_fails disk.new) (D.faults disk.old) (D.faults disk.new) (IsErrOf result ServeStop.DiskFault) }
 {
-    let Replayed {
-        mut replica,
-        entries,
-    } = replayed;
-    begin_behind(alloc, config, host, &entries, sink, link)?;
-    serve_kept(alloc, &mut replica, journal, disk, link, sink, events)
+    begin_behind(alloc, config, host, entries, sink, link)?;
+    serve_kept(alloc, replica, journal, disk, link, sink, events)
 }
 
 /// Takes the steps of the events that a journal had at a host to which nothing has happened, and then serves as that host. Each event is kept in
@@ -262,18 +264,24 @@ fn run_kept<K: Sink, L: Link, D: Disk>(
         mut journal,
         events: kept,
     } = opened;
-    let replayed = replay_kept(alloc, config, host, kept)?;
-    serve_behind(
+    let Replayed {
+        mut replica,
+        entries,
+    } = replay_kept(alloc, config, host, kept)?;
+    let ended = serve_behind(
         alloc,
         config,
         host,
         events,
-        replayed,
+        &mut replica,
+        &entries,
         &mut journal,
         sink,
         link,
         disk,
-    )
+    );
+    drop(replica);
+    ended
 }
 
 /// Serves with a journal as a host of a config's system, where it has one of this number.
