@@ -167,8 +167,13 @@ fn replay_kept(
     ensures rests { IfOk result (λ replayed. IsAtRest kv_machine replayed.replica) }
 {
     let mut replica = Replica::make(alloc, config.shape, host, &config.secret, Kv::new(alloc))?;
-    let entries = replay(alloc, &mut replica, kept)?;
-    Ok(Replayed { replica, entries })
+    match replay(alloc, &mut replica, kept) {
+        Ok(entries) => Ok(Replayed { replica, entries }),
+        Err(NoMemory) => {
+            drop(replica);
+            Err(NoMemory)
+        }
+    }
 }
 
 /// Writes entries.
@@ -210,27 +215,24 @@ fn serve_behind<K: Sink, L: Link, D: Disk>(
     config: &Config,
     host: Host,
     events: u64,
-    replayed: Replayed,
+    replica: &mut Replica<Kv>,
+    entries: &[Entry],
     journal: &mut Journal,
     sink: &mut K,
     link: &mut L,
     disk: &mut D,
 ) -> Result<(), ServeStop>
-    requires runs { replayed.replica.halted ≡ false }
-    requires rests { IsAtRest kv_machine replayed.replica }
+    requires runs { replica.old.halted ≡ false }
+    requires rests { IsAtRest kv_machine replica.old }
     requires keeps { journal.old.halted ≡ false }
-    ensures serves { Resumes config.now host replayed.entries.items replayed.replica journal.old events result (K.seen sink.old) (K.seen sink.new)
+    ensures serves { Resumes config.now host entries.now replica.old journal.old events result (K.seen sink.old) (K.seen sink.new)
         (L.seen link.old) (L.seen link.new) (D.seen disk.old) (D.seen disk.new) }
     ensures sink { TellsFaults (K.never_fails sink.old) (K.never_fails sink.new) (K.seen sink.old).faults (K.seen sink.new).faults (IsErrOf result ServeStop.SinkFault) }
     ensures link { TellsFaults (L.never_fails link.old) (L.never_fails link.new) (L.seen link.old).faults (L.seen link.new).faults (IsErrOf result ServeStop.LinkFault) }
     ensures disk { TellsFaults (D.never_fails disk.old) (D.never_fails disk.new) (D.seen disk.old).faults (D.seen disk.new).faults (IsErrOf result ServeStop.DiskFault) }
 {
-    let Replayed {
-        mut replica,
-        entries,
-    } = replayed;
-    begin_behind(alloc, config, host, &entries, sink, link)?;
-    serve_kept(alloc, &mut replica, journal, disk, link, sink, events)
+    begin_behind(alloc, config, host, entries, sink, link)?;
+    serve_kept(alloc, replica, journal, disk, link, sink, events)
 }
 
 /// Takes the steps of the events that a journal had at a host to which nothing has happened, and then serves as that host. Each event is kept in
@@ -257,18 +259,24 @@ fn run_kept<K: Sink, L: Link, D: Disk>(
         mut journal,
         events: kept,
     } = opened;
-    let replayed = replay_kept(alloc, config, host, kept)?;
-    serve_behind(
+    let Replayed {
+        mut replica,
+        entries,
+    } = replay_kept(alloc, config, host, kept)?;
+    let ended = serve_behind(
         alloc,
         config,
         host,
         events,
-        replayed,
+        &mut replica,
+        &entries,
         &mut journal,
         sink,
         link,
         disk,
-    )
+    );
+    drop(replica);
+    ended
 }
 
 /// Serves with a journal as a host of a config's system, where it has one of this number.

@@ -1,4 +1,4 @@
-use Rattle.std.proofs.Common.{◌∙◌, inr}
+use Rattle.std.proofs.Common.{inr}
 use Rattle.std.proofs.lemmas.Result.{err_from_is_err_and}
 use Rattle.mb_edge.proofs.FaultLemmas.{tells_both, tells_none, tells_as}
 use Rattle.mb_serving.specs.Records.{host_of}
@@ -10,7 +10,7 @@ use Rattle.mb_serving.proofs.journals.serve_behind.Goals as goal
 pub returns-in_err-begin_behind-clause-serves : goal.returns-in_err-begin_behind-clause-serves
 returns-in_err-begin_behind-clause-serves g c = λ kept replayed.
     let p = err_from_is_err_and c.from_residual.result c.from_residual.ensures.1 in
-    fails_behind c.args.config.now c.args.host kept c.deref.result.now (c.deref.ensures.value ∙ replayed.entries_are) c.args.journal.now c.args.events c.from_residual.result p.0 c.in_err-begin_behind.field-0.0 p.1 p.2 _ _ _ _ _
+    fails_behind c.args.config.now c.args.host kept c.args.entries.now replayed.entries_are c.args.journal.now c.args.events c.from_residual.result p.0 c.in_err-begin_behind.field-0.0 p.1 p.2 _ _ _ _ _
     c.in_err-begin_behind.ensures.begins
 
 pub returns-clause-serves : goal.returns-clause-serves
@@ -25,7 +25,7 @@ returns-clause-serves g c = λ kept replayed.
     (g.L.Link.seen c.serve_kept.new.link)
     (g.D.Disk.seen c.args.disk.now) (g.D.Disk.seen c.serve_kept.new.disk)
     is.receives (heard_behind config host _ _ _ is.receives begun.0 c.serve_kept.ensures.opens is.told_is is.of_bytes) (g.K.Sink.seen c.begin_behind.new.sink).bytes
-    (kept_begun config host kept c.deref.result.now (c.deref.ensures.value ∙ replayed.entries_are) _ _ begun.2)
+    (kept_begun config host kept c.args.entries.now replayed.entries_are _ _ begun.2)
     c.serve_kept.new.replica (g.L.Link.seen c.begin_behind.new.link).sent begun.1
     (is.ends (host_of config host) (start_of config host kept) (kv_serves config host) replayed.represents replayed.whole)
     (λ told. (tells_both _ _ _ c.in_ok-begin_behind.ensures.link c.serve_kept.ensures.link (λ t. inr t)).rose told)
