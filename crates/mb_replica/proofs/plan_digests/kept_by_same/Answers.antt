@@ -7,5 +7,5 @@ use Rattle.mb_replica.proofs.plan_digests.kept_by_same.Goals as goal
 
 -- src/plan_digests.rt
 pub returns-then-eq : goal.returns-then-eq
-returns-then-eq g c =
+returns-then-eq c =
     subst (λ (b : Batch). IfSome c.kept_digest.result (λ d. d ≡ batch_digest b)) (same_batch _ _ (sym c.eq.ensures ∙ c.if-eq.true)) c.kept_digest.ensures
