@@ -1,5 +1,6 @@
 //! Evidence and plans that come to be held.
 
+use crate::plan_digests::digested_plan;
 use crate::state::ReplicaState;
 use mb_base::{Duplicate, NoMemory, View};
 use mb_msg::{Evidence, Plan};
@@ -73,14 +74,15 @@ impl<V: Service + Drop> ReplicaState<V> {
             && self.agreement.change.plan_at(view).is_none()
     }
 
-    /// A plan is held, and the certificate of its base learnt.
+    /// A plan is held, whose batches keep their digests, and the certificate of its base learnt.
     pub fn hold_plan(&mut self, alloc: Global, view: View, plan: Plan) -> Result<(), NoMemory>
         requires hashed { CanHash plan }
         requires base { FitsStable self.old.agreement.shape plan.base }
         ensures { OnOk result (Holds (with_plan view plan) (Some plan.base) self.old self.new) }
     {
         let base = plan.base.duplicate(alloc)?;
-        self.agreement.change.hold_plan(view, plan);
+        let kept = digested_plan(plan);
+        self.agreement.change.hold_plan(view, kept);
         self.learn(base);
         Ok(())
     }

@@ -36,6 +36,7 @@ mod logs;
 mod new_views;
 mod open_votes;
 mod opens;
+mod plan_digests;
 mod prepares;
 mod requests;
 mod resends;

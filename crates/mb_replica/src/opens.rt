@@ -1,8 +1,9 @@
 //! OPEN: a host opens its view with evidence of the plan, and the plan.
 
+use crate::plan_digests::digested_beside;
 use crate::state::ReplicaState;
 use mb_base::{NoMemory, View};
-use mb_msg::{Body, Evidence, Open, OpenBody, Outcome, Plan};
+use mb_msg::{Batch, Body, Evidence, Open, OpenBody, Outcome, Plan};
 use mb_plan::check_open;
 use mb_service::Service;
 use std::alloc::Global;
@@ -17,7 +18,7 @@ impl<V: Service + Drop> ReplicaState<V> {
     ghost use Rattle.std.specs.Prelude.{None, ◌≡◌, ◌<◌, OnOk, IfOk};
     ghost use Rattle.mb_replica.specs.Represents.{Represents};
     ghost use Rattle.mb_msg.specs.declared.stamped.Stamped.TheVariants as stamped;
-    ghost use Rattle.mb_msg.specs.Fits.{FitsOpen, FitsOpenParts};
+    ghost use Rattle.mb_msg.specs.Fits.{FitsOpen, FitsOpenBody, FitsOpenParts};
     ghost use Rattle.mb_model.specs.KindChecks.{stamped_refusal, open_refusal, opening_fault, unusable};
     ghost use Rattle.mb_replica.specs.Between.{AwaitsGate};
     ghost use Rattle.mb_parts.specs.Fits.{FitsEvidence};
@@ -25,6 +26,52 @@ impl<V: Service + Drop> ReplicaState<V> {
     ghost use Rattle.mb_replica.specs.Holding.{CanHold, HoldsBody, HoldsEntry};
     ghost use Rattle.mb_msg.specs.Bodies.{FitsBody};
     ghost use Rattle.mb_msg.specs.declared.message.Message.TheVariants as message;
+
+    // ---- its digests
+
+    /// The batches of the plan of a view, none where it is not held.
+    fn planned(&self, view: View) -> &[Batch] {
+        match self.agreement.change.plan_at(view) {
+            Some(held) => held.plan().batches.as_slice(),
+            None => &[],
+        }
+    }
+
+    /// An OPEN of a current view, each of whose batches keeps its digest: that of the held plan, where it has the same batch there. An error is want
+    /// of memory.
+    pub(crate) fn with_batch_digests(&self, alloc: Global, m: Open) -> Result<Open, NoMemory>
+        requires { FitsOpen self.now.agreement.shape m }
+        ensures { IfOk result (λ o. o ≡ m) }
+    {
+        if !self.is_current(m.evidence.view) {
+            return Ok(m);
+        }
+        let Open { evidence, body, ui } = m;
+        let body = self.body_with_digests(alloc, &evidence, body)?;
+        Ok(Open { evidence, body, ui })
+    }
+
+    /// The same of its body.
+    fn body_with_digests(
+        &self,
+        alloc: Global,
+        evidence: &Evidence,
+        body: Body<OpenBody>,
+    ) -> Result<Body<OpenBody>, NoMemory>
+        requires { FitsBody (FitsOpenBody self.now.agreement.shape evidence.now) body }
+        ensures { IfOk result (λ b. b ≡ body) }
+    {
+        match body {
+            Body::Whole(OpenBody { stable, batches }) => {
+                let plan = self.planned(evidence.view);
+                let batches = digested_beside(alloc, batches, plan)?;
+                Ok(Body::Whole(OpenBody { stable, batches }))
+            }
+            bare => Ok(bare),
+        }
+    }
+
+    // ---- whether it is refused, and what it does
 
     /// Its body, where it is whole and current.
     pub(crate) fn open_refusal(&self, alloc: Global, m: &Open) -> Result<Option<Outcome>, NoMemory>

@@ -79,7 +79,8 @@ impl<V: Service + Drop> ReplicaState<V> {
         }
     }
 
-    /// A stamped message, and why it is refused, where it is. Once its identifier has passed, a VIEW_CHANGE or a NEW_VIEW keeps digests.
+    /// A stamped message, and why it is refused, where it is. Once its identifier has passed, a VIEW_CHANGE, a NEW_VIEW or an OPEN keeps
+    /// digests.
     #[tactic(auto, unfolding(mb_model::specs::KindChecks::stamped_refusal))]
     fn checked(&self, alloc: Global, arrival: Arrival) -> Result<Checked, NoMemory>
         requires { IsArrival self.now.agreement.shape arrival }
@@ -92,8 +93,32 @@ impl<V: Service + Drop> ReplicaState<V> {
             return Ok(checked);
         }
         let arrival = checked.arrival.with_digests(alloc, &self.agreement.shape)?;
+        let arrival = self.with_plan_digests(alloc, arrival)?;
         let refusal = self.kind_refusal(alloc, &arrival.message);
         arrival.with_refusal(refusal)
+    }
+
+    /// A given message, of which an OPEN keeps the digests of its batches. An error is want of memory.
+    fn with_plan_digests(&self, alloc: Global, arrival: Arrival) -> Result<Arrival, NoMemory>
+        requires { FitsStamped self.now.agreement.shape arrival.message }
+        ensures { IfOk result (λ a. a ≡ arrival) }
+    {
+        let Arrival {
+            message,
+            ui,
+            mark,
+            body,
+        } = arrival;
+        let message = match message {
+            Stamped::Open(m) => Stamped::Open(self.with_batch_digests(alloc, m)?),
+            other => other,
+        };
+        Ok(Arrival {
+            message,
+            ui,
+            mark,
+            body,
+        })
     }
 
     /// Of an ENTER and of a JOIN the gate asks all that there is.

@@ -1,0 +1,86 @@
+//! The batches of a plan keep their digests once they are hashed, so that they are not hashed again where the plan is shown again.
+
+ghost use Rattle.std.specs.Prelude.{◌≡◌, IfOk, IfSome};
+ghost use Rattle.std.specs.List.{AllByRecursion};
+ghost use Rattle.mb_parts.specs.Bares.{batch_digest};
+ghost use Rattle.mb_parts.specs.Fits.{CanDigest};
+ghost use Rattle.mb_msg.specs.Plans.{CanHash};
+
+use mb_base::{Digest, Items, NoMemory};
+use mb_msg::{Batch, Plan};
+use std::alloc::Global;
+
+/// These batches, each of which keeps its digest.
+fn digested(batches: Items<Batch>) -> Items<Batch>
+    requires { AllByRecursion CanDigest batches }
+    ensures { result ≡ batches }
+{
+    let mut kept = batches.into_vec();
+    for batch in kept.iter_mut() {
+        batch.keep_digest();
+    }
+    Items::from_vec(kept)
+}
+
+/// This plan, each of whose batches keeps its digest.
+pub(crate) fn digested_plan(plan: Plan) -> Plan
+    requires { CanHash plan }
+    ensures { result ≡ plan }
+{
+    let Plan { base, batches } = plan;
+    Plan {
+        base,
+        batches: digested(batches),
+    }
+}
+
+/// The digest of a batch, where another one is the same and keeps it.
+fn kept_by_same(other: &Batch, batch: &Batch) -> Option<Digest>
+    ensures { IfSome result (λ digest. digest ≡ batch_digest batch.now) }
+{
+    if other == batch {
+        other.kept_digest()
+    } else {
+        None
+    }
+}
+
+/// The same of one that may be there.
+fn kept_by(other: Option<&Batch>, batch: &Batch) -> Option<Digest>
+    ensures { IfSome result (λ digest. digest ≡ batch_digest batch.now) }
+{
+    kept_by_same(other?, batch)
+}
+
+/// This batch, which keeps its digest. It is hashed where it is not known.
+fn keeping(batch: Batch, known: Option<Digest>) -> Batch
+    requires hashed { CanDigest batch }
+    requires known { IfSome known (λ digest. digest ≡ batch_digest batch) }
+    ensures { result ≡ batch }
+{
+    match known {
+        Some(digest) => batch.with_digest(digest),
+        None => {
+            let mut kept = batch;
+            kept.keep_digest();
+            kept
+        }
+    }
+}
+
+/// These batches, each of which keeps its digest. It is hashed where it is not that of the same batch with the same index among others.
+pub(crate) fn digested_beside(
+    alloc: Global,
+    batches: Items<Batch>,
+    others: &[Batch],
+) -> Result<Items<Batch>, NoMemory>
+    requires { AllByRecursion CanDigest batches }
+    ensures { IfOk result (λ kept. kept ≡ batches) }
+{
+    let mut kept = Items::new(alloc);
+    for batch in batches.into_vec() {
+        let known = kept_by(others.get(kept.len()), &batch);
+        kept.push(keeping(batch, known))?;
+    }
+    Ok(kept)
+}
