@@ -3,7 +3,7 @@
 use mb_base::{Client, Counter, Digest, Host, Items, Key, Pos, Seq, Shape, View};
 
 /// A host or a client.
-#[derive(Clone, Copy, Debug, PartialEq, Eq)]
+#[derive(Clone, Copy, PartialEq, Eq)]
 pub enum Name {
     Host(Host),
     Client(Client),
@@ -11,7 +11,7 @@ pub enum Name {
 
 /// What happens in the system of all hosts and clients. A message is named by its number, from 1, in the order in which messages are made.
 /// Operations and results have at most 1,024 bytes.
-#[derive(Debug, PartialEq, Drop)]
+#[derive(PartialEq, Drop)]
 pub enum WorldEvent {
     /// A client asks for an operation. Its REQUEST is a new message.
     Ask {
@@ -97,7 +97,7 @@ pub enum WorldEvent {
 }
 
 /// A recorded schedule.
-#[derive(Debug, PartialEq, Drop)]
+#[derive(PartialEq, Drop)]
 pub struct Schedule {
     pub shape: Shape,
     pub secret: Key,
