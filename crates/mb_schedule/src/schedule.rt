@@ -3,7 +3,7 @@
 use mb_base::{Client, Counter, Digest, Host, Items, Key, Pos, Seq, Shape, View};
 
 /// A host or a client.
-#[derive(Clone, Copy, PartialEq, Eq)]
+#[derive(Clone, Copy, Debug, PartialEq, Eq)]
 pub enum Name {
     Host(Host),
     Client(Client),
