@@ -18,7 +18,7 @@ pub type Digest = [u8; 32];
 pub type Key = [u8; 32];
 
 /// The unique identifier of a message: the counter that the sender's USIG bound to it, and the certificate of that.
-#[derive(Clone, Copy, Debug, PartialEq, Eq)]
+#[derive(Clone, Copy, PartialEq, Eq)]
 pub struct Ui {
     pub host: Host,
     pub counter: Counter,

@@ -8,7 +8,7 @@ use crate::names::{Host, View};
 /// The size of a system: n = 2f+1 hosts, of which f may be faulty, a checkpoint at each k-th position, and some clients.
 ///
 /// f is 1 to 3, k is 4 to 32, and there are 1 to 64 clients.
-#[derive(Clone, Copy, Debug, PartialEq, Eq)]
+#[derive(Clone, Copy, PartialEq, Eq)]
 pub struct Shape {
     f: u8,
     k: u8,

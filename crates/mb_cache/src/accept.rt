@@ -3,7 +3,7 @@
 use mb_base::{Pos, Seq};
 
 /// What a request's number says, against that of its client's last executed request, which is 0 before the first.
-#[derive(Clone, Copy, Debug, PartialEq, Eq)]
+#[derive(Clone, Copy, PartialEq, Eq)]
 pub enum Accept {
     /// It is above it.
     Fresh,

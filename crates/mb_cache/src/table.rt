@@ -17,7 +17,7 @@ use std::marker::Model;
 /// For each client its last executed request: beside the service's state, what `state_of` finds in a host's history.
 ///
 /// Contracts see the list of these requests, by client.
-#[derive(Debug, Drop)]
+#[derive(Drop)]
 pub struct Table {
     replies: Vec<LastReply>,
 }

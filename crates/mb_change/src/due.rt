@@ -5,7 +5,7 @@ use mb_base::{Host, Pos, View};
 use mb_parts::{Floor, Phase};
 
 /// What is due of view changes.
-#[derive(Clone, Copy, Debug, PartialEq, Eq)]
+#[derive(Clone, Copy, PartialEq, Eq)]
 pub enum ChangeDue {
     Nothing,
     /// VIEW_CHANGE to a view.

@@ -3,7 +3,7 @@
 use mb_base::{Pos, Seq};
 
 /// What becomes of a reply that a client is given.
-#[derive(Clone, Copy, Debug, PartialEq, Eq)]
+#[derive(Clone, Copy, PartialEq, Eq)]
 pub enum Taken {
     /// It was counted, or dropped where a reply of its host is counted already. Fewer than f+1 hosts agree with it.
     Waiting {

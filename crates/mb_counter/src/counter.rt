@@ -6,7 +6,7 @@ use std::alloc::Global;
 use std::marker::Model;
 
 /// A count. Contracts see the number.
-#[derive(Debug, Drop)]
+#[derive(Drop)]
 pub struct Counter {
     pub(crate) total: u64,
 }

@@ -7,7 +7,7 @@ ghost use Rattle.mb_counter.specs.Operations.{kind_and_operation_at, operation_o
 use mb_base::{Fields, Short};
 
 /// What the bytes of an operation ask for.
-#[derive(Clone, Copy, Debug)]
+#[derive(Clone, Copy)]
 pub(crate) enum Operation {
     /// To count so many more.
     Add { amount: u64 },

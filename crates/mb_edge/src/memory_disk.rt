@@ -12,7 +12,7 @@ use std::alloc::{AllocError, Global};
 use std::marker::Model;
 
 /// A call that changed what stands on the disk.
-#[derive(Debug, Drop)]
+#[derive(Drop)]
 pub(crate) enum Done {
     Written { at: u64, bytes: Items<u8> },
     Synced,
@@ -20,7 +20,7 @@ pub(crate) enum Done {
 
 /// A file in memory as a disk. It keeps what its calls did, and so tells each moment. Calls fail by their number. A write that fails leaves the
 /// first half of its bytes, and zeros for the rest, where there is memory for that; other calls that fail do nothing.
-#[derive(Debug, Drop)]
+#[derive(Drop)]
 pub struct MemoryDisk {
     alloc: Global,
     first: Items<u8>,

@@ -8,7 +8,7 @@ use mb_base::{Counter, Host, Shape, Ui};
 use mb_usig::{Pen, Usig};
 
 /// A certificate that verifies, and that its host did not stamp at its counter.
-#[derive(Clone, Copy, Debug, PartialEq, Eq)]
+#[derive(Clone, Copy, PartialEq, Eq)]
 pub struct ForgedClaim {
     pub host: Host,
     pub counter: Counter,

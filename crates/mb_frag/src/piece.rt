@@ -11,7 +11,7 @@ use mb_base::{BadField, Fields, Items, NoMemory, put_bytes, put_u8, put_u16, put
 use std::alloc::Global;
 
 /// Which piece of which message it is.
-#[derive(Clone, Copy, Debug)]
+#[derive(Clone, Copy)]
 pub(crate) struct Header {
     pub(crate) sender: u8,
     /// Which of the sender's messages.

@@ -1,7 +1,7 @@
 //! What a push answers.
 
 /// What came of a datagram that was pushed.
-#[derive(Clone, Copy, Debug, PartialEq, Eq)]
+#[derive(Clone, Copy, PartialEq, Eq)]
 pub enum Pushed {
     /// The piece was taken, and the message isn't whole yet.
     NotYet {

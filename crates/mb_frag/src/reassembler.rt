@@ -9,7 +9,7 @@ use std::alloc::Global;
 use std::marker::Model;
 
 /// Puts the messages of one sender together, one after the other. It has room for the longest message from the start.
-#[derive(Debug, Drop)]
+#[derive(Drop)]
 pub struct Reassembler {
     stage: Stage,
     bytes: Vec<u8>,

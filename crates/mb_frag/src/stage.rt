@@ -6,7 +6,7 @@ ghost use Rattle.mb_frag.specs.Stages.{next_index, goes_on};
 use crate::piece::Header;
 
 /// How far a message has come.
-#[derive(Clone, Copy, Debug)]
+#[derive(Clone, Copy)]
 pub(crate) enum Stage {
     /// No piece has come yet.
     Empty,

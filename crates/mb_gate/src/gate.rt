@@ -14,7 +14,7 @@ use mb_parts::{Floor, Mark, Phase};
 /// may not closes the gate for good.
 ///
 /// The caller passes marks of messages whose identifier is the sender's and verifies.
-#[derive(Clone, Copy, Debug, PartialEq, Eq)]
+#[derive(Clone, Copy, PartialEq, Eq)]
 pub struct Gate {
     shape: Shape,
     sender: Host,

@@ -9,7 +9,7 @@ ghost use Rattle.mb_gate.specs.Marks.{IsMarkOf, is_stamped_kind};
 use mb_parts::Mark;
 
 /// The kinds of messages that are stamped, in the order of their rules.
-#[derive(Clone, Copy, Debug)]
+#[derive(Clone, Copy)]
 pub(crate) enum Kind {
     ViewChange,
     NewView,

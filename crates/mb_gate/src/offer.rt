@@ -5,7 +5,7 @@ use mb_base::Counter;
 /// What a gate answers to a stamped message of its sender: the first that fits of `Convicted`, `Stale`, `Ahead`, `Illegal` and `Next`.
 ///
 /// `next` is the counter that the gate waits for. It is told as 2^64 - 1 where no counter is left.
-#[derive(Clone, Copy, Debug, PartialEq, Eq)]
+#[derive(Clone, Copy, PartialEq, Eq)]
 pub enum Offer {
     /// The message has the next counter, and the rule of its kind lets it stand there.
     Next,

@@ -9,7 +9,7 @@ use mb_base::Pos;
 use mb_parts::Floor;
 
 /// Where a sender stood behind the last two of its CHECKPOINTs.
-#[derive(Clone, Copy, Debug, PartialEq, Eq)]
+#[derive(Clone, Copy, PartialEq, Eq)]
 pub(crate) struct Recent {
     last: Option<Floor>,
     before: Option<Floor>,

@@ -57,7 +57,7 @@ impl From<NoMemory> for MakeStop {
 }
 
 /// A journal that was opened, and the events that it holds.
-#[derive(Debug, Drop)]
+#[derive(Drop)]
 pub struct Opened {
     pub journal: Journal,
     pub events: Vec<Event>,

@@ -15,7 +15,7 @@ use mb_service::{PARTS, Restore, Service};
 use std::alloc::Global;
 
 /// What became of a STATE.
-#[derive(Clone, Copy, Debug, PartialEq, Eq)]
+#[derive(Clone, Copy, PartialEq, Eq)]
 pub enum Fetched {
     /// The first part whose digest is another than the certified one. 65 is the list of digests. The same parts are held.
     WrongDigest { part: u8 },

@@ -3,7 +3,7 @@
 use mb_base::Items;
 
 /// What is kept under a key.
-#[derive(Debug, Drop)]
+#[derive(Drop)]
 pub(crate) struct Kept {
     /// The key's bucket, which is hashed once.
     pub(crate) bucket: u8,

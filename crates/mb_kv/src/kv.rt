@@ -17,7 +17,7 @@ use std::array;
 use std::marker::Model;
 
 /// Keys with their values. Contracts see the pairs, in rising order of their keys.
-#[derive(Debug, Drop)]
+#[derive(Drop)]
 pub struct Kv {
     /// The pairs, each in the part of its key's bucket.
     pub(crate) parts: [Part; PARTS as usize],

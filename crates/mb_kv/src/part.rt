@@ -12,7 +12,7 @@ use std::collections::BTreeMap;
 use std::marker::Model;
 
 /// The pairs of one part. Contracts see them in rising order of their keys.
-#[derive(Debug, Drop)]
+#[derive(Drop)]
 pub(crate) struct Part {
     pairs: BTreeMap<Vec<u8>, Kept>,
     /// The digest of its text, where it was hashed and no pair changed since.

@@ -9,7 +9,7 @@ use std::alloc::Global;
 use std::collections::BTreeMap;
 
 /// That a host's state has a digest.
-#[derive(Clone, Copy, Debug, PartialEq, Eq)]
+#[derive(Clone, Copy, PartialEq, Eq)]
 struct Said {
     host: Host,
     state: Digest,

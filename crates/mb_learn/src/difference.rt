@@ -3,7 +3,7 @@
 use mb_base::{Digest, Pos};
 
 /// The digest that was found at a position, and the one that f+1 hosts say.
-#[derive(Clone, Copy, Debug, PartialEq, Eq)]
+#[derive(Clone, Copy, PartialEq, Eq)]
 pub(crate) struct Difference {
     pub(crate) pos: Pos,
     pub(crate) found: Digest,

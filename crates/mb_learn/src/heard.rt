@@ -19,7 +19,7 @@ use mb_usig::Usig;
 use std::alloc::Global;
 
 /// An OPEN in the list of its host.
-#[derive(Clone, Copy, Debug, PartialEq, Eq)]
+#[derive(Clone, Copy, PartialEq, Eq)]
 pub(crate) struct Opening {
     pub(crate) host: Host,
     pub(crate) view: View,

@@ -19,7 +19,7 @@ const SUMMAND: u64 = 1_442_695_040_888_963_407;
 const FAULTY: Host = 2;
 
 /// A generator of events. Each draw takes one step of a linear congruence.
-#[derive(Clone, Copy, Debug, PartialEq, Eq)]
+#[derive(Clone, Copy, PartialEq, Eq)]
 pub struct Maker {
     /// Where the linear congruence stands.
     x: u64,

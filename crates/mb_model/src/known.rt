@@ -4,7 +4,7 @@ use mb_base::{Counter, Digest, Items, Pos, Seq};
 use mb_msg::Batch;
 
 /// A vote: for the batch with this digest, as the primary ordered it at this counter.
-#[derive(Clone, Copy, Debug, PartialEq, Eq)]
+#[derive(Clone, Copy, PartialEq, Eq)]
 pub struct Vote {
     /// The primary's counter.
     pub counter: Counter,
@@ -13,7 +13,7 @@ pub struct Vote {
 }
 
 /// What is known of a position: how the primary ordered it, and the batch where it came whole.
-#[derive(Debug, PartialEq, Drop)]
+#[derive(PartialEq, Drop)]
 pub struct KnownSlot {
     /// The primary's counter.
     pub counter: Counter,
@@ -26,7 +26,7 @@ pub struct KnownSlot {
 }
 
 /// A client's last executed request: its number, its position, and its result. The number is 0 before the first.
-#[derive(Debug, PartialEq, Drop)]
+#[derive(PartialEq, Drop)]
 pub struct LastReply {
     pub seq: Seq,
     pub pos: Pos,

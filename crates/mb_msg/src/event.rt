@@ -4,7 +4,7 @@ use mb_base::{Client, Counter, Host, Items, Pos, Seq, View};
 use mb_parts::Request;
 
 /// What happens to a host.
-#[derive(Debug, PartialEq, Drop)]
+#[derive(PartialEq, Drop)]
 pub enum Event {
     /// These bytes came.
     Given(Items<u8>),
@@ -15,7 +15,7 @@ pub enum Event {
 }
 
 /// What became of an event: the first that fits, in the order of the checks.
-#[derive(Clone, Copy, Debug, PartialEq, Eq)]
+#[derive(Clone, Copy, PartialEq, Eq)]
 pub enum Outcome {
     /// The bytes are no message. `at` is the offset of the first field that is short or has a value that isn't allowed.
     Malformed { at: usize },
@@ -56,7 +56,7 @@ pub enum Outcome {
 }
 
 /// To whom a message is sent.
-#[derive(Clone, Copy, Debug, PartialEq, Eq)]
+#[derive(Clone, Copy, PartialEq, Eq)]
 pub enum To {
     /// Each other host.
     All,
@@ -65,28 +65,28 @@ pub enum To {
 }
 
 /// A message that is sent, as its bytes.
-#[derive(Debug, PartialEq, Drop)]
+#[derive(PartialEq, Drop)]
 pub struct Sent {
     pub to: To,
     pub bytes: Items<u8>,
 }
 
 /// A request of a slot. It is fresh where its number was above its client's last one, and else it changed nothing.
-#[derive(Debug, PartialEq, Drop)]
+#[derive(PartialEq, Drop)]
 pub struct Placed {
     pub request: Request,
     pub fresh: bool,
 }
 
 /// The requests of a batch at its place in the one list.
-#[derive(Debug, PartialEq, Drop)]
+#[derive(PartialEq, Drop)]
 pub struct Slot {
     pub pos: Pos,
     pub requests: Items<Placed>,
 }
 
 /// What one event brought about at a host: messages in the order in which they were made, and slots in the order in which they were executed.
-#[derive(Debug, PartialEq, Drop)]
+#[derive(PartialEq, Drop)]
 pub struct Step {
     pub outcome: Outcome,
     pub sent: Items<Sent>,

@@ -11,7 +11,7 @@ use std::alloc::{AllocError, Global};
 use std::marker::Model;
 
 /// A part of a message. Contracts see the part. Beside it stands the digest of its bytes, where somebody had it taken.
-#[derive(Debug, Drop)]
+#[derive(Drop)]
 pub struct Hashed<T: Part> {
     part: T,
     digest: Option<Digest>,

@@ -7,14 +7,14 @@ use mb_base::Digest;
 use mb_parts::Request;
 
 /// A part that travels whole, or as its SHA-256 digest.
-#[derive(Debug, PartialEq, Drop)]
+#[derive(PartialEq, Drop)]
 pub enum Body<T> {
     Whole(T),
     Bare(Digest),
 }
 
 /// Any message.
-#[derive(Debug, PartialEq, Drop)]
+#[derive(PartialEq, Drop)]
 pub enum Message {
     Request(Request),
     Prepare(Prepare),

@@ -4,7 +4,7 @@ use crate::change::{BareNewView, BareViewChange, Enter, Join, NewView, Open, Vie
 use crate::normal::{BareCheckpoint, Checkpoint, Commit, Prepare};
 
 /// A message that a host's USIG bound to a counter.
-#[derive(Debug, PartialEq, Drop)]
+#[derive(PartialEq, Drop)]
 pub enum Stamped {
     Prepare(Prepare),
     Commit(Commit),
@@ -17,7 +17,7 @@ pub enum Stamped {
 }
 
 /// A stamped message as a VIEW_CHANGE shows it: some kinds by their digests alone.
-#[derive(Debug, PartialEq, Drop)]
+#[derive(PartialEq, Drop)]
 pub enum Shown {
     Prepare(Prepare),
     Commit(Commit),

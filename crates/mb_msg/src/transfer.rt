@@ -5,7 +5,7 @@ use mb_base::{Counter, Digest, Host, Items, Pos};
 use mb_parts::{Evidence, FloorCert, StableCert};
 
 /// A host asks all others for what they stamped and it did not take.
-#[derive(Debug, PartialEq, Drop)]
+#[derive(PartialEq, Drop)]
 pub struct Resend {
     /// Who asks.
     pub host: Host,
@@ -16,7 +16,7 @@ pub struct Resend {
 }
 
 /// What a host stamped, for one that asked.
-#[derive(Debug, PartialEq, Drop)]
+#[derive(PartialEq, Drop)]
 pub struct Log {
     pub host: Host,
     pub floor: Option<FloorCert>,
@@ -27,7 +27,7 @@ pub struct Log {
 }
 
 /// A host asks another for the state at a stable position.
-#[derive(Clone, Copy, Debug, PartialEq, Eq)]
+#[derive(Clone, Copy, PartialEq, Eq)]
 pub struct Fetch {
     /// Who asks.
     pub host: Host,
@@ -40,7 +40,7 @@ pub struct Fetch {
 }
 
 /// Some parts of the state at a position.
-#[derive(Debug, PartialEq, Drop)]
+#[derive(PartialEq, Drop)]
 pub struct StateMsg {
     pub host: Host,
     pub pos: Pos,

@@ -11,7 +11,7 @@ use mb_votes::Vote;
 const AHEAD: u64 = 4;
 
 /// What is due of the normal case.
-#[derive(Clone, Copy, Debug, PartialEq, Eq)]
+#[derive(Clone, Copy, PartialEq, Eq)]
 pub enum Due {
     Nothing,
     /// COMMIT the slot of a position.

@@ -104,6 +104,9 @@ fn as_reply(message: Message) -> Result<Reply, Outcome>
 {
     match message {
         Message::Reply(reply) => Ok(reply),
-        _ => Err(Outcome::Idle),
+        other => {
+            drop(other);
+            Err(Outcome::Idle)
+        }
     }
 }

@@ -23,7 +23,7 @@ use sha2::{Digest as Hasher, Sha256};
 use std::alloc::{AllocError, Global};
 
 /// The requests of one position, in order: 1 to 16, together at most 2,048 bytes.
-#[derive(Debug, PartialEq, Drop)]
+#[derive(PartialEq, Drop)]
 pub struct Batch {
     pub requests: Requests,
 }

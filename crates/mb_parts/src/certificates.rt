@@ -4,7 +4,7 @@ use crate::floor::Floor;
 use mb_base::{Counter, Digest, Host, Items, Pos, View};
 
 /// One host's CHECKPOINT in a stable certificate.
-#[derive(Clone, Copy, Debug, PartialEq, Eq)]
+#[derive(Clone, Copy, PartialEq, Eq)]
 pub struct StableMember {
     pub host: Host,
     pub counter: Counter,
@@ -15,7 +15,7 @@ pub struct StableMember {
 
 /// f+1 CHECKPOINTs, of rising hosts, at one position with one state digest.
 /// Position 0 needs none: there the digest is 32 zero bytes.
-#[derive(Debug, PartialEq, Drop)]
+#[derive(PartialEq, Drop)]
 pub struct StableCert {
     pub pos: Pos,
     pub state: Digest,
@@ -23,7 +23,7 @@ pub struct StableCert {
 }
 
 /// One host's whole CHECKPOINT in a floor certificate.
-#[derive(Debug, PartialEq, Drop)]
+#[derive(PartialEq, Drop)]
 pub struct FloorMember {
     pub host: Host,
     pub counter: Counter,
@@ -34,7 +34,7 @@ pub struct FloorMember {
 
 /// f+1 whole CHECKPOINTs, of rising hosts, at one position with one state digest.
 /// Where they agree on a host's floor, that host's log may begin behind it.
-#[derive(Debug, PartialEq, Drop)]
+#[derive(PartialEq, Drop)]
 pub struct FloorCert {
     pub pos: Pos,
     pub state: Digest,
@@ -42,7 +42,7 @@ pub struct FloorCert {
 }
 
 /// One backup's ENTER in the evidence of a view.
-#[derive(Clone, Copy, Debug, PartialEq, Eq)]
+#[derive(Clone, Copy, PartialEq, Eq)]
 pub struct EvidenceMember {
     pub host: Host,
     pub counter: Counter,
@@ -50,7 +50,7 @@ pub struct EvidenceMember {
 }
 
 /// A view's NEW_VIEW, and the ENTERs of f backups, of rising hosts, that answer it.
-#[derive(Debug, PartialEq, Drop)]
+#[derive(PartialEq, Drop)]
 pub struct Evidence {
     /// At least 1.
     pub view: View,

@@ -15,7 +15,7 @@ use mb_base::{Counter, Fields, NoMemory, Pos, Shape, View, put_u8, put_u64};
 use std::alloc::Global;
 
 /// Where a host stands in its view: it left the view before, it takes part in the change, or the view is open for it.
-#[derive(Clone, Copy, Debug, PartialEq, Eq)]
+#[derive(Clone, Copy, PartialEq, Eq)]
 pub enum Phase {
     Changing,
     Entered,
@@ -23,7 +23,7 @@ pub enum Phase {
 }
 
 /// How far a host's stamped messages were taken, right after one of its CHECKPOINTs.
-#[derive(Clone, Copy, Debug, PartialEq, Eq)]
+#[derive(Clone, Copy, PartialEq, Eq)]
 pub struct Floor {
     /// The counter of that CHECKPOINT.
     pub counter: Counter,
@@ -38,7 +38,7 @@ pub struct Floor {
 }
 
 /// What is read of a stamped message to see whether it comes in order. A field that the kind does not have is 0.
-#[derive(Clone, Copy, Debug, PartialEq, Eq)]
+#[derive(Clone, Copy, PartialEq, Eq)]
 pub struct Mark {
     /// The first byte of the message.
     pub kind: u8,

@@ -27,7 +27,7 @@ use std::alloc::{AllocError, Global};
 
 /// A client's request, with the tag under the key that the client shares with the hosts' trusted parts.
 /// The operation has at most 1,024 bytes, and the number is at least 1.
-#[derive(Debug, PartialEq, Drop)]
+#[derive(PartialEq, Drop)]
 pub struct Request {
     pub client: Client,
     pub seq: Seq,

@@ -9,7 +9,7 @@ use std::alloc::{AllocError, Global};
 use std::marker::Model;
 
 /// Requests in order. Contracts see the list of them. Beside it stands the digest of the batch that they are, where somebody had it taken.
-#[derive(Debug, Drop)]
+#[derive(Drop)]
 pub struct Requests {
     items: Items<Request>,
     digest: Option<Digest>,

@@ -26,7 +26,7 @@ pub const MAX_CONFIG: usize = 16_777_216;
 const FIRST_OP_LINE: u32 = 7;
 
 /// What a cluster runs: its system, and the operations that its client program asks for, in order.
-#[derive(Debug, PartialEq, Drop)]
+#[derive(PartialEq, Drop)]
 pub struct Config {
     pub shape: Shape,
     pub secret: Key,

@@ -33,7 +33,7 @@ pub const MAX_RECORD: usize = 67_108_864;
 const FIRST_ENTRY_LINE: u32 = 8;
 
 /// What one host was given, in order, and what it sent each time.
-#[derive(Debug, PartialEq, Drop)]
+#[derive(PartialEq, Drop)]
 pub struct Record {
     /// The settings of the system, without operations.
     pub config: Config,
@@ -43,7 +43,7 @@ pub struct Record {
 }
 
 /// An event of a host, and the messages that it sent then.
-#[derive(Debug, PartialEq, Drop)]
+#[derive(PartialEq, Drop)]
 pub struct Entry {
     pub event: Event,
     /// How many messages it sent.

@@ -4,7 +4,7 @@ use mb_base::{Client, Host, Items, Pos, Seq, View};
 use mb_msg::{Phase, Slot};
 
 /// A report, line by line.
-#[derive(Debug, PartialEq, Drop)]
+#[derive(PartialEq, Drop)]
 pub struct Report {
     /// The number of events.
     pub events: u64,
@@ -21,7 +21,7 @@ pub struct Report {
 }
 
 /// The name of an outcome of a refused event.
-#[derive(Clone, Copy, Debug, PartialEq, Eq)]
+#[derive(Clone, Copy, PartialEq, Eq)]
 pub enum Word {
     Malformed,
     BadUi,
@@ -41,7 +41,7 @@ pub enum Word {
 }
 
 /// An event that was refused: its number from 1, the outcome's name, and the outcome's numbers in the order of its fields.
-#[derive(Debug, PartialEq, Drop)]
+#[derive(PartialEq, Drop)]
 pub struct RefusedLine {
     pub event: u64,
     pub name: Word,
@@ -49,14 +49,14 @@ pub struct RefusedLine {
 }
 
 /// A host, and where it stands. A faulty one has no state.
-#[derive(Debug, PartialEq, Drop)]
+#[derive(PartialEq, Drop)]
 pub struct HostLine {
     pub host: Host,
     pub state: Option<HostState>,
 }
 
 /// Where a correct host stands.
-#[derive(Clone, Copy, Debug, PartialEq, Eq)]
+#[derive(Clone, Copy, PartialEq, Eq)]
 pub struct HostState {
     pub view: View,
     pub phase: Phase,
@@ -71,7 +71,7 @@ pub struct HostState {
 }
 
 /// A client: how many requests it asked, how many results it accepted, and the last accepted one.
-#[derive(Debug, PartialEq, Drop)]
+#[derive(PartialEq, Drop)]
 pub struct ClientLine {
     pub client: Client,
     pub asked: u64,
@@ -80,7 +80,7 @@ pub struct ClientLine {
 }
 
 /// An accepted result.
-#[derive(Debug, PartialEq, Drop)]
+#[derive(PartialEq, Drop)]
 pub struct LastResult {
     pub seq: Seq,
     pub pos: Pos,

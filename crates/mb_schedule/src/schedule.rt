@@ -11,7 +11,7 @@ pub enum Name {
 
 /// What happens in the system of all hosts and clients. A message is named by its number, from 1, in the order in which messages are made.
 /// Operations and results have at most 1,024 bytes.
-#[derive(Debug, PartialEq, Drop)]
+#[derive(PartialEq, Drop)]
 pub enum WorldEvent {
     /// A client asks for an operation. Its REQUEST is a new message.
     Ask {
@@ -97,7 +97,7 @@ pub enum WorldEvent {
 }
 
 /// A recorded schedule.
-#[derive(Debug, PartialEq, Drop)]
+#[derive(PartialEq, Drop)]
 pub struct Schedule {
     pub shape: Shape,
     pub secret: Key,

@@ -15,7 +15,7 @@ const MAX_BUDGET: u64 = 1_000_000;
 const LAST_HOST: u64 = 6;
 
 /// What the words ask for.
-#[derive(Clone, Copy, Debug, PartialEq, Eq)]
+#[derive(Clone, Copy, PartialEq, Eq)]
 pub enum Command {
     /// A schedule is run and reported on.
     Replay,

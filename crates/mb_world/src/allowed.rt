@@ -281,7 +281,10 @@ impl<V: Service + Drop> World<V> {
         };
         match message.into_stamped() {
             Ok(content) => Ok(Some(content)),
-            Err(_) => Err(WorldStop::WrongKind { number }),
+            Err(other) => {
+                drop(other);
+                Err(WorldStop::WrongKind { number })
+            }
         }
     }
 
@@ -391,7 +394,11 @@ impl<V: Service + Drop> World<V> {
             return Ok(None);
         }
         match self.read_bytes(alloc, bytes)? {
-            Some(message) => self.check_forged(alloc, &message),
+            Some(message) => {
+                let found = self.check_forged(alloc, &message);
+                drop(message);
+                found
+            }
             None => Ok(None),
         }
     }

@@ -7,7 +7,7 @@ use mb_schedule::Name;
 use std::alloc::AllocError;
 
 /// What an event answers.
-#[derive(Clone, Copy, Debug, PartialEq, Eq)]
+#[derive(Clone, Copy, PartialEq, Eq)]
 pub enum Seen {
     Host(Outcome),
     Client(Taken),
