@@ -128,8 +128,8 @@ module _ (c : Config) (host : ℕ) where
 
 -- A host that stands behind a journal's events, with their entries, resumes: it serves behind these events, whichever they are.
 abbrev pub Resumes : Config → ℕ → List Entry → Replica Pairs → JournalState → ℕ → Result (Unit {0}) ServeStop → Device → Device → LinkState → LinkState → DiskState → DiskState → Type 0
-Resumes c host entries replica journal budget ended sink sink' l l' opened after =
-    (kept : List Event) → IsReplayed (host_of c host) [] (reverse kept) entries replica → ServesMore c host kept journal budget (served_status ended) sink sink' l l' opened after
+Resumes c host entries replica journal budget ended sink sink' l l' between after =
+    (kept : List Event) → IsReplayed (host_of c host) [] (reverse kept) entries replica → ServesMore c host kept journal budget (served_status ended) sink sink' l l' between after
 
 -- The journal of a host of the config's system is opened, and the host serves behind its events; or it is no journal, or the disk fails or memory runs out;
 -- or the system has no such host.
