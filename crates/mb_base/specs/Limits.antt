@@ -1,5 +1,6 @@
--- The limits of the system. Each stands here alone. Definitions and proofs cite it by its name; that the constants of the code are the same numbers is said
--- by the contracts that cite both, and by the law `limits_are_those_defined` of `mb_parts`.
+-- The limits of the system, each once. Definitions and proofs cite it by its name; that the constants of the code are the same numbers is said by the
+-- contracts that cite both, and by the laws `limits_are_those_defined` of `mb_parts` and `service_limits_are_those_defined` of `mb_service`. What limits one
+-- format alone (a datagram's piece, the store's keys and values, the longest text) is a constant of that format's crate, which definitions cite by its name.
 use Rattle.std.specs.Prelude.{ℕ, ◌+◌, ◌*◌}
 
 -- ---- how large a system is
@@ -7,6 +8,14 @@ use Rattle.std.specs.Prelude.{ℕ, ◌+◌, ◌*◌}
 -- the most hosts that may be faulty: there are 3, 5 or 7 hosts
 abbrev pub most_faults : ℕ
 most_faults = 3
+
+-- the most hosts
+abbrev pub most_hosts : ℕ
+most_hosts = 2 * most_faults + 1
+
+-- the greatest number of a host
+abbrev pub last_host : ℕ
+last_host = 2 * most_faults
 
 -- the fewest positions from one checkpoint to the next
 abbrev pub least_interval : ℕ
@@ -81,6 +90,32 @@ part_count = service_parts + 1
 abbrev pub table_part : ℕ
 table_part = service_parts
 
+-- the most bytes of one
+abbrev pub part_limit : ℕ
+part_limit = 4000000
+
+-- how many snapshots of all parts a host holds: that of its stable checkpoint, and of the two intervals above it
+abbrev pub snapshot_limit : ℕ
+snapshot_limit = 3
+
 -- The most bytes of the parts of a STATE, where there are several.
 abbrev pub part_bytes_limit : ℕ
 part_bytes_limit = 65536
+
+-- ---- what a command does at most
+
+-- the most events of a soak
+abbrev pub soak_limit : ℕ
+soak_limit = 100000
+
+-- the most receives of a node, and of a cluster's clients
+abbrev pub receive_limit : ℕ
+receive_limit = 1000000
+
+-- how often a cluster asks its nodes to stop
+abbrev pub stop_limit : ℕ
+stop_limit = 3
+
+-- The most rules that a host carries out behind one event. It is never reached.
+abbrev pub rule_limit : ℕ
+rule_limit = 1000000
