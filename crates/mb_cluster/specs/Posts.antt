@@ -1,6 +1,7 @@
 -- What the client program sends: each message goes to every host, under a number of its own.
 use Rattle.std.specs.Prelude.{◌≡◌, ℕ, ◌+◌, ◌%◌, ◌^◌, ◌⊎◌, List, [], ◌∷◌, ◌++◌, map, replicate, is_none}
 use Rattle.std.specs.List.{flat_map, range_with_len, count_by}
+use Rattle.mb_base.specs.Limits.{stop_limit}
 use Rattle.mb_base.specs.Shapes.{Bytes}
 use Rattle.mb_usig.specs.Tags.{stop_tag}
 use Rattle.mb_msg.specs.declared.message.Message.TheVariants.{Request, Stop}
@@ -66,9 +67,9 @@ stop_bytes secret = spelling (Stop (record { tag = stop_tag secret }))
 abbrev pub stop_datagram : Bytes → ℕ → Bytes
 stop_datagram secret number = datagram_of (record { sender = program; number = number; index = 0; count = 1 }) (stop_bytes secret)
 
--- STOP, three times
+-- STOP, so often
 abbrev pub stops : Bytes → List Bytes
-stops secret = replicate 3 (stop_bytes secret)
+stops secret = replicate stop_limit (stop_bytes secret)
 
 -- ---- where sends fail
 

@@ -1,6 +1,7 @@
 -- A batch whose requests are all served is executed: what a replica stands for behind it, and the CHECKPOINT that follows.
 use Rattle.std.proofs.Common.{◌≡◌, ◌<◌, ◌≤◌, ◌∙◌, ◌++◌, ℕ, Bool, true, false, List, [], ◌∷◌, refl, ap, sym, subst, length, None}
 use Rattle.std.specs.Prelude.{◌==◌, ◌%◌}
+use Rattle.mb_base.specs.Limits.{snapshot_limit}
 use Rattle.mb_base.specs.declared.shape.Shape.{Shape}
 use Rattle.mb_base.specs.Shapes.{Bytes, interval}
 use Rattle.mb_msg.specs.declared.event.Placed.{Placed}
@@ -71,7 +72,7 @@ module _ {V : Type 0} (me : Identity V) where
     pub none_above : (other : ℕ) → pos ≤ other → parts_at old.keeper.snapshots other ≡ None
     none_above other le = none_kept_above me old.keeper.snapshots (slot_for me x.history pos) x.history rep.tables.sound adds_on rep.tables.shelf other le
 
-    pub has_place : length old.keeper.snapshots < 3
+    pub has_place : length old.keeper.snapshots < snapshot_limit
     has_place = place_left me old.keeper.snapshots (slot_for me x.history pos) x.history rep.tables.sound adds_on rep.tables.shelf
 
     at_multiple : (b : Bool) → (pos % interval old.agreement.shape == 0) ≡ b → (pos % interval me.shape == 0) ≡ b

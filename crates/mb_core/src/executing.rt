@@ -1,6 +1,7 @@
 //! Executing the batch of a position, and the CHECKPOINT behind a multiple of the interval.
 
 ghost use Rattle.std.specs.Prelude.{ℕ, true, List, [], ◌∷◌, Some, None, OnOk, ◌≡◌, IfOk, ◌<◌, ◌≤◌, ◌%◌, ◌==◌, length};
+ghost use Rattle.mb_base.specs.Limits.{snapshot_limit};
 ghost use Rattle.mb_base.specs.Shapes.{client_count, interval};
 ghost use Rattle.mb_parts.specs.declared.request.Request.{Request as RequestValue};
 ghost use Rattle.mb_parts.specs.declared.batch.Batch.{Batch as BatchValue};
@@ -129,7 +130,7 @@ fn keep_at_interval<V: Service + Drop>(
     pos: Pos,
 ) -> Result<(), NoMemory>
     requires above { (other : ℕ) → pos ≤ other → parts_at replica.old.keeper.snapshots other ≡ None }
-    requires room { length replica.old.keeper.snapshots < 3 }
+    requires room { length replica.old.keeper.snapshots < snapshot_limit }
     ensures writes { OnOk result (WritesShelf replica.old replica.new) }
     ensures kept { OnOk result (KeepsSnapshot (snapshots_of V.machine) pos replica.old replica.new) }
 {

@@ -7,7 +7,7 @@ use Rattle.std.specs.List.{range_with_len, list_all}
 use Rattle.std.specs.Option.{option_or}
 use Rattle.std.proofs.lemmas.Bool.{cases_lt, and_parts, eqb-true, leb-true, ne_eqb, eq-eqb}
 use Rattle.std.proofs.Math.Nat.{div-add-mod, mul-le-mul_left, mul-suc}
-use Rattle.mb_base.specs.Limits.{part_count}
+use Rattle.mb_base.specs.Limits.{part_count, snapshot_limit}
 use Rattle.mb_base.specs.Shapes.{Bytes, interval, span}
 use Rattle.mb_usig.specs.Tags.{same_bytes}
 use Rattle.mb_msg.specs.declared.event.Outcome.TheVariants as outcome
@@ -90,7 +90,7 @@ module _ {S : Type 0} (self : Identity S) where
         placed : (p : ℕ) (x : List Bytes) → parts_at shelf p ≡ Some x → (low_of self d ≤ p) × (p < pos) × (p % interval self.shape ≡ 0)
         placed p x e = let of = is_of p x e in (of.from_low, below p of.executed.0 of.executed.1, of.multiple)
 
-        few : (l : List Snapshot) → IsRising l → ((p : ℕ) (x : List Bytes) → parts_at l p ≡ Some x → (low_of self d ≤ p) × (p < pos) × (p % interval self.shape ≡ 0)) → length l < 3
+        few : (l : List Snapshot) → IsRising l → ((p : ℕ) (x : List Bytes) → parts_at l p ≡ Some x → (low_of self d ≤ p) × (p < pos) × (p % interval self.shape ≡ 0)) → length l < snapshot_limit
         few [] rising all = omega arith
         few (a ∷ []) rising all = omega arith
         few (a ∷ (b ∷ [])) rising all = omega arith

@@ -5,7 +5,7 @@ use Rattle.std.specs.Prelude.{if◌then◌else◌}
 use Rattle.std.specs.List.{filter, AllByRecursion}
 use Rattle.std.proofs.lemmas.Bool.{cases_Bool, or_left, or_right, false_from_ne_true}
 use Rattle.std.proofs.lemmas.List.{length_push, length-map, map_push}
-use Rattle.mb_base.specs.Limits.{part_count}
+use Rattle.mb_base.specs.Limits.{part_count, snapshot_limit}
 use Rattle.mb_base.specs.Shapes.{Bytes}
 use Rattle.mb_fetch.specs.declared.shelved.Keyed.{Keyed}
 use Rattle.mb_fetch.specs.Snapshots.{Snapshot, snapshot}
@@ -21,7 +21,7 @@ none_is p none = record {
   once = λ a b part ea eb. let e = sym (none a) ∙ ea in absurd cc;
 }
 
-pub as_many_seen : (p : ℕ → Option Bytes) (keyed : List Keyed) (shelf : List Snapshot) → seen p keyed ≡ shelf → length shelf < 3 → length keyed < 3
+pub as_many_seen : (p : ℕ → Option Bytes) (keyed : List Keyed) (shelf : List Snapshot) → seen p keyed ≡ shelf → length shelf < snapshot_limit → length keyed < snapshot_limit
 as_many_seen p keyed shelf e room =
     let same = length-map keyed (seen_one p) in
     let all = ap length e in
@@ -69,7 +69,7 @@ module _ (keyed : List Keyed) (p : ℕ → Option Bytes) (is : IsShelf keyed p) 
               | inr here ↦ let both = sym here ∙ new in absurd cc
             ]))
 
-      pub more_is : AddsOnly p q k.keys.items → HoldsOnce q → length keyed < 3 → length parts ≡ part_count → IsShelf (keyed ++ k ∷ []) q
+      pub more_is : AddsOnly p q k.keys.items → HoldsOnce q → length keyed < snapshot_limit → length parts ≡ part_count → IsShelf (keyed ++ k ∷ []) q
       more_is only once room count = record {
         few = let longer = length_push keyed k in omega (arith, longer, room);
         whole = whole_more keyed is.whole (as_many ∙ count);

@@ -3,7 +3,7 @@ use Rattle.std.specs.Prelude.{ℕ, ◌≡◌, ◌+◌, ◌<◌, ◌≤◌, not, 
 use Rattle.std.specs.Bool.{then_some}
 use Rattle.std.specs.List.{range_with_len, list_all}
 use Rattle.std.specs.Option.{option_or, is_some}
-use Rattle.mb_base.specs.Limits.{part_count}
+use Rattle.mb_base.specs.Limits.{part_count, snapshot_limit}
 use Rattle.mb_base.specs.Shapes.{Bytes, span}
 use Rattle.mb_msg.specs.declared.event.Outcome.TheVariants as outcome
 use Rattle.mb_msg.specs.declared.transfer.StateMsg.{StateMsg}
@@ -36,7 +36,7 @@ module _ {S : Type 0} (self : Identity S) where
   -- Where nothing is executed yet at a position of the window or above, its snapshot can be kept.
   pub record SnapshotsAnswerFor (shelf : List Snapshot) (d : History) : Type 0 where
     pub above : (pos : ℕ) → ((p : ℕ) (x : List Bytes) → parts_after self d p ≡ Some x → p < pos) → (p : ℕ) → pos ≤ p → parts_at shelf p ≡ None
-    pub room : (pos : ℕ) → pos ≤ low_of self d + span self.shape → ((p : ℕ) (x : List Bytes) → parts_after self d p ≡ Some x → p < pos) → length shelf < 3
+    pub room : (pos : ℕ) → pos ≤ low_of self d + span self.shape → ((p : ℕ) (x : List Bytes) → parts_after self d p ≡ Some x → p < pos) → length shelf < snapshot_limit
 
 -- in the history of every host, whatever its service is
 pub record TablesAnswer (S : Type 0) : Type 0 where

@@ -2,7 +2,7 @@
 use Rattle.std.specs.Prelude.{ℕ, ◌≡◌, ◌≤◌, ◌⊎◌, ◌==◌, Bool, true, false, ◌||◌, List, [], ◌∷◌, length, map, Option, Some, option_map, unwrap_or, is_some}
 use Rattle.std.specs.List.{flat_map, AllByRecursion}
 use Rattle.slab.specs.Slab.{Slab, get}
-use Rattle.mb_base.specs.Limits.{part_count}
+use Rattle.mb_base.specs.Limits.{part_count, snapshot_limit}
 use Rattle.mb_base.specs.Shapes.{Bytes}
 use Rattle.mb_fetch.specs.declared.shelved.Shelved.{Shelved}
 use Rattle.mb_fetch.specs.declared.shelved.Keyed.{Keyed}
@@ -38,9 +38,9 @@ seen parts keyed = map (seen_one parts) keyed
 abbrev pub HoldsOnce : (ℕ → Option Bytes) → Type 0
 HoldsOnce parts = (a b : ℕ) (part : Bytes) → parts a ≡ Some part → parts b ≡ Some part → a ≡ b
 
--- at most three snapshots of all parts; a part is held exactly where a snapshot has its key, and under one key
+-- at most so many snapshots of all parts; a part is held exactly where a snapshot has its key, and under one key
 pub record IsShelf (keyed : List Keyed) (parts : ℕ → Option Bytes) : Type 0 where
-  pub few : length keyed ≤ 3
+  pub few : length keyed ≤ snapshot_limit
   pub whole : AllByRecursion (λ k. length k.keys.items ≡ part_count) keyed
   pub used : (key : ℕ) → is_some (parts key) ≡ has_key key (all_keys keyed)
   pub once : HoldsOnce parts

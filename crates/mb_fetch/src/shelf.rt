@@ -43,7 +43,7 @@ impl Shelf {
     ghost use Rattle.std.specs.Prelude.{◌≡◌, ◌<◌, ◌≤◌, ◌++◌, ◌∷◌, [], List, ℕ, Option, None, nat_le, is_some, length, option_map, IfOk, OnOk, OnErr};
     ghost use Rattle.std.specs.List.{filter};
     ghost use Rattle.sha2.specs.Sha256.{sha256};
-    ghost use Rattle.mb_base.specs.Limits.{part_count};
+    ghost use Rattle.mb_base.specs.Limits.{part_count, snapshot_limit};
     ghost use Rattle.mb_base.specs.Shapes.{Bytes};
     ghost use Rattle.mb_fetch.specs.Snapshots.{snapshot, parts_at, part_in, all_parts, different, Represents, StandsWith, StandsFrom};
 
@@ -62,7 +62,7 @@ impl Shelf {
     /// already is not held again. After `NoMemory` all is as it was.
     pub fn keep(&mut self, alloc: Global, pos: Pos, parts: Vec<Items<u8>>) -> Result<(), NoMemory>
         requires above { (other : ℕ) → pos ≤ other → parts_at self.old other ≡ None }
-        requires room { length self.old < 3 }
+        requires room { length self.old < snapshot_limit }
         requires whole { length parts.items ≡ part_count }
         ensures ok { OnOk result (self.new ≡ self.old ++ snapshot pos parts.items ∷ []) }
         ensures stands { OnOk result (StandsWith self.old pos parts.items self.new) }

@@ -5,7 +5,7 @@ use Rattle.std.specs.Int.{w64}
 use Rattle.std.specs.List.{AllByRecursion, range_with_len}
 use Rattle.std.specs.Prelude.{map, ◌==◌, nat_lt, slice_get, slice_set}
 use Rattle.std.proofs.lemmas.Bool.{eq-eqb, eqb-true, ltb-true}
-use Rattle.mb_base.specs.Limits.{service_parts}
+use Rattle.mb_base.specs.Limits.{service_parts, part_limit}
 use Rattle.mb_base.specs.Shapes.{Bytes}
 use Rattle.mb_base.specs.Spelling.{number, text16}
 use Rattle.mb_base.specs.Shapes.{IsShape, host_count}
@@ -27,7 +27,7 @@ use Rattle.mb_model.specs.Stable.{low_of}
 use Rattle.mb_searches.specs.Sound.{IsSound}
 use Rattle.mb_fitting.proofs.Sizes.{length16, length64, flat_short}
 use Rattle.mb_fitting.specs.Fitting.{FitsLast, FitsTable, AreFit}
-use Rattle.mb_fitting.proofs.Letters.{part_limit, reply_sent, wish_sent, fetch_sent}
+use Rattle.mb_fitting.proofs.Letters.{reply_sent, wish_sent, fetch_sent}
 use Rattle.mb_fitting.proofs.States.{last_fits}
 
 there_set : (t : List LastReply) (i : ℕ) (a : LastReply) → i < length t → slice_get (slice_set t i a) i ≡ Some a

@@ -7,7 +7,7 @@ use Rattle.std.specs.List.{AllByRecursion, flat_map}
 use Rattle.std.proofs.lemmas.Bool.{cases_Bool, leb-true}
 use Rattle.std.proofs.lemmas.List.{length-append}
 use Rattle.std.proofs.lemmas.List.Concat.{flat_map-cons}
-use Rattle.mb_base.specs.Limits.{part_count, part_bytes_limit, entry_bytes_limit, entry_limit, table_part}
+use Rattle.mb_base.specs.Limits.{part_count, part_bytes_limit, entry_bytes_limit, entry_limit, table_part, part_limit}
 use Rattle.mb_base.specs.Shapes.{Bytes, IsShape, host_count, client_count}
 use Rattle.mb_base.specs.Spelling.{number, text, optional}
 use Rattle.mb_base.specs.declared.shape.Shape.{Shape}
@@ -70,10 +70,6 @@ first_short [] a = omega arith
 first_short (m ∷ l) a = let rest = packed_short (entry_limit - 1) (length (stamped_bytes m)) l a.0 in omega (arith, rest, joined stamped_bytes m (packed (entry_limit - 1) (length (stamped_bytes m)) l))
 
 -- ---- as many parts as go into a STATE
-
--- the most bytes of a part that can be sent
-abbrev pub part_limit : ℕ
-part_limit = 4000000
 
 sums : (l : List Bytes) → ℕ
 sums [] = 0

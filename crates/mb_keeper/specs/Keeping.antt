@@ -2,9 +2,8 @@
 -- it fetched.
 use Rattle.std.specs.Prelude.{ℕ, ◌≡◌, ◌≤◌, ◌⊎◌, List, [], ◌∷◌, ◌++◌, length, Option, Some, None, nat_lt, nat_le, if◌then◌else◌}
 use Rattle.std.specs.List.{filter, AllByRecursion}
-use Rattle.mb_base.specs.Limits.{part_count}
+use Rattle.mb_base.specs.Limits.{part_count, part_limit}
 use Rattle.mb_base.specs.Shapes.{Bytes}
-use Rattle.mb_service.specs.declared.service.TheConstants.{MAX_PART}
 use Rattle.mb_parts.specs.declared.request.Request.{Request}
 use Rattle.mb_model.specs.declared.known.LastReply.{LastReply}
 use Rattle.mb_model.specs.Service.{Machine, Served, served}
@@ -18,7 +17,7 @@ pub record Keeping (S : Type 0) : Type 0 where
 
 -- parts that can be sent
 abbrev pub AreShort : List Bytes → Type 0
-AreShort parts = AllByRecursion (λ p. length p ≤ MAX_PART) parts
+AreShort parts = AllByRecursion (λ p. length p ≤ part_limit) parts
 
 -- a table of so many clients, and snapshots of all parts
 pub record IsKept (clients : ℕ) (table : List LastReply) (snapshots : List Snapshot) : Type 0 where

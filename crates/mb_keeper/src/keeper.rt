@@ -38,6 +38,7 @@ impl<V> Model for Keeper<V> {
 
 impl<V: Service + Drop> Keeper<V> {
     ghost use Rattle.std.specs.Prelude.{◌≡◌, ◌<◌, ◌≤◌, ℕ, [], length, Some, None, option_map, is_some, IfOk, IfSome, OnOk, OnErr};
+    ghost use Rattle.mb_base.specs.Limits.{snapshot_limit};
     ghost use Rattle.mb_base.specs.Shapes.{client_count};
     ghost use Rattle.mb_parts.specs.Fits.{IsCounter, IsPosition, FitsText};
     ghost use Rattle.mb_model.specs.Histories.{Identity, History};
@@ -119,7 +120,7 @@ impl<V: Service + Drop> Keeper<V> {
     /// all is as it was.
     pub fn keep_snapshot(&mut self, alloc: Global, pos: Pos) -> Result<(), NoMemory>
         requires above { (other : ℕ) → pos ≤ other → parts_at self.old.snapshots other ≡ None }
-        requires room { length self.old.snapshots < 3 }
+        requires room { length self.old.snapshots < snapshot_limit }
         ensures ok { OnOk result (self.new ≡ with_snapshot self.old pos (parts_of (snapshots_of V.machine) self.old.served)) }
         ensures stands { OnOk result (StandsWith self.old.snapshots pos (parts_of (snapshots_of V.machine) self.old.served) self.new.snapshots) }
         ensures err { OnErr result (self.new ≡ self.old) }

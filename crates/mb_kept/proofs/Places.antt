@@ -5,7 +5,7 @@ use Rattle.std.specs.Option.{option_or}
 use Rattle.std.proofs.lemmas.Bool.{cases_lt, lt-leb, ne_eqb, eq-eqb}
 use Rattle.std.proofs.lemmas.Bool.Decides.{eqb_tells}
 use Rattle.std.proofs.Math.Nat.{mul-div_cancel, mul-lt-mul_of_pos_right}
-use Rattle.mb_base.specs.Limits.{least_interval, most_interval}
+use Rattle.mb_base.specs.Limits.{least_interval, most_interval, most_hosts}
 use Rattle.mb_base.specs.declared.shape.Shape.{Shape}
 use Rattle.mb_base.specs.Shapes.{interval, host_count}
 use Rattle.mb_msg.specs.declared.normal.Checkpoint.{Checkpoint}
@@ -51,7 +51,7 @@ number_is k number some = mul-div_cancel number (omega (arith, some))
 -- ---- one CHECKPOINT more
 
 module _ (old new : Checkpoints) (m : Checkpoint) (kept : KeptCheckpoint) (number : ℕ) where
-  pub keeps : kept.message ≡ m → m.pos ≡ number * interval old.shape → old.first ≤ number → m.ui.host < 7 → least_interval ≤ interval old.shape → host_count old.shape ≤ 7
+  pub keeps : kept.message ≡ m → m.pos ≡ number * interval old.shape → old.first ≤ number → m.ui.host < most_hosts → least_interval ≤ interval old.shape → host_count old.shape ≤ most_hosts
       → new.shape ≡ old.shape → new.first ≡ old.first → StandsWith old.window (place_of number m.ui.host) kept new.window → Keeps old m new
   keeps is pos from host some few shape first window s low search st = record {
     shape_is = shape ∙ st.shape_is;
@@ -66,7 +66,7 @@ module _ (old new : Checkpoints) (m : Checkpoint) (kept : KeptCheckpoint) (numbe
         let at : m.pos ≡ i * interval s = pos ∙ ap (λ n. n * interval old.shape) same_number ∙ ap (λ (x : Shape). i * interval x) st.shape_is in
         rw (eq-eqb m.ui.host h same_host, eq-eqb m.pos (i * interval s) at) refl
 
-    elsewhere : (h i : ℕ) → h < 7 → place_of i h ≢ place_of number m.ui.host → checkpoint_by h (i * interval s) (Some m) ≡ None
+    elsewhere : (h i : ℕ) → h < most_hosts → place_of i h ≢ place_of number m.ui.host → checkpoint_by h (i * interval s) (Some m) ≡ None
     elsewhere h i low_host other = elim (eqb_tells m.ui.host h) [
       | inr f ↦ rw f.0 refl
       | inl t ↦
@@ -90,7 +90,7 @@ module _ (old new : Checkpoints) (m : Checkpoint) (kept : KeptCheckpoint) (numbe
         ∙ sym (ap (λ o. option_or o (search h (i * interval s))) (here h i same_host same_number))
     by_place h i lt le (inr f) =
         let hosts : host_count old.shape ≡ host_count s = ap host_count st.shape_is in
-        let low_host : h < 7 = omega (arith, few, lt, hosts) in
+        let low_host : h < most_hosts = omega (arith, few, lt, hosts) in
         ap (option_map (λ (k : KeptCheckpoint). k.message)) (behind h i ∙ ap (λ b. cond b (Some kept) (item_at old.window (place_of i h))) f.0)
         ∙ st.finds h i lt (omega (arith, first, le))
         ∙ sym (ap (λ o. option_or o (search h (i * interval s))) (elsewhere h i low_host f.1))
@@ -98,15 +98,15 @@ module _ (old new : Checkpoints) (m : Checkpoint) (kept : KeptCheckpoint) (numbe
 -- ---- the stable position raised
 
 module _ (old new : Checkpoints) (number low : ℕ) (multiple : low ≡ number * interval old.shape) where
-  pub keeps_above : least_interval ≤ interval old.shape → low_of old ≤ low → new.shape ≡ old.shape → new.first ≡ number → StandsAbove old.window (number * 7) new.window → KeepsAbove old low new
+  pub keeps_above : least_interval ≤ interval old.shape → low_of old ≤ low → new.shape ≡ old.shape → new.first ≡ number → StandsAbove old.window (number * most_hosts) new.window → KeepsAbove old low new
   keeps_above some above_low shape first window s low0 search st = record {
     shape_is = shape ∙ st.shape_is;
     low_is = ap (λ k. k * interval new.shape) first ∙ ap (λ (x : Shape). number * interval x) shape ∙ sym multiple;
     finds = λ h i lt le.
         let from : old.first ≤ number = product_least old.first number (interval old.shape) some (subst (λ q. low_of old ≤ q) multiple above_low) in
-        let up : number * 7 < place_of i h = omega (arith, first, le) in
-        ap (option_map (λ (k : KeptCheckpoint). k.message)) (behind h i ∙ ap (λ b. cond b None (item_at old.window (place_of i h))) (lt-leb (place_of i h) (number * 7) up))
+        let up : number * most_hosts < place_of i h = omega (arith, first, le) in
+        ap (option_map (λ (k : KeptCheckpoint). k.message)) (behind h i ∙ ap (λ b. cond b None (item_at old.window (place_of i h))) (lt-leb (place_of i h) (number * most_hosts) up))
         ∙ st.finds h i lt (omega (arith, first, le, from));
   } where
-    behind : (h i : ℕ) → item_at new.window (place_of i h) ≡ cond (leb (place_of i h) (number * 7)) None (item_at old.window (place_of i h))
+    behind : (h i : ℕ) → item_at new.window (place_of i h) ≡ cond (leb (place_of i h) (number * most_hosts)) None (item_at old.window (place_of i h))
     behind h i = (window old.window.low (item_at old.window) (record { low_is = refl; finds = λ q. refl })).finds (place_of i h)

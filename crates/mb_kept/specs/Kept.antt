@@ -1,6 +1,7 @@
 -- The CHECKPOINTs that are kept: the last of each host at each of three positions.
 use Rattle.std.specs.Prelude.{ℕ, ◌≡◌, ◌+◌, ◌*◌, ◌≤◌, ◌<◌, Option, Some, option_map}
 use Rattle.std.specs.Option.{option_or}
+use Rattle.mb_base.specs.Limits.{most_hosts}
 use Rattle.mb_base.specs.declared.shape.Shape.{Shape}
 use Rattle.mb_base.specs.Shapes.{interval, host_count}
 use Rattle.mb_msg.specs.declared.normal.Checkpoint.{Checkpoint}
@@ -11,7 +12,7 @@ use Rattle.mb_kept.specs.declared.checkpoints.KeptCheckpoint.{KeptCheckpoint}
 
 -- the place of a host in the window, at the multiple of the interval with a number
 abbrev pub place_of : ℕ → ℕ → ℕ
-place_of number host = number * 7 + host + 1
+place_of number host = number * most_hosts + host + 1
 
 abbrev pub kept_at : Checkpoints → ℕ → ℕ → Option KeptCheckpoint
 kept_at t number host = item_at t.window (place_of number host)

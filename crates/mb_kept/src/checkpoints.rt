@@ -1,6 +1,7 @@
 //! The CHECKPOINTs that are kept.
 
 ghost use Rattle.std.specs.Prelude.{◌≡◌, ◌<◌, ◌+◌, ◌*◌, ◌^◌, length};
+ghost use Rattle.mb_base.specs.Limits.{most_hosts};
 ghost use Rattle.mb_base.specs.Shapes.{interval};
 ghost use Rattle.mb_msg.specs.Bodies.{body_digest};
 ghost use Rattle.mb_msg.specs.Spelling.{floors_body_bytes};
@@ -51,8 +52,8 @@ pub struct Checkpoints {
     pub(crate) window: Window<KeptCheckpoint>,
     ghost first_in: { first < 2 ^ 61 },
     ghost low_in: { first * interval shape < 2 ^ 63 },
-    ghost low_is: { window.low ≡ first * 7 },
-    ghost width: { length window.items ≡ 21 },
+    ghost low_is: { window.low ≡ first * most_hosts },
+    ghost width: { length window.items ≡ 3 * most_hosts },
 }
 
 impl Checkpoints {

@@ -1,5 +1,6 @@
 -- What each rule does, and how they are carried out: the next one, again and again, until none is enabled.
 use Rattle.std.specs.Prelude.{ℕ, zero, suc, ◌%◌, List, [], ◌∷◌, ◌++◌, Option, Some, None, if◌then◌else◌, ◌==◌, ◌&&◌}
+use Rattle.mb_base.specs.Limits.{rule_limit}
 use Rattle.mb_base.specs.Shapes.{Bytes, interval}
 use Rattle.mb_parts.specs.declared.request.Request.{Request}
 use Rattle.mb_parts.specs.declared.batch.Batch.{Batch}
@@ -100,4 +101,4 @@ module _ {S : Type 0} (self : Identity S) where
 
 -- So many rounds leave no rule enabled in any history of a host: that is proved of every one.
 unfoldable pub enough : ℕ
-enough = 1000000
+enough = rule_limit

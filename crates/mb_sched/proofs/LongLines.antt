@@ -1,5 +1,5 @@
--- No event line has more than 21 words.
-use Rattle.std.proofs.Common.{◌≡◌, ℕ, ◌<◌, leb, Bool, true, false, cond, List, [], ◌∷◌, length, Option, Some, None, refl, arith}
+-- No event line has more words than five and the numbers of a batch.
+use Rattle.std.proofs.Common.{◌≡◌, ℕ, ◌<◌, ◌+◌, leb, Bool, true, false, cond, List, [], ◌∷◌, length, Option, Some, None, refl, arith}
 use Rattle.std.proofs.lemmas.Bool.{and_right, lt-leb}
 use Rattle.mb_base.specs.Limits.{batch_limit}
 use Rattle.mb_base.specs.Shapes.{Bytes}
@@ -148,7 +148,7 @@ module _ (hosts clients : ℕ) where
       (neither (is "tag" verb) _ _ (no_tag ws (omega arith))
       (neither (is "stamp" verb) _ _ (no_stamp ws lt) refl))))))))
 
-  pub long_line : (ws : List Bytes) → 21 < length ws → event_line hosts clients ws ≡ None
+  pub long_line : (ws : List Bytes) → 5 + batch_limit < length ws → event_line hosts clients ws ≡ None
   unfolding event_line
   long_line [] lt = absurd (omega arith)
   long_line (verb ∷ ws) lt = long_event verb ws (omega arith)

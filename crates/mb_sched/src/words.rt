@@ -1,16 +1,17 @@
 //! The words of a line, each read for itself: numbers, names, and bytes in hexadecimal.
 
-ghost use Rattle.std.specs.Prelude.{◌≡◌, ◌<◌, ◌≤◌, ◌∷◌, [], ◌==◌, if◌then◌else◌, nat_le, true, length, MatchOption, IfSome, IfOk};
+ghost use Rattle.std.specs.Prelude.{◌≡◌, ◌<◌, ◌≤◌, ◌+◌, ◌∷◌, [], ◌==◌, if◌then◌else◌, nat_le, true, length, MatchOption, IfSome, IfOk};
 ghost use Rattle.std.specs.Char.{is_ascii_digit};
 ghost use Rattle.std.specs.List.{list_all, position};
 ghost use Rattle.std.specs.Str.{bytes_eq};
+ghost use Rattle.mb_base.specs.Limits.{batch_limit};
 ghost use Rattle.mb_base.specs.Shapes.{host_count, client_count};
 ghost use Rattle.mb_sched.specs.Words.{pieces, words, texts, decimal_value, is_decimal, number_in, named, host_in, client_in, name_in, is_lower_hex_digit, is_hex, is_operation, bytes_of, operation_of, digest_of};
 
 use arrayvec::ArrayVec;
 use hex::{FromHex, FromHexError};
 use mb_base::{Client, Host, Items, Key, NoMemory, Shape};
-use mb_parts::TEXT_LIMIT;
+use mb_parts::{MAX_REQUESTS, TEXT_LIMIT};
 use mb_schedule::Name;
 use std::alloc::Global;
 
@@ -34,13 +35,13 @@ pub(crate) fn cut(text: &[u8], separator: u8) -> (&[u8], Option<&[u8]>)
     }
 }
 
-/// The most words of an event line: five, and the numbers of 16 messages.
-const MAX_WORDS: usize = 21;
+/// The most words of an event line: five, and the numbers of the messages of a whole batch.
+const MAX_WORDS: usize = 5 + MAX_REQUESTS as usize;
 
 /// The words of a line that has no more than an event line may have.
 pub(crate) fn words_of(line: &[u8]) -> Option<ArrayVec<&[u8], MAX_WORDS>>
     ensures { MatchOption result
-        (21 < length (words line.now)) (λ list. texts list.items ≡ words line.now) }
+        (5 + batch_limit < length (words line.now)) (λ list. texts list.items ≡ words line.now) }
 {
     let mut list = ArrayVec::new();
     let mut rest = Some(line);

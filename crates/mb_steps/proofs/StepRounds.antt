@@ -4,7 +4,7 @@ use Rattle.std.specs.Prelude.{◌==◌, nat_lt, nat_le, option_and_then, if◌th
 use Rattle.std.specs.List.{list_any}
 use Rattle.std.proofs.lemmas.Bool.{and_parts, cases_Bool, eqb-true, eq-eqb, eqb-false, ltb-true, ltb-false, leb-true, leb-false, lt-ltb, le-leb}
 use Rattle.std.proofs.lemmas.List.Sums.{sum_by-cons}
-use Rattle.mb_base.specs.Limits.{other_limit, plan_limit}
+use Rattle.mb_base.specs.Limits.{other_limit, plan_limit, rule_limit}
 use Rattle.mb_base.specs.Shapes.{IsShape, tally, host_count, max_faults, quorum, primary}
 use Rattle.mb_base.specs.declared.names.Ui.{Ui}
 use Rattle.mb_parts.specs.declared.floor.Floor.{Floor}
@@ -211,7 +211,7 @@ module _ {S : Type 0} (self : Identity S) where
   few_calls : (d : History) → calls self d ≤ 3
   few_calls d = omega (arith, one_flag (nat_lt (view_of self d) (target self d)) 2, one_flag (is_primary self d && is_changing self d) 1)
 
-  pub bounded : IsShape self.shape → (d : History) → potential self d < 1000000
+  pub bounded : IsShape self.shape → (d : History) → potential self d < rule_limit
   unfolding potential
   bounded k d = omega (arith, few_calls d, few_ahead k d, few_places self k d)
 

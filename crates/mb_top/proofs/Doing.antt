@@ -2,6 +2,7 @@
 use Rattle.std.proofs.Common.{◌≡◌, ℕ, ◌≤◌, List, Option, Some, None, IfSome, refl, sym, subst, arith}
 use Rattle.std.specs.Prelude.{Contains}
 use Rattle.std.specs.Io.KnownBytes.{IsAtEnd}
+use Rattle.mb_base.specs.Limits.{soak_limit}
 use Rattle.mb_base.specs.Shapes.{Bytes}
 use Rattle.mb_top.specs.declared.command.Command.{Command}
 use Rattle.mb_top.specs.declared.command.Command.TheVariants.{Replay, Soak, Node, Retrace, Cluster, Audit, Learn}
@@ -31,7 +32,7 @@ module _ (o : Option Command) (status : ℕ) (old new : Devices) (does : Does o 
   pub soaks : (seed n : ℕ) → o ≡ Some (Soak seed n) → Soaks seed n status old.sink new.sink
   soaks seed n is = (does_as (Some (Soak seed n)) is).0
 
-  pub soaks_few : (seed n : ℕ) → o ≡ Some (Soak seed n) → n ≤ 100000
+  pub soaks_few : (seed n : ℕ) → o ≡ Some (Soak seed n) → n ≤ soak_limit
   soaks_few seed n is = (does_as (Some (Soak seed n)) is).1.0
 
   pub nodes : (host n : ℕ) → o ≡ Some (Node host n) → IfSome old.source.bytes (λ text. Nodes text host n status old.source new.source old.sink new.sink old.link new.link)
@@ -77,7 +78,7 @@ module _ (status : ℕ) (old new : Devices) where
       → Does (Some Replay) status old new
   does_replay told ended link spawner = (with_text (λ text. Replays text status old.source new.source old.sink new.sink) told ended, stay link spawner)
 
-  pub does_soak : (seed n : ℕ) → Soaks seed n status old.sink new.sink → n ≤ 100000 → old.link ≡ new.link → old.spawner ≡ new.spawner → Does (Some (Soak seed n)) status old new
+  pub does_soak : (seed n : ℕ) → Soaks seed n status old.sink new.sink → n ≤ soak_limit → old.link ≡ new.link → old.spawner ≡ new.spawner → Does (Some (Soak seed n)) status old new
   does_soak seed n told few link spawner = (told, (few, stay link spawner))
 
   pub does_node : (host n : ℕ) → IfSome old.source.bytes (λ text. Nodes text host n status old.source new.source old.sink new.sink old.link new.link) → (status ≡ 0 → IsAtEnd new.source.bytes) → old.spawner ≡ new.spawner

@@ -1,6 +1,7 @@
 -- A soak in the code's world, one more drawn event at a time.
 use Rattle.std.proofs.Common.{◌≡◌, ℕ, zero, suc, ◌+◌, ◌<◌, ◌≤◌, true, false, length, Option, Some, None, Err, add-one, refl, sym, ap, subst, ◌∙◌, arith}
 use Rattle.std.specs.List.{slice_get}
+use Rattle.mb_base.specs.Limits.{soak_limit}
 use Rattle.mb_kv.specs.Pairs.{Pairs}
 use Rattle.mb_schedule.specs.declared.schedule.WorldEvent.{WorldEvent}
 use Rattle.mb_schedule.specs.Limits.{EventFits}
@@ -32,7 +33,7 @@ use Rattle.mb_top.proofs.Promised.{hold_throughout}
 soaked_hosts : IsSoaked soak_hosts
 soaked_hosts = record { faults = refl; every = refl; clients = refl; secret = refl; faulty = refl; correct = refl }
 
-module _ (seed n : ℕ) (few : n ≤ 100000) where
+module _ (seed n : ℕ) (few : n ≤ soak_limit) where
   pub is_soak : IsSoak (system_of soak_hosts) seed n
   is_soak = soaks_are_unstopped Pairs (system_of soak_hosts) soaked_hosts seed n (omega (arith, few))
 

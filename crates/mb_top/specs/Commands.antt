@@ -1,5 +1,6 @@
 -- What the words of a command ask for.
 use Rattle.std.specs.Prelude.{◌≡◌, ◌-◌, ◌^◌, ◌≤◌, List, [], ◌∷◌, map, Option, Some, None, if◌then◌else◌, String, string_bytes}
+use Rattle.mb_base.specs.Limits.{last_host, soak_limit, receive_limit}
 use Rattle.mb_base.specs.Shapes.{Bytes}
 use Rattle.mb_sched.specs.Words.{◌>>=◌, is, number_in}
 use Rattle.mb_top.specs.declared.command.Command.{Command}
@@ -9,21 +10,21 @@ use Rattle.mb_top.specs.declared.command.Command.TheVariants.{Replay, Soak, Node
 abbrev pub soak_of : Bytes → Bytes → Option Command
 soak_of seed events = do
   s ← number_in 0 (2 ^ 64 - 1) seed
-  n ← number_in 1 100000 events
+  n ← number_in 1 soak_limit events
   Some (Soak s n)
 
 -- `node ID EVENTS`
 abbrev pub node_of : Bytes → Bytes → Option Command
 node_of host events = do
   h ← number_in 0 (2 ^ 64 - 1) host
-  n ← number_in 1 1000000 events
+  n ← number_in 1 receive_limit events
   Some (Node h n)
 
 -- `node ID EVENTS PATH`
 abbrev pub kept_node_of : Bytes → Bytes → Option Command
 kept_node_of host events = do
   h ← number_in 0 (2 ^ 64 - 1) host
-  n ← number_in 1 1000000 events
+  n ← number_in 1 receive_limit events
   Some (KeptNode h n)
 
 -- `journal ID PATH`
@@ -35,13 +36,13 @@ journal_of host = do
 -- `cluster TURNS`
 abbrev pub cluster_of : Bytes → Option Command
 cluster_of turns = do
-  n ← number_in 1 1000000 turns
+  n ← number_in 1 receive_limit turns
   Some (Cluster n)
 
 -- `audit H`
 abbrev pub audit_of : Bytes → Option Command
 audit_of host = do
-  h ← number_in 0 6 host
+  h ← number_in 0 last_host host
   Some (Audit h)
 
 -- a word with three more, of which the last is the path of a journal and may be any
@@ -66,11 +67,11 @@ Asks words command = asked words ≡ Some command
 -- Its numbers are within their limits.
 abbrev pub IsWithin : Command → Type 0
 IsWithin Replay = Unit {0}
-IsWithin (Soak seed n) = (1 ≤ n) × (n ≤ 100000)
-IsWithin (Node h n) = (1 ≤ n) × (n ≤ 1000000)
-IsWithin (KeptNode h n) = (1 ≤ n) × (n ≤ 1000000)
+IsWithin (Soak seed n) = (1 ≤ n) × (n ≤ soak_limit)
+IsWithin (Node h n) = (1 ≤ n) × (n ≤ receive_limit)
+IsWithin (KeptNode h n) = (1 ≤ n) × (n ≤ receive_limit)
 IsWithin (Journal h) = Unit {0}
 IsWithin Retrace = Unit {0}
-IsWithin (Cluster n) = (1 ≤ n) × (n ≤ 1000000)
-IsWithin (Audit h) = h ≤ 6
+IsWithin (Cluster n) = (1 ≤ n) × (n ≤ receive_limit)
+IsWithin (Audit h) = h ≤ last_host
 IsWithin Learn = Unit {0}

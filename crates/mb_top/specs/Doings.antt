@@ -1,6 +1,7 @@
 -- What each command does at the devices.
 use Rattle.std.specs.Prelude.{◌≡◌, ℕ, ◌+◌, ◌≤◌, ◌⊎◌, List, [], ◌∷◌, Option, Some, None, IfSome, Contains}
 use Rattle.std.specs.Io.KnownBytes.{IsAtEnd}
+use Rattle.mb_base.specs.Limits.{soak_limit}
 use Rattle.mb_base.specs.Shapes.{Bytes}
 use Rattle.mb_edge.specs.Faults.{Rose}
 use Rattle.mb_schedule.specs.Limits.{max_text}
@@ -65,7 +66,7 @@ pub record DoesWithRecord (does : Bytes → Type 0) (findings : List ℕ) (statu
 abbrev pub Does : Option Command → ℕ → Devices → Devices → Type 0
 Does None status old new = Says 1 usage_text status old.sink new.sink × StayIdle old new
 Does (Some Replay) status old new = DoesWith (λ text. Replays text status old.source new.source old.sink new.sink) status old.source new.source × StayIdle old new
-Does (Some (Soak seed n)) status old new = Soaks seed n status old.sink new.sink × ((n ≤ 100000) × StayIdle old new)
+Does (Some (Soak seed n)) status old new = Soaks seed n status old.sink new.sink × ((n ≤ soak_limit) × StayIdle old new)
 Does (Some (Node host n)) status old new = DoesWith (λ text. Nodes text host n status old.source new.source old.sink new.sink old.link new.link) status old.source new.source × (old.spawner ≡ new.spawner)
 Does (Some (KeptNode host n)) status old new = (status ≡ 0 → IsAtEnd new.source.bytes) × (old.spawner ≡ new.spawner)
 Does (Some (Journal host)) status old new = (status ≡ 0 → IsAtEnd new.source.bytes) × StayIdle old new
@@ -79,4 +80,11 @@ abbrev pub DoesAtDisk : Option Command → ℕ → Device → Device → Device 
 DoesAtDisk (Some (KeptNode host n)) status source source' sink sink' link link' disk disk' = IfSome source.bytes (λ text. KeptNodes text host n status source source' sink sink' link link' disk disk'
     × IsServedKept text host status disk (Rose source.faults source'.faults ⊎ (Rose sink.faults sink'.faults ⊎ (Rose link.faults link'.faults ⊎ Rose disk.faults disk'.faults))))
 DoesAtDisk (Some (Journal host)) status source source' sink sink' link link' disk disk' = IfSome source.bytes (λ text. MakesBy text host status source source' sink sink' disk disk')
-DoesAtDisk _ status source source' sink sink' link link' disk disk' = disk ≡ disk'
+DoesAtDisk None status source source' sink sink' link link' disk disk' = disk ≡ disk'
+DoesAtDisk (Some Replay) status source source' sink sink' link link' disk disk' = disk ≡ disk'
+DoesAtDisk (Some (Soak seed n)) status source source' sink sink' link link' disk disk' = disk ≡ disk'
+DoesAtDisk (Some (Node host n)) status source source' sink sink' link link' disk disk' = disk ≡ disk'
+DoesAtDisk (Some Retrace) status source source' sink sink' link link' disk disk' = disk ≡ disk'
+DoesAtDisk (Some (Cluster n)) status source source' sink sink' link link' disk disk' = disk ≡ disk'
+DoesAtDisk (Some (Audit host)) status source source' sink sink' link link' disk disk' = disk ≡ disk'
+DoesAtDisk (Some Learn) status source source' sink sink' link link' disk disk' = disk ≡ disk'

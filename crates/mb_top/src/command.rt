@@ -3,6 +3,7 @@
 ghost use Rattle.std.specs.Prelude.{◌≡◌, [], ◌∷◌, map, string_bytes, IfSome};
 ghost use Rattle.mb_top.specs.Commands.{command_of, soak_of, node_of, kept_node_of, journal_of, cluster_of, audit_of, with_path_of, IsWithin};
 
+use mb_base::Shape;
 use mb_sched::{is_word, number_in};
 
 /// The most events that are drawn.
@@ -12,7 +13,7 @@ const MAX_DRAWN: u64 = 100_000;
 const MAX_BUDGET: u64 = 1_000_000;
 
 /// The greatest number that a host of any system has.
-const LAST_HOST: u64 = 6;
+const LAST_HOST: u64 = 2 * Shape::MAX_F as u64;
 
 /// What the words ask for.
 #[derive(Clone, Copy, PartialEq, Eq)]

@@ -1,6 +1,7 @@
 //! A soak: so many drawn events in a world of three hosts, and the line that sums its report up.
 
 ghost use Rattle.std.specs.Prelude.{◌≡◌, ℕ, ◌≤◌, false, IfOk};
+ghost use Rattle.mb_base.specs.Limits.{soak_limit};
 ghost use Rattle.mb_kv.specs.Pairs.{Pairs};
 ghost use Rattle.mb_make.specs.Soaks.{played};
 ghost use Rattle.mb_make.specs.Summary.{of_state, greatest_view, longest_log, all_accepted};
@@ -94,7 +95,7 @@ fn want_of_memory(found: WorldStop) -> NoMemory
 
 /// The world after so many events, drawn from a seed.
 fn soaked(alloc: Global, seed: u64, events: u64) -> Result<World<Kv>, NoMemory>
-    requires { events ≤ 100000 }
+    requires { events ≤ soak_limit }
     ensures { IfOk result (λ w. RepresentsWorld (system_of (soak_of seed events)) w (world (soak_of seed events) events)) }
 {
     let mut world = soak_world(alloc)?;
@@ -187,7 +188,7 @@ fn told(alloc: Global, numbers: &Summary) -> Result<Answer, NoMemory>
 
 /// The answer to a soak of so many events from a seed.
 fn answer_soak(alloc: Global, seed: u64, events: u64) -> Result<Answer, NoMemory>
-    requires { events ≤ 100000 }
+    requires { events ≤ soak_limit }
     ensures { IfOk result (λ a. (a.status ≡ 0) × (a.text.items ≡ soak_text seed events)) }
 {
     let world = soaked(alloc, seed, events)?;
@@ -197,7 +198,7 @@ fn answer_soak(alloc: Global, seed: u64, events: u64) -> Result<Answer, NoMemory
 
 /// Runs drawn events, and writes the line that sums them up.
 pub(crate) fn soak<K: Sink>(alloc: Global, seed: u64, events: u64, sink: &mut K) -> u8
-    requires { events ≤ 100000 }
+    requires { events ≤ soak_limit }
     ensures told { Soaks seed events result (K.seen sink.old) (K.seen sink.new) }
     ensures low { IsLow result }
     ensures unread { ¬ (result ≡ 5) }

@@ -3,6 +3,7 @@ use Rattle.std.proofs.Common.{◌≡◌, ℕ, zero, suc, ◌+◌, ◌<◌, ◌�
 use Rattle.std.proofs.lemmas.Bool.{ne_eqb}
 use Rattle.std.proofs.lemmas.Bool.Decides.{eqb_tells}
 use Rattle.std.proofs.lemmas.List.{get_or-set_same, get_or-set_other}
+use Rattle.mb_base.specs.Limits.{most_hosts}
 use Rattle.mb_base.specs.declared.shape.Shape.{Shape}
 use Rattle.mb_base.specs.Shapes.{host_count}
 use Rattle.mb_model.specs.declared.known.Vote.{Vote}
@@ -26,12 +27,12 @@ set_one votes host h vote lt = elim (eqb_tells h host) [
   | inr f ↦ rw f.0 (get_or-set_other votes host h (Some vote) None f.1)
 ]
 
-in_ballot : (o : Option (List (Option Vote))) (host h : ℕ) (vote : Vote) → host < 7 → ((votes : List (Option Vote)) → o ≡ Some votes → length votes ≡ 7) → get_or (set_in o host vote) h None ≡ cond (eqb h host) (Some vote) (kept_in o h)
-in_ballot None host h vote lt wide = set_one (replicate 7 None) host h vote lt ∙ ap (cond (eqb h host) (Some vote)) (nobody 7 h)
+in_ballot : (o : Option (List (Option Vote))) (host h : ℕ) (vote : Vote) → host < most_hosts → ((votes : List (Option Vote)) → o ≡ Some votes → length votes ≡ most_hosts) → get_or (set_in o host vote) h None ≡ cond (eqb h host) (Some vote) (kept_in o h)
+in_ballot None host h vote lt wide = set_one (replicate most_hosts None) host h vote lt ∙ ap (cond (eqb h host) (Some vote)) (nobody most_hosts h)
 in_ballot (Some votes) host h vote lt wide = let seven = wide votes refl in set_one votes host h vote (omega (arith, lt, seven))
 
 module _ (b : Ballots) (pos host : ℕ) (vote : Vote) where
-  pub with_vote_finds : b.low < pos → pos ≤ b.low + length b.items → host < 7 → ((votes : List (Option Vote)) → item_at b pos ≡ Some votes → length votes ≡ 7)
+  pub with_vote_finds : b.low < pos → pos ≤ b.low + length b.items → host < most_hosts → ((votes : List (Option Vote)) → item_at b pos ≡ Some votes → length votes ≡ most_hosts)
       → (h p : ℕ) → vote_at (with_vote b pos host vote) h p ≡ voted (vote_at b) pos host vote h p
   with_vote_finds above within lt wide h p =
       ap (λ o. kept_in o h) (stands.finds p) ∙ elim (eqb_tells p pos) [

@@ -4,6 +4,7 @@ use Rattle.std.specs.Prelude.{count_by}
 use Rattle.std.specs.List.{list_any}
 use Rattle.std.proofs.lemmas.Bool.{cases_Bool, cases_lt, lt-leb, le-leb, eq-eqb, eqb-true}
 use Rattle.std.proofs.lemmas.List.Sums.{sum_by-set}
+use Rattle.mb_base.specs.Limits.{most_hosts}
 use Rattle.mb_usig.specs.Tags.{same_bytes}
 use Rattle.mb_usig.proofs.Laws.{true-same_bytes, same_bytes-true}
 use Rattle.mb_model.specs.declared.known.Vote.{Vote}
@@ -123,7 +124,7 @@ module _ (places : List (Option Counted)) (votes : List (Option Vote)) (h : ℕ)
   pub added_view : (c : Counted) → c.vote ≡ v → votes_of (set places h (Some c)) ≡ set votes h (Some v)
   added_view c is = votes_set places h c ∙ ap (λ x. set (votes_of places) h (Some x)) is ∙ ap (λ l. set l h (Some v)) view
 
-  pub added : (rank : ℕ) → IsCounted places → h < 7 → get_or votes h None ≡ None → rank ≡ count_by (λ o. is_vote o v) votes → IsCounted (set places h (Some (record { vote = v; rank = rank + 1 })))
+  pub added : (rank : ℕ) → IsCounted places → h < most_hosts → get_or votes h None ≡ None → rank ≡ count_by (λ o. is_vote o v) votes → IsCounted (set places h (Some (record { vote = v; rank = rank + 1 })))
   added rank counted lt first is =
       let c : Counted = record { vote = v; rank = rank + 1 } in
       let free : get_or places h None ≡ None = no_vote (get_or places h None) (sym (votes_get places h) ∙ ap (λ l. get_or l h None) view ∙ first) in

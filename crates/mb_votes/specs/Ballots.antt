@@ -1,5 +1,6 @@
 -- The ballots of a window: for each position the votes of the hosts.
 use Rattle.std.specs.Prelude.{ℕ, ◌≡◌, ◌≤◌, ◌-◌, List, length, Option, Some, None, slice_index_or, slice_set, replicate}
+use Rattle.mb_base.specs.Limits.{most_hosts}
 use Rattle.mb_base.specs.declared.shape.Shape.{Shape}
 use Rattle.mb_base.specs.Shapes.{host_count}
 use Rattle.mb_model.specs.declared.known.Vote.{Vote}
@@ -26,12 +27,12 @@ AreOfHosts s ballots = (h p : ℕ) → host_count s ≤ h → vote_at ballots h 
 
 -- the ballots with one vote more in the ballot of a position
 abbrev pub set_in : Option (List (Option Vote)) → ℕ → Vote → List (Option Vote)
-set_in None host vote = slice_set (replicate 7 None) host (Some vote)
+set_in None host vote = slice_set (replicate most_hosts None) host (Some vote)
 set_in (Some votes) host vote = slice_set votes host (Some vote)
 
 abbrev pub with_vote : Ballots → ℕ → ℕ → Vote → Ballots
 with_vote b pos host vote = places b.low (slice_set b.items (pos - b.low - 1) (Some (set_in (item_at b pos) host vote)))
 
--- A ballot has places for seven hosts.
+-- A ballot has a place for each host of the largest system.
 abbrev pub HasPlaces : Ballots → ℕ → Type 0
-HasPlaces b pos = (votes : List (Option Vote)) → item_at b pos ≡ Some votes → length votes ≡ 7
+HasPlaces b pos = (votes : List (Option Vote)) → item_at b pos ≡ Some votes → length votes ≡ most_hosts

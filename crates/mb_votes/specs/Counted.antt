@@ -1,5 +1,6 @@
 -- The votes of the hosts for one position, each with its rank: how many hosts had given it when it came.
 use Rattle.std.specs.Prelude.{ℕ, ◌≡◌, Bool, false, nat_le, List, [], ◌∷◌, length, map, max, count_by, Option, Some, None, if◌then◌else◌}
+use Rattle.mb_base.specs.Limits.{most_hosts}
 use Rattle.mb_model.specs.declared.known.Vote.{Vote}
 use Rattle.mb_model.specs.Votes.{is_vote}
 use Rattle.mb_votes.specs.declared.ballot.Counted.{Counted}
@@ -26,7 +27,7 @@ abbrev pub greatest_rank : Vote → List (Option Counted) → ℕ
 greatest_rank x [] = 0
 greatest_rank x (c ∷ cs) = max (rank_of x c) (greatest_rank x cs)
 
--- The greatest rank of each vote is the number of hosts that gave it. There are places for seven hosts.
+-- The greatest rank of each vote is the number of hosts that gave it. There is a place for each host of the largest system.
 pub record IsCounted (places : List (Option Counted)) : Type 0 where
-  pub width : length places ≡ 7
+  pub width : length places ≡ most_hosts
   pub ranks : (x : Vote) → greatest_rank x places ≡ count_by (λ v. is_vote v x) (votes_of places)

@@ -2,6 +2,7 @@
 
 ghost use Rattle.std.specs.Prelude.{◌≡◌, ◌≤◌, length, is_some, count_by};
 ghost use Rattle.std.specs.List.{list_any};
+ghost use Rattle.mb_base.specs.Limits.{most_hosts};
 ghost use Rattle.mb_votes.specs.Counted.{rank_of, has_rank, greatest_rank};
 
 use mb_base::{Host, Shape};
@@ -40,13 +41,14 @@ impl Model for Ballot {
 
 impl Ballot {
     ghost use Rattle.std.specs.Prelude.{◌≡◌, ◌<◌, ◌≤◌, length, replicate, slice_set, is_some, Some, None, count_by, true};
+    ghost use Rattle.mb_base.specs.Limits.{most_hosts};
     ghost use Rattle.mb_model.specs.declared.known.Vote.{Vote as VoteValue};
     ghost use Rattle.mb_model.specs.Votes.{is_vote};
     ghost use Rattle.mb_votes.specs.Ballots.{vote_in};
 
     /// No votes.
     pub(crate) fn new() -> Ballot
-        ensures { result ≡ replicate 7 None }
+        ensures { result ≡ replicate most_hosts None }
     {
         Ballot {
             by_host: [None; MAX_HOSTS],
@@ -55,7 +57,7 @@ impl Ballot {
 
     /// Whether the host has voted.
     pub(crate) fn has(&self, host: Host) -> bool
-        requires { host < 7 }
+        requires { host < most_hosts }
         ensures { result ≡ is_some (vote_in self.now host) }
     {
         self.by_host[usize::from(host)].is_some()
@@ -63,9 +65,9 @@ impl Ballot {
 
     /// Counts the vote of a host that has none yet.
     pub(crate) fn add(&mut self, host: Host, vote: Vote)
-        requires host { host < 7 }
+        requires host { host < most_hosts }
         requires first { vote_in self.old host ≡ None }
-        ensures wide { length self.old ≡ 7 }
+        ensures wide { length self.old ≡ most_hosts }
         ensures added { self.new ≡ slice_set self.old host (Some vote) }
     {
         let rank = self.matching(&vote) + 1;
@@ -82,7 +84,7 @@ impl Ballot {
     /// How many hosts have this vote.
     pub(crate) fn matching(&self, vote: &Vote) -> u8
         ensures value { result ≡ count_by (λ v. is_vote v vote.now) self.now }
-        ensures few { result ≤ 7 }
+        ensures few { result ≤ most_hosts }
     {
         greatest_rank(&self.by_host, vote)
     }
@@ -98,7 +100,7 @@ impl Ballot {
 }
 
 fn count_votes(by_host: &[Option<Counted>]) -> u8
-    requires { length by_host.now ≤ 7 }
+    requires { length by_host.now ≤ most_hosts }
     ensures { result ≡ count_by is_some by_host.now }
 {
     let mut count = 0;

@@ -1,6 +1,7 @@
 //! The votes of hosts for the positions of a window.
 
 ghost use Rattle.std.specs.Prelude.{◌≡◌, ◌<◌, ◌≤◌, ◌+◌, ◌-◌, ◌^◌, false, length, None, IsTrue};
+ghost use Rattle.mb_base.specs.Limits.{most_hosts};
 ghost use Rattle.mb_base.specs.Shapes.{span};
 ghost use Rattle.mb_window.specs.Places.{item_at};
 ghost use Rattle.mb_votes.specs.Ballots.{vote_at, with_vote, HasPlaces, AreOfHosts};
@@ -139,7 +140,7 @@ impl Votes {
 
 /// Counts the vote of a host that has none yet for a position of the window.
 fn count_vote(ballots: &mut Window<Ballot>, pos: Pos, host: Host, vote: Vote)
-    requires host { host < 7 }
+    requires host { host < most_hosts }
     requires above { ballots.old.low < pos }
     requires within { pos ≤ ballots.old.low + length ballots.old.items }
     requires first { vote_at ballots.old host pos ≡ None }
@@ -156,7 +157,7 @@ fn count_vote(ballots: &mut Window<Ballot>, pos: Pos, host: Host, vote: Vote)
 
 /// Adds a vote to the ballot of a position, where there is one.
 fn mark(ballots: &mut Window<Ballot>, pos: Pos, host: Host, vote: Vote) -> bool
-    requires host { host < 7 }
+    requires host { host < most_hosts }
     requires first { vote_at ballots.old host pos ≡ None }
     ensures marked { IsTrue result → ballots.new ≡ with_vote ballots.old pos host vote }
     ensures wide { HasPlaces ballots.old pos }

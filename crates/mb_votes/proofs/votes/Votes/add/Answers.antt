@@ -1,4 +1,5 @@
 use Rattle.std.proofs.Common.{◌≡◌, ℕ, ◌-◌, ◌<◌, length, length-set, refl, ap, ◌∙◌, arith}
+use Rattle.mb_base.specs.Limits.{most_hosts}
 use Rattle.mb_base.specs.Shapes.{span}
 use Rattle.mb_model.specs.declared.known.Vote.{Vote}
 use Rattle.mb_votes.specs.Ballots.{Ballots, vote_at, with_vote}
@@ -21,7 +22,7 @@ invariant_of-self-clause-hosts_are c =
     let size : c.from.result ≡ span t.shape = c.from.ensures ∙ c.span.ensures in
     let within = c.if-pos-low-2.false in
     let most = t.shape.faults_in.1 in
-    let host : c.args.host < 7 = let below = c.requires in omega (arith, below, most) in
+    let host : c.args.host < most_hosts = let below = c.requires in omega (arith, below, most) in
     hosts_with t.shape t.ballots c.count_vote.new.ballots c.args.pos c.args.host c.args.vote c.requires
     (finds t.ballots c.count_vote.new.ballots c.args.pos c.args.host c.args.vote c.count_vote.ensures.counted
     (with_vote_finds t.ballots c.args.pos c.args.host c.args.vote (omega (arith, low, above)) (omega (arith, low, above, size, within, width)) host c.count_vote.ensures.wide)) t.hosts_are
@@ -35,7 +36,7 @@ returns-clause-stands c = λ s low0 search st.
     let size : c.from.result ≡ span t.shape = c.from.ensures ∙ c.span.ensures in
     let within = c.if-pos-low-2.false in
     let most = t.shape.faults_in.1 in
-    let host : c.args.host < 7 = let below = c.requires in omega (arith, below, most) in
+    let host : c.args.host < most_hosts = let below = c.requires in omega (arith, below, most) in
     vote_stands t _ c.args.pos c.args.host c.args.vote refl (ap (λ (b : Ballots). b.low) c.count_vote.ensures.counted)
     (finds t.ballots c.count_vote.new.ballots c.args.pos c.args.host c.args.vote c.count_vote.ensures.counted
     (with_vote_finds t.ballots c.args.pos c.args.host c.args.vote (omega (arith, low, above)) (omega (arith, low, above, size, within, width)) host c.count_vote.ensures.wide)) s low0 search st
