@@ -79,7 +79,7 @@ def size_faults():
 
 def story_faults():
     """Stories whose schedule, without what is told between its lines, is not the example's; and examples without one."""
-    stories = TOP / "crates" / "mb_rows" / "data" / "stories"
+    stories = TOP / "crates" / "mb_program_tests" / "data" / "stories"
     for example in sorted((TOP / "examples").glob("*.schedule")):
         story = stories / f"{example.stem}.story"
         told = story.read_text().splitlines() if story.exists() else []

@@ -7,7 +7,7 @@ import sys
 sys.dont_write_bytecode = True
 import price  # noqa: E402
 
-WORLDS = {"mb_world_model", "mb_world_laws", "mb_promise", "mb_each_host", "mb_agreement", "mb_forged", "mb_parties", "mb_world"}
+WORLDS = {"mb_world_model", "mb_world_laws", "mb_promise", "mb_each_host", "mb_agreement", "mb_forgery", "mb_members", "mb_world"}
 HOSTS = ("mb_replica", "mb_core", "mb_node", "mb_client", "mb_cluster", "mb_journal", "mb_kv")
 # Lemmas of fields, which the laws of a service need: an impl can name only what is in specs.
 LEMMAS = "mb_base.proofs.Laws"

@@ -1,5 +1,5 @@
 #!/usr/bin/env python3
-"""long_rows.py cluster CONFIG: what arrives and what is sent in a long run of a client program, as a file `outside` of crates/mb_rows.
+"""long_rows.py cluster CONFIG: what arrives and what is sent in a long run of a client program, as a file `outside` of crates/mb_program_tests.
 long_rows.py node RECORD: what arrives at a node whose record this is, likewise. The record is to be an outside program's.
 
 The replies are made here, with right tags: mostly of two hosts in turn, now and then with a quiet, a reply again, or one of another number before them."""

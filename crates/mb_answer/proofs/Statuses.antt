@@ -11,7 +11,7 @@ use Rattle.mb_sched.specs.declared.bad_text.BadText.TheVariants as fault
 use Rattle.mb_sched.specs.declared.configs.Config.{Config}
 use Rattle.mb_sched.specs.Configs.{max_config, config_of, config_contents}
 use Rattle.mb_sched.specs.TextLines.{ReadsText}
-use Rattle.mb_answer.specs.declared.answer.Answer.{Answer}
+use Rattle.mb_answer.specs.declared.answer.Output.{Output}
 use Rattle.mb_answer.specs.Refusals.{IsRefusal}
 use Rattle.mb_answer.specs.Configs as config
 use Rattle.mb_answer.specs.Configs.{RefusesConfig, lack_statuses}
@@ -90,7 +90,7 @@ refuses_config text fault.NoMemory status out bad is = absurd is
 
 -- ---- responses
 
-pub responded : (answers : ℕ → Bytes → Type 0) (answer : Result Answer NoMemory) (status : ℕ) (source source' sink sink' : Device)
+pub responded : (answers : ℕ → Bytes → Type 0) (answer : Result Output NoMemory) (status : ℕ) (source source' sink sink' : Device)
     → IfOk answer (λ a. answers a.status a.text.items) → IfOk answer (λ a. Says a.status a.text.items status sink sink') → IfErr answer (λ _. (status ≡ 4) × (sink ≡ sink'))
     → Responds answers status source source' sink sink'
 responded answers (Ok a) status source source' sink sink' is wrote none = answered a.status a.text.items is wrote
@@ -114,7 +114,7 @@ said_not_zero wanted out status old new some (said same grew) = λ zero. some (s
 said_not_zero wanted out status old new some (failed six rose part) = λ zero. absurd (omega (arith, six, zero))
 said_not_zero wanted out status old new some (cut_short four part) = λ zero. absurd (omega (arith, four, zero))
 
-pub responded_not_zero : (answer : Result Answer NoMemory) (status : ℕ) (sink sink' : Device) → IfOk answer (λ a. ¬ (a.status ≡ 0)) → IfOk answer (λ a. Says a.status a.text.items status sink sink')
+pub responded_not_zero : (answer : Result Output NoMemory) (status : ℕ) (sink sink' : Device) → IfOk answer (λ a. ¬ (a.status ≡ 0)) → IfOk answer (λ a. Says a.status a.text.items status sink sink')
     → IfErr answer (λ _. (status ≡ 4) × (sink ≡ sink')) → ¬ (status ≡ 0)
 responded_not_zero (Ok a) status sink sink' some wrote none = said_not_zero a.status a.text.items status sink sink' some wrote
 responded_not_zero (Err e) status sink sink' some wrote none = λ zero. absurd (omega (arith, none.0, zero))
@@ -170,7 +170,7 @@ module _ (P : ℕ → Type 0) (four : P 4) (six : P 6) where
   said_is wanted out status old new p (failed is rose part) = subst P (sym is) six
   said_is wanted out status old new p (cut_short is part) = subst P (sym is) four
 
-  pub responded_is : (answer : Result Answer NoMemory) (status : ℕ) (sink sink' : Device) → IfOk answer (λ a. P a.status) → IfOk answer (λ a. Says a.status a.text.items status sink sink')
+  pub responded_is : (answer : Result Output NoMemory) (status : ℕ) (sink sink' : Device) → IfOk answer (λ a. P a.status) → IfOk answer (λ a. Says a.status a.text.items status sink sink')
       → IfErr answer (λ _. (status ≡ 4) × (sink ≡ sink')) → P status
   responded_is (Ok a) status sink sink' p wrote none = said_is a.status a.text.items status sink sink' p wrote
   responded_is (Err e) status sink sink' p wrote none = subst P (sym none.0) four

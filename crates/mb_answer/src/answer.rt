@@ -53,88 +53,88 @@ pub const USAGE_TEXT: &[u8] =
 
 /// A status, and what is written with it.
 #[derive(Drop)]
-pub struct Answer {
+pub struct Output {
     pub status: u8,
     pub text: Vec<u8>,
 }
 
 /// The words name a host that there is not.
-pub fn usage(alloc: Global) -> Result<Answer, NoMemory>
+pub fn usage(alloc: Global) -> Result<Output, NoMemory>
     ensures { IfOk result (λ a. (a.status ≡ 1) × (a.text.items ≡ usage_text)) }
 {
-    Ok(Answer {
+    Ok(Output {
         status: USAGE,
         text: Vec::from_slice(alloc, USAGE_TEXT)?,
     })
 }
 
 /// The source has more bytes than the longest text.
-pub fn too_long(alloc: Global) -> Result<Answer, NoMemory>
+pub fn too_long(alloc: Global) -> Result<Output, NoMemory>
     ensures { IfOk result (λ a. (a.status ≡ 2) × (a.text.items ≡ too_long_text)) }
 {
-    Ok(Answer {
+    Ok(Output {
         status: BAD_INPUT,
         text: Vec::from_slice(alloc, b"too long\n")?,
     })
 }
 
 /// The first bad line of a text, by its number from 1.
-pub fn bad_line(alloc: Global, number: u64) -> Result<Answer, NoMemory>
+pub fn bad_line(alloc: Global, number: u64) -> Result<Output, NoMemory>
     ensures { IfOk result (λ a. (a.status ≡ 2) × (a.text.items ≡ bad_line_text number)) }
 {
     let text = format!(in alloc; "bad line {number}\n")?;
-    Ok(Answer {
+    Ok(Output {
         status: BAD_INPUT,
         text: text.into_bytes(),
     })
 }
 
 /// The file of a journal that is to be made has so many bytes already.
-pub fn journal_exists(alloc: Global, length: u64) -> Result<Answer, NoMemory>
+pub fn journal_exists(alloc: Global, length: u64) -> Result<Output, NoMemory>
     ensures { IfOk result (λ a. (a.status ≡ 16) × (a.text.items ≡ exists_text length)) }
 {
     let text = format!(in alloc; "exists {length}\n")?;
-    Ok(Answer {
+    Ok(Output {
         status: JOURNAL_EXISTS,
         text: text.into_bytes(),
     })
 }
 
 /// A file is no journal of this config and host, by the offset of its first fault.
-pub fn bad_journal(alloc: Global, at: u64) -> Result<Answer, NoMemory>
+pub fn bad_journal(alloc: Global, at: u64) -> Result<Output, NoMemory>
     ensures { IfOk result (λ a. (a.status ≡ 17) × (a.text.items ≡ bad_journal_text at)) }
 {
     let text = format!(in alloc; "bad journal at {at}\n")?;
-    Ok(Answer {
+    Ok(Output {
         status: BAD_JOURNAL,
         text: text.into_bytes(),
     })
 }
 
 /// The event, by its number from 1, that would deliver a certificate which its host never gave at that counter.
-pub fn forged(alloc: Global, event: u64, host: Host, counter: Counter) -> Result<Answer, NoMemory>
+pub fn forged(alloc: Global, event: u64, host: Host, counter: Counter) -> Result<Output, NoMemory>
     ensures { IfOk result (λ a. (a.status ≡ 3) × (a.text.items ≡ forged_text event host counter)) }
 {
     let text = format!(in alloc; "forged event {event} h{host} {counter}\n")?;
-    Ok(Answer {
+    Ok(Output {
         status: FORGED,
         text: text.into_bytes(),
     })
 }
 
 /// The event, by its number from 1, that would deliver a tag which nobody made.
-pub fn forged_tag(alloc: Global, event: u64) -> Result<Answer, NoMemory>
+pub fn forged_tag(alloc: Global, event: u64) -> Result<Output, NoMemory>
     ensures { IfOk result (λ a. (a.status ≡ 3) × (a.text.items ≡ forged_tag_text event)) }
 {
     let text = format!(in alloc; "forged event {event} tag\n")?;
-    Ok(Answer {
+    Ok(Output {
         status: FORGED,
         text: text.into_bytes(),
     })
 }
 
 /// The answer to a text that says nothing.
-pub fn refusal(alloc: Global, fault: BadText) -> Result<Answer, NoMemory>
+pub fn refusal(alloc: Global, fault: BadText) -> Result<Output, NoMemory>
     ensures { IfOk result (λ a. IsRefusal fault a.status a.text.items) }
 {
     match fault {

@@ -4,7 +4,7 @@ ghost use Rattle.std.specs.Prelude.{◌≡◌, IfOk, IfErr};
 ghost use Rattle.mb_edge.specs.Faults.{TellsFaults};
 ghost use Rattle.mb_answer.specs.Devices.{Says, SaysOrStarves, IsUnread, IsToldBy, IsLow};
 
-use crate::answer::{Answer, NO_MEMORY, SINK_FAULT, SOURCE_FAULT, too_long};
+use crate::answer::{NO_MEMORY, Output, SINK_FAULT, SOURCE_FAULT, too_long};
 use mb_base::NoMemory;
 use mb_edge::{ReadStop, Sink, WriteStop, write_all};
 use std::alloc::Global;
@@ -25,7 +25,7 @@ pub fn say<K: Sink>(sink: &mut K, text: &[u8], status: u8) -> u8
 }
 
 /// Writes an answer, if there is memory for one.
-pub fn respond<K: Sink>(sink: &mut K, answer: Result<Answer, NoMemory>) -> u8
+pub fn respond<K: Sink>(sink: &mut K, answer: Result<Output, NoMemory>) -> u8
     requires { IfOk answer (λ a. IsToldBy a.status) }
     ensures says { IfOk answer (λ a. Says a.status a.text.items result (K.seen sink.old) (K.seen sink.new)) }
     ensures lacks { IfErr answer (λ _. (result ≡ 4) × (K.seen sink.old ≡ K.seen sink.new)) }

@@ -37,7 +37,7 @@ use Rattle.mb_world_model.specs.WorldSteps.{world}
 use Rattle.mb_host_laws.proofs.Cases.{not_both, some_is}
 use Rattle.mb_world_laws.proofs.Grown.{IsGivenTo}
 use Rattle.mb_world_laws.proofs.OwnStamps.{own_fits}
-use Rattle.mb_genuine.proofs.Ready.{IsReady, ready, given_fits}
+use Rattle.mb_unforged.proofs.Ready.{IsReady, ready, given_fits}
 use Rattle.mb_audit.specs.Stamps.{claims_of, IsStamp}
 use Rattle.mb_audit.specs.declared.auditing.Verdict.TheVariants.{Double, Illegal}
 use Rattle.mb_audit.specs.Verdicts.{IsVerdict, AreTaken, may_follow}

@@ -11,8 +11,8 @@ use Rattle.mb_model.specs.Held.{wish_of, changes_of, enter_of, opened_by, new_vi
 use Rattle.mb_model.specs.OwnLog.{has_other_room}
 use Rattle.mb_model.specs.Positions.{exec_of}
 use Rattle.mb_model.specs.Stable.{low_of}
-use Rattle.mb_searches.proofs.Framing.{wishes_stay, changes_stay, enters_stay, opened_stays, new_view_stays, evidence_stays, plan_stays}
-use Rattle.mb_searches.proofs.ViewChanges.{enter_put, own_enter_put, opened_put, wish_put, change_wish_put, own_change_wish_put, patience_wish_put}
+use Rattle.mb_history_laws.proofs.Framing.{wishes_stay, changes_stay, enters_stay, opened_stays, new_view_stays, evidence_stays, plan_stays}
+use Rattle.mb_history_laws.proofs.ViewChanges.{enter_put, own_enter_put, opened_put, wish_put, change_wish_put, own_change_wish_put, patience_wish_put}
 use Rattle.mb_change.specs.declared.due.ChangeDue.{ChangeDue}
 use Rattle.mb_change.specs.Tables.{Table, empty_table}
 use Rattle.mb_change.specs.Searches.{opened_in}

@@ -7,16 +7,16 @@ use Rattle.mb_base.specs.Shapes.{host_count}
 use Rattle.mb_model.specs.Histories.{History, Identity, here}
 use Rattle.mb_model.specs.Stable.{low_of}
 use Rattle.mb_model.specs.Positions.{exec_of, is_behind}
-use Rattle.mb_fitting.proofs.Gates.{gate_fits}
-use Rattle.mb_fitting.proofs.Found.{exec_place}
+use Rattle.mb_encodable.proofs.Gates.{gate_fits}
+use Rattle.mb_encodable.proofs.Found.{exec_place}
 use Rattle.mb_replica.specs.declared.state.ReplicaState.{ReplicaState}
 use Rattle.mb_replica.specs.Represents.{Represents, HasHistory}
 
 module _ {V : Type 0} (me : Identity V) (r : ReplicaState V) (d : History) (rep : Represents me r d) where
   pub host_there : me.host < host_count me.shape
   host_there =
-      let within : r.agreement.host < host_count r.agreement.shape = r.agreement.host_in in
-      let here_in : me.host < host_count r.agreement.shape = subst (λ (h : ℕ). h < host_count r.agreement.shape) (sym rep.who.host) within in
+      let within : r.protocol.host < host_count r.protocol.shape = r.protocol.host_in in
+      let here_in : me.host < host_count r.protocol.shape = subst (λ (h : ℕ). h < host_count r.protocol.shape) (sym rep.who.host) within in
       subst (λ (s : Shape). me.host < host_count s) (sym rep.who.shape) here_in
 
   pub last_low : (here me d).last < 2 ^ 63
@@ -26,14 +26,14 @@ module _ {V : Type 0} (me : Identity V) (r : ReplicaState V) (d : History) (rep 
   exec_low = exec_place me host_there d rep.tables.sound rep.fit
 
   -- behind the stable position
-  pub behind_low : is_behind me d ≡ true → r.agreement.exec < r.agreement.stable.pos
+  pub behind_low : is_behind me d ≡ true → r.protocol.exec < r.protocol.stable.pos
   behind_low behind =
       let lt : exec_of d < low_of me d = ltb-true (exec_of d) (low_of me d) behind in
-      subst (λ (n : ℕ). n < r.agreement.stable.pos) (sym rep.tables.exec) (subst (λ (c : StableCert). exec_of d < c.pos) (sym rep.tables.stable) lt)
+      subst (λ (n : ℕ). n < r.protocol.stable.pos) (sym rep.tables.exec) (subst (λ (c : StableCert). exec_of d < c.pos) (sym rep.tables.stable) lt)
 
 -- The same, whatever the history is.
 module _ {V : Type 0} (r : ReplicaState V) (h : HasHistory r) where
-  pub executed_low : r.agreement.exec < 2 ^ 63
+  pub executed_low : r.protocol.exec < 2 ^ 63
   executed_low = subst (λ (n : ℕ). n < 2 ^ 63) (sym h.represents.tables.exec) (exec_low h.me r h.history h.represents)
 
   pub standing_low : (n : ℕ) → ((me : Identity V) (d : History) → Represents me r d → n ≡ (here me d).last) → n < 2 ^ 63

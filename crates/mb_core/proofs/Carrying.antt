@@ -20,9 +20,9 @@ use Rattle.mb_host_laws.proofs.Cases.{some_is}
 use Rattle.mb_normal.specs.declared.normal.Normal.{Normal}
 use Rattle.mb_normal.specs.Searches.{searches_in}
 use Rattle.mb_normal.specs.Tables.{Represents as NormalRepresents}
-use Rattle.mb_standing.specs.Positions.{CountsVote, PutsSlot, carrying, open_slots, has_place}
-use Rattle.mb_standing.specs.Tables.{Tables}
-use Rattle.mb_standing.proofs.PositionsOpens.{carrying_begins, slot_carried, slot_passed, carrying_ends, no_slot_to_base, no_slot_behind, slot_with_place, no_slot_outside}
+use Rattle.mb_refinement.specs.Positions.{CountsVote, PutsSlot, carrying, open_slots, has_place}
+use Rattle.mb_refinement.specs.Tables.{Tables}
+use Rattle.mb_refinement.proofs.PositionsOpens.{carrying_begins, slot_carried, slot_passed, carrying_ends, no_slot_to_base, no_slot_behind, slot_with_place, no_slot_outside}
 use Rattle.mb_replica.specs.declared.state.ReplicaState.{ReplicaState}
 use Rattle.mb_replica.specs.Between.{WritesNormal}
 use Rattle.mb_core.specs.Carrying.{Opens, StandsCarrying, CarriesMore, CarriesOn}
@@ -56,21 +56,21 @@ module _ {V : Type 0} (me : Identity V) (d : History) (m : Open) (view : ℕ) (e
     base_is = ap (λ (y : Evidence). y.base) o.shows.evidence
 
     -- none yet
-    pub carry_begins : NormalRepresents me.shape me.host r.agreement.normal (searches_in me d) → StandsCarrying me d m (e.base + 0) r
-    carry_begins st = carrying_begins me.shape me.host (searches_in me d) (open_slots me m d) r.agreement.normal (e.base + 0) (λ p le. let b = base_is in no_slot_to_base me m body d o.shows.body in_view p (omega (arith, b, le))) st
+    pub carry_begins : NormalRepresents me.shape me.host r.protocol.normal (searches_in me d) → StandsCarrying me d m (e.base + 0) r
+    carry_begins st = carrying_begins me.shape me.host (searches_in me d) (open_slots me m d) r.protocol.normal (e.base + 0) (λ p le. let b = base_is in no_slot_to_base me m body d o.shows.body in_view p (omega (arith, b, le))) st
 
     -- all
-    pub carry_ends : (n : ℕ) → length_in (plan_of_view view r.agreement.change.plan) ≤ n → StandsCarrying me d m (e.base + n) r
-        → NormalRepresents me.shape me.host r.agreement.normal (carrying me.host (searches_in me d) (open_slots me m d) (λ p. true))
+    pub carry_ends : (n : ℕ) → length_in (plan_of_view view r.protocol.change.plan) ≤ n → StandsCarrying me d m (e.base + n) r
+        → NormalRepresents me.shape me.host r.protocol.normal (carrying me.host (searches_in me d) (open_slots me m d) (λ p. true))
     carry_ends n many st =
         let b = base_is in
         let long : length o.plan.batches ≤ n = subst (λ (p : Option Plan). length_in p ≤ n) o.held many in
-        carrying_ends me.shape me.host (searches_in me d) (open_slots me m d) r.agreement.normal (e.base + n) (λ p lt. no_slot_behind me m body d o.shows.body in_view p (omega (arith, b, long, lt))) st
+        carrying_ends me.shape me.host (searches_in me d) (open_slots me m d) r.protocol.normal (e.base + n) (λ p lt. no_slot_behind me m body d o.shows.body in_view p (omega (arith, b, long, lt))) st
 
     -- one that lies above all
     pub carry_passes : (index : ℕ) → position_limit < e.base + index + 1 → StandsCarrying me d m (e.base + index) r → StandsCarrying me d m (e.base + index + 1) r
     carry_passes index above st =
-        slot_passed me.shape me.host (searches_in me d) (open_slots me m d) r.agreement.normal (e.base + index) (no_slot_outside me m d (e.base + index + 1) outside) st where
+        slot_passed me.shape me.host (searches_in me d) (open_slots me m d) r.protocol.normal (e.base + index) (no_slot_outside me m d (e.base + index + 1) outside) st where
           unlimited : (a b : Bool) → (a && (b && false)) ≡ false
           unlimited true true = refl
           unlimited true false = refl
@@ -80,11 +80,11 @@ module _ {V : Type 0} (me : Identity V) (d : History) (m : Open) (view : ℕ) (e
           outside = rw (lt-leb (e.base + index + 1) position_limit above) (unlimited (nat_lt (low_of me d) (e.base + index + 1)) (nat_le (e.base + index + 1) (low_of me d + span me.shape)))
 
     -- one more
-    pub carry_more : (index : ℕ) (batch : Batch) → slice_get o.plan.batches index ≡ Some batch → e.base + index + 1 ≤ position_limit → (put new : Normal) → PutsSlot r.agreement.normal put (e.base + index + 1) (slot_of_plan e batch)
+    pub carry_more : (index : ℕ) (batch : Batch) → slice_get o.plan.batches index ≡ Some batch → e.base + index + 1 ≤ position_limit → (put new : Normal) → PutsSlot r.protocol.normal put (e.base + index + 1) (slot_of_plan e batch)
         → CountsVote put new (e.base + index + 1) me.host (slot_vote (slot_of_plan e batch)) → StandsCarrying me d m (e.base + index) r
         → NormalRepresents me.shape me.host new (carrying me.host (searches_in me d) (open_slots me m d) (λ p. nat_le p (e.base + index + 1)))
     carry_more index batch there most put new puts counts st =
-        slot_carried me.shape me.host (searches_in me d) (open_slots me m d) r.agreement.normal put new (e.base + index) (slot_of_plan e batch) placed puts counts st where
+        slot_carried me.shape me.host (searches_in me d) (open_slots me m d) r.protocol.normal put new (e.base + index) (slot_of_plan e batch) placed puts counts st where
           placed : open_slots me m d (e.base + index + 1) ≡ (if has_place me.shape (searches_in me d) (e.base + index + 1) then Some (slot_of_plan e batch) else None)
           placed =
               let most_is : nat_le (m.evidence.base + index + 1) position_limit ≡ true = le-leb (m.evidence.base + index + 1) position_limit (let b = base_is in omega (arith, b, most)) in
@@ -92,9 +92,9 @@ module _ {V : Type 0} (me : Identity V) (d : History) (m : Open) (view : ℕ) (e
               subst (λ (y : Evidence). open_slots me m d (y.base + index + 1) ≡ (if has_place me.shape (searches_in me d) (y.base + index + 1) then Some (slot_of_plan y batch) else None)) o.shows.evidence at
 
     -- as the code reads it
-    pub carry_read : (index : ℕ) (plan : Plan) (list : List Batch) (item batch : Batch) (digest : List ℕ) → Some plan ≡ plan_of_view view r.agreement.change.plan → list ≡ plan.batches → index < length_in (plan_of_view view r.agreement.change.plan)
-        → item ≡ get_or list index item → batch ≡ item → ((p : Plan) → plan_of_view view r.agreement.change.plan ≡ Some p → slice_get (map batch_digest p.batches) index ≡ Some digest) → e.base + index + 1 ≤ position_limit → (put new : Normal)
-        → PutsSlot r.agreement.normal put (e.base + index + 1) (record { counter = e.counter; cert = e.cert; digest = digest; batch = Some batch }) → (host : ℕ) → host ≡ me.host
+    pub carry_read : (index : ℕ) (plan : Plan) (list : List Batch) (item batch : Batch) (digest : List ℕ) → Some plan ≡ plan_of_view view r.protocol.change.plan → list ≡ plan.batches → index < length_in (plan_of_view view r.protocol.change.plan)
+        → item ≡ get_or list index item → batch ≡ item → ((p : Plan) → plan_of_view view r.protocol.change.plan ≡ Some p → slice_get (map batch_digest p.batches) index ≡ Some digest) → e.base + index + 1 ≤ position_limit → (put new : Normal)
+        → PutsSlot r.protocol.normal put (e.base + index + 1) (record { counter = e.counter; cert = e.cert; digest = digest; batch = Some batch }) → (host : ℕ) → host ≡ me.host
         → CountsVote put new (e.base + index + 1) host (record { counter = e.counter; request = digest }) → StandsCarrying me d m (e.base + index) r
         → NormalRepresents me.shape me.host new (carrying me.host (searches_in me d) (open_slots me m d) (λ p. nat_le p (e.base + index + 1)))
     carry_read index plan list item batch digest is listed lt read copied hashed most put new puts host own counts st =
@@ -104,9 +104,9 @@ module _ {V : Type 0} (me : Identity V) (d : History) (m : Open) (view : ℕ) (e
         let there : slice_get list index ≡ Some item = stored list index index item refl (subst (λ (l : List Batch). index < length l) (sym all) within) read in
         let at : slice_get o.plan.batches index ≡ Some item = ap (λ (l : List Batch). slice_get l index) (sym all) ∙ there in
         let hash : digest ≡ batch_digest item = some_is digest (batch_digest item) (sym (hashed o.plan o.held) ∙ slice_get-map batch_digest o.plan.batches index ∙ ap (option_map batch_digest) at) in
-        let slot : PutsSlot r.agreement.normal put (e.base + index + 1) (slot_of_plan e item) =
-        subst (λ (b : Batch). PutsSlot r.agreement.normal put (e.base + index + 1) (record { counter = e.counter; cert = e.cert; digest = batch_digest item; batch = Some b })) copied
-        (subst (λ (t : List ℕ). PutsSlot r.agreement.normal put (e.base + index + 1) (record { counter = e.counter; cert = e.cert; digest = t; batch = Some batch })) hash puts) in
+        let slot : PutsSlot r.protocol.normal put (e.base + index + 1) (slot_of_plan e item) =
+        subst (λ (b : Batch). PutsSlot r.protocol.normal put (e.base + index + 1) (record { counter = e.counter; cert = e.cert; digest = batch_digest item; batch = Some b })) copied
+        (subst (λ (t : List ℕ). PutsSlot r.protocol.normal put (e.base + index + 1) (record { counter = e.counter; cert = e.cert; digest = t; batch = Some batch })) hash puts) in
         let vote : CountsVote put new (e.base + index + 1) me.host (slot_vote (slot_of_plan e item)) =
         subst (λ (h : ℕ). CountsVote put new (e.base + index + 1) h (record { counter = e.counter; request = batch_digest item })) own
         (subst (λ (t : List ℕ). CountsVote put new (e.base + index + 1) host (record { counter = e.counter; request = t })) hash counts) in
@@ -117,7 +117,7 @@ module _ {V : Type 0} (me : Identity V) (d : History) (m : Open) (view : ℕ) (e
 -- The positions of so many batches were carried on, and no other table was written.
 pub record CarriedTo {V : Type 0} (view : ℕ) (e : Evidence) (n : ℕ) (old new : ReplicaState V) : Type 0 where
   pub writes : WritesNormal old new
-  pub carried : (me : Identity V) (d : History) (m : Open) → Opens me d m view e old → NormalRepresents me.shape me.host old.agreement.normal (searches_in me d) → StandsCarrying me d m (e.base + n) new
+  pub carried : (me : Identity V) (d : History) (m : Open) → Opens me d m view e old → NormalRepresents me.shape me.host old.protocol.normal (searches_in me d) → StandsCarrying me d m (e.base + n) new
 
 module _ {V : Type 0} (view : ℕ) (e : Evidence) where
   pub carried_none : (r : ReplicaState V) → CarriedTo view e 0 r r
@@ -129,7 +129,7 @@ module _ {V : Type 0} (view : ℕ) (e : Evidence) where
   pub then_carried : (old mid new : ReplicaState V) → WritesNormal old mid → WritesNormal mid new → WritesNormal old new
   then_carried old mid new a b = record {
     same = same_again old mid new a.same b.same;
-    tables = b.tables ∙ ap (λ (t : Tables V). record t { normal = new.agreement.normal }) a.tables;
+    tables = b.tables ∙ ap (λ (t : Tables V). record t { normal = new.protocol.normal }) a.tables;
   }
 
   pub carried_more : (n : ℕ) (old mid new : ReplicaState V) → CarriedTo view e n old mid → WritesNormal mid new → CarriesMore view e n mid new → CarriedTo view e (n + 1) old new
@@ -140,7 +140,7 @@ module _ {V : Type 0} (view : ℕ) (e : Evidence) where
     next : (b n : ℕ) → b + n + 1 ≡ b + (n + 1)
     next b n = omega arith
 
-  pub carried_all : (n : ℕ) (old new : ReplicaState V) → CarriedTo view e n old new → length_in (plan_of_view view old.agreement.change.plan) ≤ n → CarriesOn view e old new
+  pub carried_all : (n : ℕ) (old new : ReplicaState V) → CarriedTo view e n old new → length_in (plan_of_view view old.protocol.change.plan) ≤ n → CarriesOn view e old new
   carried_all n old new c many me d m o st =
-      let same : plan_of_view view new.agreement.change.plan ≡ plan_of_view view old.agreement.change.plan = ap (λ (t : Tables V). plan_of_view view t.change.plan) c.writes.tables in
+      let same : plan_of_view view new.protocol.change.plan ≡ plan_of_view view old.protocol.change.plan = ap (λ (t : Tables V). plan_of_view view t.change.plan) c.writes.tables in
       carry_ends me d m view e new (opens_still me d m view e old new c.writes o) n (subst (λ (p : Option Plan). length_in p ≤ n) (sym same) many) (c.carried me d m o st)

@@ -10,7 +10,7 @@ use Rattle.mb_model.specs.EnabledRules.{Rule, ChangeView, Announce, Enter, Open,
 use Rattle.mb_model.specs.Histories.{History, Identity, here}
 use Rattle.mb_model.specs.OwnLog.{has_other_room}
 use Rattle.mb_model.specs.Stable.{low_of}
-use Rattle.mb_standing.proofs.Changes.{change_answers}
+use Rattle.mb_refinement.proofs.Changes.{change_answers}
 use Rattle.mb_core.specs.declared.rules.Due.{Due}
 use Rattle.mb_core.specs.declared.rules.Due.TheVariants as due
 use Rattle.mb_replica.specs.declared.state.ReplicaState.{ReplicaState}
@@ -78,8 +78,8 @@ module _ {S : Type 0} (me : Identity S) (d : History) where
 
 -- What is due of view changes is the first rule of them.
 pub change_named : {V : Type 0} (me : Identity V) (r : ReplicaState V) (d : History) → Represents me r d → (x : ChangeDue) (at : Floor) (low : ℕ) (room : Bool)
-    → at ≡ here me d → low ≡ low_of me d → room ≡ has_other_room me d → Answers r.agreement.change x (λ s. due_with r.agreement.change.shape r.agreement.change.host at s r.agreement.exec low room)
+    → at ≡ here me d → low ≡ low_of me d → room ≡ has_other_room me d → Answers r.protocol.change x (λ s. due_with r.protocol.change.shape r.protocol.change.host at s r.protocol.exec low room)
     → Names (as_due x) (change_rule me d)
 change_named me r d rep x at low room same_at same_low same_room answers =
-    named me d x (change_rule me d) ((change_answers me r.agreement.change d rep.tables.change).rule x
+    named me d x (change_rule me d) ((change_answers me r.protocol.change d rep.tables.change).rule x
     (λ s stands. answers s stands ∙ rw (same_at, same_low, same_room, rep.tables.exec) refl))

@@ -16,21 +16,21 @@ use Rattle.mb_model.specs.Making.{checkpoint}
 use Rattle.mb_model.specs.Sending.{Progress, note, stamp}
 use Rattle.mb_model.specs.CarriedOut.{slot_for, close_slot, with_checkpoint, at_interval, state_strings}
 use Rattle.mb_steps.specs.Arises.{Adds}
-use Rattle.mb_searches.specs.Sound.{IsSound}
-use Rattle.mb_searches.proofs.Framing.{low_stays}
-use Rattle.mb_searches.proofs.Executing.{served_ends}
-use Rattle.mb_searches.proofs.SoundRules.{serving_ends}
-use Rattle.mb_fitting.proofs.Fit.{executed_fit}
+use Rattle.mb_history_laws.specs.Sound.{IsSound}
+use Rattle.mb_history_laws.proofs.Framing.{low_stays}
+use Rattle.mb_history_laws.proofs.Executing.{served_ends}
+use Rattle.mb_history_laws.proofs.SoundRules.{serving_ends}
+use Rattle.mb_encodable.proofs.Fit.{executed_fit}
 use Rattle.mb_fetch.specs.Snapshots.{parts_at}
-use Rattle.mb_keeper.specs.Keeping.{Keeping, with_snapshot}
-use Rattle.mb_standing.specs.Tables.{Tables}
-use Rattle.mb_standing.specs.Stands.{ShelfStands}
-use Rattle.mb_standing.proofs.Values.{executed_position}
-use Rattle.mb_standing.proofs.Snapshots.{none_kept_above, place_left, shelf_kept, shelf_left}
-use Rattle.mb_standing.proofs.FetchedParts.{held_stays}
-use Rattle.mb_standing.proofs.Together.{EachStands, stand_lags, stays, stands_behind}
+use Rattle.mb_executor.specs.Keeping.{Keeping, with_snapshot}
+use Rattle.mb_refinement.specs.Tables.{Tables}
+use Rattle.mb_refinement.specs.Stands.{ShelfStands}
+use Rattle.mb_refinement.proofs.Values.{executed_position}
+use Rattle.mb_refinement.proofs.Snapshots.{none_kept_above, place_left, shelf_kept, shelf_left}
+use Rattle.mb_refinement.proofs.FetchedParts.{held_stays}
+use Rattle.mb_refinement.proofs.Together.{EachStands, stand_lags, stays, stands_behind}
 use Rattle.mb_replica.specs.declared.state.ReplicaState.{ReplicaState}
-use Rattle.mb_replica.specs.declared.sending.Done.{Done}
+use Rattle.mb_replica.specs.declared.sending.StepOutput.{StepOutput}
 use Rattle.mb_replica.specs.Represents.{tables_of, Represents, StandsAt}
 use Rattle.mb_replica.specs.Between.{IsSame}
 use Rattle.mb_core.specs.Serving.{ServesOn, WritesShelf, KeepsWhere}
@@ -50,12 +50,12 @@ module _ {V : Type 0} (me : Identity V) where
     pub tables : tables_of new ≡ record (tables_of old) { exec = pos; shelf = new.keeper.snapshots }
 
   -- One batch more was executed.
-  pub record DoesBatch (slot : Slot) (old new : Done) : Type 0 where
+  pub record DoesBatch (slot : Slot) (old new : StepOutput) : Type 0 where
     pub sent : new.sent ≡ old.sent
     pub executed : new.executed ≡ old.executed ++ slot ∷ []
     pub installed : new.installed ≡ old.installed
 
-  module _ (old : ReplicaState V) (done : Done) (pos : ℕ) (served : List Placed) (x : Progress) (s : ServesOn me old done pos [] served x) where
+  module _ (old : ReplicaState V) (done : StepOutput) (pos : ℕ) (served : List Placed) (x : Progress) (s : ServesOn me old done pos [] served x) where
     rep : Represents me old x.history
     rep = s.stands.represents
 
@@ -75,17 +75,17 @@ module _ {V : Type 0} (me : Identity V) where
     pub has_place : length old.keeper.snapshots < snapshot_limit
     has_place = place_left me old.keeper.snapshots (slot_for me x.history pos) x.history rep.tables.sound adds_on rep.tables.shelf
 
-    at_multiple : (b : Bool) → (pos % interval old.agreement.shape == 0) ≡ b → (pos % interval me.shape == 0) ≡ b
+    at_multiple : (b : Bool) → (pos % interval old.protocol.shape == 0) ≡ b → (pos % interval me.shape == 0) ≡ b
     at_multiple b is = ap (λ (z : Shape). pos % interval z == 0) rep.who.shape ∙ is
 
     -- At a multiple of the interval a snapshot was kept, and elsewhere none.
     pub shelf_closed : (new : ReplicaState V) (snapshots : Snapshots V) → me.snapshots ≡ snapshots
-        → KeepsWhere (pos % interval old.agreement.shape == 0) pos (parts_of snapshots old.keeper.served) old.keeper.snapshots new.keeper.snapshots → ShelfStands me new.keeper.snapshots (closed_now ∷ x.history)
-    shelf_closed new snapshots same keeps = by_test (pos % interval old.agreement.shape == 0) refl keeps where
+        → KeepsWhere (pos % interval old.protocol.shape == 0) pos (parts_of snapshots old.keeper.served) old.keeper.snapshots new.keeper.snapshots → ShelfStands me new.keeper.snapshots (closed_now ∷ x.history)
+    shelf_closed new snapshots same keeps = by_test (pos % interval old.protocol.shape == 0) refl keeps where
       parts : parts_of snapshots old.keeper.served ≡ parts_of me.snapshots (state_of me x.history)
       parts = ap (λ (y : Snapshots V). parts_of y old.keeper.served) (sym same) ∙ ap (λ (y : ServedState V). parts_of me.snapshots y) rep.tables.service
 
-      by_test : (b : Bool) → (pos % interval old.agreement.shape == 0) ≡ b → KeepsWhere b pos (parts_of snapshots old.keeper.served) old.keeper.snapshots new.keeper.snapshots
+      by_test : (b : Bool) → (pos % interval old.protocol.shape == 0) ≡ b → KeepsWhere b pos (parts_of snapshots old.keeper.served) old.keeper.snapshots new.keeper.snapshots
           → ShelfStands me new.keeper.snapshots (closed_now ∷ x.history)
       by_test true whole kept =
           shelf_kept me old.keeper.snapshots (slot_for me x.history pos) x.history rep.tables.sound adds_on rep.tables.shelf new.keeper.snapshots (parts_of snapshots old.keeper.served) (at_multiple true whole) parts kept
@@ -93,7 +93,7 @@ module _ {V : Type 0} (me : Identity V) where
           subst (λ y. ShelfStands me y (closed_now ∷ x.history)) (sym left) (shelf_left me old.keeper.snapshots (slot_for me x.history pos) x.history rep.tables.sound adds_on rep.tables.shelf (at_multiple false apart))
 
     -- So the batch is executed.
-    pub closed_stands : (new : ReplicaState V) (behind : Done) → WritesExecuted pos old new → ShelfStands me new.keeper.snapshots (closed_now ∷ x.history) → DoesBatch (record { pos = pos; requests = served }) done behind
+    pub closed_stands : (new : ReplicaState V) (behind : StepOutput) → WritesExecuted pos old new → ShelfStands me new.keeper.snapshots (closed_now ∷ x.history) → DoesBatch (record { pos = pos; requests = served }) done behind
         → StandsAt me new behind (close_slot me pos x)
     closed_stands new behind writes shelf does =
         let t : Tables V = tables_of old in
@@ -125,7 +125,7 @@ module _ {V : Type 0} (me : Identity V) where
         }
 
   -- What is noted as hashed is no matter of the replica.
-  pub noted : (r : ReplicaState V) (done : Done) (strings : List Bytes) (x : Progress) → StandsAt me r done x → StandsAt me r done (note strings x)
+  pub noted : (r : ReplicaState V) (done : StepOutput) (strings : List Bytes) (x : Progress) → StandsAt me r done x → StandsAt me r done (note strings x)
   noted r done strings x s = record { represents = s.represents; serving = s.serving; sent = s.sent; executed = s.executed; installed = s.installed }
 
   -- ---- the CHECKPOINT that follows
@@ -143,8 +143,8 @@ module _ {V : Type 0} (me : Identity V) where
   no_checkpoint_is pos x room = rw room refl
 
   -- The keeper is as it was.
-  pub kept_same : (r : ReplicaState V) (k : Keeping V) (done : Done) (x : Progress) → k ≡ r.keeper → StandsAt me r done x → StandsAt me (record r { keeper = k }) done x
+  pub kept_same : (r : ReplicaState V) (k : Keeping V) (done : StepOutput) (x : Progress) → k ≡ r.keeper → StandsAt me r done x → StandsAt me (record r { keeper = k }) done x
   kept_same r k done x same s = subst (λ (y : Keeping V). StandsAt me (record r { keeper = y }) done x) (sym same) s
 
-  pub multiple_is : (r : ReplicaState V) (d : History) (pos : ℕ) (b : Bool) → Represents me r d → (pos % interval r.agreement.shape == 0) ≡ b → (pos % interval me.shape == 0) ≡ b
+  pub multiple_is : (r : ReplicaState V) (d : History) (pos : ℕ) (b : Bool) → Represents me r d → (pos % interval r.protocol.shape == 0) ≡ b → (pos % interval me.shape == 0) ≡ b
   multiple_is r d pos b rep is = ap (λ (z : Shape). pos % interval z == 0) rep.who.shape ∙ is

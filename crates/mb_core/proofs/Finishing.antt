@@ -14,11 +14,11 @@ use Rattle.mb_model.specs.Given.{Answer, answer, give}
 use Rattle.mb_model.specs.HostStep.{transition, on_bytes, on_message, after_message, on_patience, after_patience, on_nudge, finished, finished_where}
 use Rattle.mb_model.specs.HostStep as host
 use Rattle.mb_fetch.specs.Fetched.{Fetched}
-use Rattle.mb_keeper.specs.Represents.{RepresentsFetched}
-use Rattle.mb_standing.specs.Stands.{HeldStand}
-use Rattle.mb_replica.specs.declared.given.Answer.{Answer as GivenAnswer}
+use Rattle.mb_executor.specs.Represents.{RepresentsFetched}
+use Rattle.mb_refinement.specs.Stands.{HeldStand}
+use Rattle.mb_replica.specs.declared.given.Reaction.{Reaction as GivenAnswer}
 use Rattle.mb_replica.specs.declared.state.ReplicaState.{ReplicaState}
-use Rattle.mb_replica.specs.declared.sending.Done.{Done}
+use Rattle.mb_replica.specs.declared.sending.StepOutput.{StepOutput}
 use Rattle.mb_replica.specs.Represents.{Answers, StandsAt}
 use Rattle.mb_replica.proofs.Answering.{same_taken, answer_of}
 
@@ -32,7 +32,7 @@ module _ {V : Type 0} (me : Identity V) where
   same_outcome true asks d a = refl
   same_outcome false asks d a = refl
 
-  pub message_ends : (d : History) (m : Message) (a : GivenAnswer) (o : Outcome) (r : ReplicaState V) (done : Done) → Answers me m a (give me m (begin d))
+  pub message_ends : (d : History) (m : Message) (a : GivenAnswer) (o : Outcome) (r : ReplicaState V) (done : StepOutput) → Answers me m a (give me m (begin d))
       → StandsAt me r done (finished_where me a.rules_follow a.asks d (answer o (give me m (begin d)).left)).left
       → (a.outcome ≡ (on_message me d m).outcome) × StandsAt me r done (on_message me d m).left
   message_ends d m a o r done is stands =
@@ -55,7 +55,7 @@ module _ {V : Type 0} (me : Identity V) where
   unfolding transition
   nudge_is d = refl
 
-  pub patience_ends : (d : History) (a : Answer) (g : GivenAnswer) (o other : Outcome) (r : ReplicaState V) (done : Done) → g ≡ answer_of o → o ≡ a.outcome
+  pub patience_ends : (d : History) (a : Answer) (g : GivenAnswer) (o other : Outcome) (r : ReplicaState V) (done : StepOutput) → g ≡ answer_of o → o ≡ a.outcome
       → StandsAt me r done (finished_where me g.rules_follow g.asks d (answer other a.left)).left
       → (o ≡ (after_patience me d a).outcome) × StandsAt me r done (after_patience me d a).left
   patience_ends d a g o other r done of is stands =
@@ -77,7 +77,7 @@ module _ {V : Type 0} (me : Identity V) where
   given_is d s bytes e = ap (λ (t : Shape). on_bytes me (message_of t bytes) d) (sym e)
 
   -- one answer that is another
-  pub answers_as : {E : Type 0} (r : ReplicaState V) (done : Done) (result : Result Outcome E) (a b : Answer) → a ≡ b
+  pub answers_as : {E : Type 0} (r : ReplicaState V) (done : StepOutput) (result : Result Outcome E) (a b : Answer) → a ≡ b
       → IfOk result (λ o. (o ≡ a.outcome) × StandsAt me r done a.left) → IfOk result (λ o. (o ≡ b.outcome) × StandsAt me r done b.left)
   answers_as r done result a b is told = subst (λ (x : Answer). IfOk result (λ o. (o ≡ x.outcome) × StandsAt me r done x.left)) is told
 

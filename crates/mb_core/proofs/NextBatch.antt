@@ -7,7 +7,7 @@ use Rattle.mb_model.specs.Stable.{low_of}
 use Rattle.mb_model.specs.Positions.{exec_of, slot_at}
 use Rattle.mb_model.specs.Sending.{Progress}
 use Rattle.mb_model.specs.CarriedOut.{serve_all, close_slot, at_interval, execute, carry_out}
-use Rattle.mb_searches.proofs.SoundRules.{serving_begins}
+use Rattle.mb_history_laws.proofs.SoundRules.{serving_begins}
 use Rattle.mb_normal.specs.Tables.{batch_of}
 use Rattle.mb_model.specs.OwnLog.{has_other_room}
 use Rattle.mb_model.specs.EnabledRules.{Rule, Execute, next_rule}
@@ -18,9 +18,9 @@ use Rattle.mb_change.specs.Histories.{IsRule, first_rule}
 use Rattle.mb_change.specs.Represents.{searches_of}
 use Rattle.mb_change.specs.Rules.{due_with}
 use Rattle.mb_change.proofs.Agreeing.{rules_agree}
-use Rattle.mb_standing.proofs.PositionsRules.{normal_rule, next_is, ExecuteIs, execute_is}
+use Rattle.mb_refinement.proofs.PositionsRules.{normal_rule, next_is, ExecuteIs, execute_is}
 use Rattle.mb_replica.specs.declared.state.ReplicaState.{ReplicaState}
-use Rattle.mb_replica.specs.declared.sending.Done.{Done}
+use Rattle.mb_replica.specs.declared.sending.StepOutput.{StepOutput}
 use Rattle.mb_core.specs.declared.rules.Due.TheVariants as named
 use Rattle.mb_core.specs.Due.{IsNamed, IsDue}
 use Rattle.mb_replica.specs.Represents.{Represents, Serves, StandsAt}
@@ -45,7 +45,7 @@ module _ {S : Type 0} (me : Identity S) (d : History) (p : ℕ) (b : Batch) wher
 
 -- ---- where the execution of a batch begins
 
-module _ {V : Type 0} (me : Identity V) (r : ReplicaState V) (done : Done) (x : Progress) (s : StandsAt me r done x) (p : ℕ) (b : Batch) (next : next_rule me x.history ≡ Some (Execute p b)) where
+module _ {V : Type 0} (me : Identity V) (r : ReplicaState V) (done : StepOutput) (x : Progress) (s : StandsAt me r done x) (p : ℕ) (b : Batch) (next : next_rule me x.history ≡ Some (Execute p b)) where
   is_next : ExecuteIs me x.history p b
   is_next = execute_next me x.history p b next
 
@@ -68,7 +68,7 @@ executed_is me p b batch x same = ap (λ (c : Batch). at_interval me p (close_sl
 
 -- ---- there is a step so
 
-module _ {V : Type 0} (machine : ServiceMachine V) (r : ReplicaState V) (done : Done) (pos : ℕ) where
+module _ {V : Type 0} (machine : ServiceMachine V) (r : ReplicaState V) (done : StepOutput) (pos : ℕ) where
   by_rule : (me : Identity V) (x : Progress) (rule : Rule) → Serves machine me → StandsAt me r done x → IsNamed (named.Execute pos) rule → next_rule me x.history ≡ Some rule → (batch : Batch)
       → ((me : Identity V) → Represents me r x.history → Some batch ≡ batch_of (slot_at me x.history pos)) → IsInBatch machine r done pos batch.requests []
   by_rule me x (Execute p b) serves s is next batch known =

@@ -13,7 +13,7 @@ use Rattle.mb_normal.specs.declared.due.Due.TheVariants as normal
 use Rattle.mb_normal.specs.Searches.{Searches}
 use Rattle.mb_normal.specs.Tables.{Represents as NormalRepresents}
 use Rattle.mb_normal.specs.Rules.{first_rule, Names as NormalNames}
-use Rattle.mb_standing.proofs.PositionsRules.{next_is, named}
+use Rattle.mb_refinement.proofs.PositionsRules.{next_is, named}
 use Rattle.mb_core.specs.declared.rules.Due.{Due}
 use Rattle.mb_core.specs.declared.rules.Due.TheVariants as due
 use Rattle.mb_replica.specs.declared.state.ReplicaState.{ReplicaState}
@@ -51,12 +51,12 @@ same_name normal.Prepare rule is = subst (Names (Some due.Prepare)) (sym is.2) t
 -- What is due of the normal case is the first rule of it.
 pub normal_named : {V : Type 0} (me : Identity V) (r : ReplicaState V) (d : History) → Represents me r d → (x : NormalDue) (at : Floor) (low : ℕ) (room : Bool)
     → at ≡ here me d → low ≡ low_of me d → room ≡ has_room me d
-    → ((s : Shape) (h : ℕ) (y : Searches) → NormalRepresents s h r.agreement.normal y → y.low ≡ low → NormalNames x (first_rule s h y at r.agreement.exec room))
+    → ((s : Shape) (h : ℕ) (y : Searches) → NormalRepresents s h r.protocol.normal y → y.low ≡ low → NormalNames x (first_rule s h y at r.protocol.exec room))
     → Names (as_due x) (normal_rule me d)
 normal_named me r d rep x at low room same_at same_low same_room answers =
-    same_name x (normal_rule me d) (named me d r.agreement.normal x rep.tables.normal
+    same_name x (normal_rule me d) (named me d r.protocol.normal x rep.tables.normal
     (λ s h y stands is.
-    let told : NormalNames x (first_rule s h y at r.agreement.exec room) = answers s h y stands (is ∙ sym same_low) in
-    let at_here : NormalNames x (first_rule s h y (here me d) r.agreement.exec room) = subst (λ (f : Floor). NormalNames x (first_rule s h y f r.agreement.exec room)) same_at told in
+    let told : NormalNames x (first_rule s h y at r.protocol.exec room) = answers s h y stands (is ∙ sym same_low) in
+    let at_here : NormalNames x (first_rule s h y (here me d) r.protocol.exec room) = subst (λ (f : Floor). NormalNames x (first_rule s h y f r.protocol.exec room)) same_at told in
     let executed : NormalNames x (first_rule s h y (here me d) (exec_of d) room) = subst (λ (n : ℕ). NormalNames x (first_rule s h y (here me d) n room)) rep.tables.exec at_here in
     subst (λ (b : Bool). NormalNames x (first_rule s h y (here me d) (exec_of d) b)) same_room executed))

@@ -10,10 +10,10 @@ use Rattle.mb_model.specs.Making.{resend}
 use Rattle.mb_model.specs.Positions.{is_behind}
 use Rattle.mb_model.specs.Sending.{Progress, write, send, to_all}
 use Rattle.mb_model.specs.Stable.{low_of}
-use Rattle.mb_searches.proofs.Framing.{low_stays}
-use Rattle.mb_standing.specs.Tables.{Tables}
-use Rattle.mb_standing.proofs.Together.{EachStands, Stays}
-use Rattle.mb_standing.proofs.Values.{asked_nudged}
+use Rattle.mb_history_laws.proofs.Framing.{low_stays}
+use Rattle.mb_refinement.specs.Tables.{Tables}
+use Rattle.mb_refinement.proofs.Together.{EachStands, Stays}
+use Rattle.mb_refinement.proofs.Values.{asked_nudged}
 use Rattle.mb_replica.specs.declared.state.ReplicaState.{ReplicaState}
 use Rattle.mb_replica.specs.Represents.{Represents, tables_of}
 use Rattle.mb_replica.specs.Between.{IsSame}
@@ -22,7 +22,7 @@ use Rattle.mb_replica.proofs.Learnt.{KeptStands, kept_stay}
 
 module _ {V : Type 0} (me : Identity V) where
   pub nudged : (old new : ReplicaState V) (d : History) → Represents me old d → IsSame old new → (asked : ℕ) → tables_of new ≡ record (tables_of old) { asked = asked }
-      → (behind : Bool) → is_behind me d ≡ behind → asked ≡ (if behind then next_host me old.agreement.asked else old.agreement.asked) → Represents me new (Nudged ∷ d)
+      → (behind : Bool) → is_behind me d ≡ behind → asked ≡ (if behind then next_host me old.protocol.asked else old.protocol.asked) → Represents me new (Nudged ∷ d)
   nudged old new d rep same asked writes behind tests is =
       let left : Stays me (low_of me d) (tables_of old) Nudged d = left_by me old Nudged d rep tt in
       let kept : KeptStands me old d rep Nudged old.keeper = kept_stay me old d rep Nudged refl refl (low_stays me Nudged d refl) in
@@ -38,7 +38,7 @@ module _ {V : Type 0} (me : Identity V) where
         service = left.service refl;
         shelf = kept.shelf;
         parts = kept.parts;
-        asked = is ∙ ap (λ (b : Bool). if b then next_host me old.agreement.asked else old.agreement.asked) (sym tests) ∙ asked_nudged me old.agreement.asked d rep.tables.asked;
+        asked = is ∙ ap (λ (b : Bool). if b then next_host me old.protocol.asked else old.protocol.asked) (sym tests) ∙ asked_nudged me old.protocol.asked d rep.tables.asked;
       }))
 
   pub nudge_is : (x : Progress) → on_nudge me x ≡ answer outcome.Took (wish_again me (send (to_all (resend me x.history)) (write Nudged x)))

@@ -26,13 +26,13 @@ use Rattle.mb_normal.specs.declared.normal.Normal.{Normal}
 use Rattle.mb_change.specs.Searches.{with_enter}
 use Rattle.mb_change.specs.Represents.{SameHost, StandsWith}
 use Rattle.mb_change.specs.Tables.{Table as ChangeTable}
-use Rattle.mb_searches.specs.Speaks.{speaks_of_positions}
-use Rattle.mb_standing.specs.Tables.{Tables}
-use Rattle.mb_standing.specs.Stands.{NormalStands, ChangeStands}
-use Rattle.mb_standing.proofs.Changes.{change_stays, own_enter_held}
-use Rattle.mb_standing.proofs.Positions.{normal_stays}
+use Rattle.mb_history_laws.specs.Speaks.{speaks_of_positions}
+use Rattle.mb_refinement.specs.Tables.{Tables}
+use Rattle.mb_refinement.specs.Stands.{NormalStands, ChangeStands}
+use Rattle.mb_refinement.proofs.Changes.{change_stays, own_enter_held}
+use Rattle.mb_refinement.proofs.Positions.{normal_stays}
 use Rattle.mb_replica.specs.declared.state.ReplicaState.{ReplicaState}
-use Rattle.mb_replica.specs.declared.sending.Done.{Done}
+use Rattle.mb_replica.specs.declared.sending.StepOutput.{StepOutput}
 use Rattle.mb_core.specs.declared.rules.Due.TheVariants as due
 use Rattle.mb_core.specs.declared.stamping.TheConstants.{NO_UI}
 use Rattle.mb_replica.specs.Between.{IsSame, AwaitsPublish, WritesCounter, WritesChange}
@@ -126,7 +126,7 @@ module _ {V : Type 0} (r : ReplicaState V) where
     pub history : History
     pub next : IsNext me r history Join
 
-module _ {V : Type 0} (machine : ServiceMachine V) (r : ReplicaState V) (done : Done) where
+module _ {V : Type 0} (machine : ServiceMachine V) (r : ReplicaState V) (done : StepOutput) where
   pub change_due : (view : ℕ) → IsDue machine r done (due.ChangeView view) → ChangeDue r view
   change_due view q =
       record { me = q.me; history = q.left.history; next = is_next q.me r done q.left (ChangeView view) q.stands (q.next ∙ ap (λ (a : Rule). Some a) (sym (change_rule view q.rule q.named))) }
@@ -186,27 +186,27 @@ same_enter a b e = cc
 
 -- ---- the tables behind ENTER and JOIN
 
-module _ {V : Type 0} (me : Identity V) (old new : ReplicaState V) (d : History) (rep : Represents me old d) (b : Begun me old new) (k : LearntNothing me old new) (normal : new.agreement.normal ≡ old.agreement.normal) where
-  normal_behind : (m : StampedMessage) → MayStamp me m d → speaks_of_positions (Stamped m) ≡ false → NormalStands me new.agreement.normal (Stamped m ∷ d)
-  normal_behind m may none = subst (λ (t : Normal). NormalStands me t (Stamped m ∷ d)) (sym normal) (normal_stays me (Stamped m) d old.agreement.normal may.sound.arises none rep.tables.normal)
+module _ {V : Type 0} (me : Identity V) (old new : ReplicaState V) (d : History) (rep : Represents me old d) (b : Begun me old new) (k : LearntNothing me old new) (normal : new.protocol.normal ≡ old.protocol.normal) where
+  normal_behind : (m : StampedMessage) → MayStamp me m d → speaks_of_positions (Stamped m) ≡ false → NormalStands me new.protocol.normal (Stamped m ∷ d)
+  normal_behind m may none = subst (λ (t : Normal). NormalStands me t (Stamped m ∷ d)) (sym normal) (normal_stays me (Stamped m) d old.protocol.normal may.sound.arises none rep.tables.normal)
 
   -- The own ENTER is held.
-  pub enter_awaits : (m : EnterMessage) → MayStamp me (stamped.Enter m) d → SameHost old.agreement.change new.agreement.change → StandsWith old.agreement.change (with_enter m) new.agreement.change → AwaitsPublish me new (stamped.Enter m) d
+  pub enter_awaits : (m : EnterMessage) → MayStamp me (stamped.Enter m) d → SameHost old.protocol.change new.protocol.change → StandsWith old.protocol.change (with_enter m) new.protocol.change → AwaitsPublish me new (stamped.Enter m) d
   enter_awaits m may same stands =
-      awaits_publish me old new (stamped.Enter m) d rep b (normal_behind (stamped.Enter m) may refl) (own_enter_held me old.agreement.change new.agreement.change d same rep.tables.change m stands) k refl
+      awaits_publish me old new (stamped.Enter m) d rep b (normal_behind (stamped.Enter m) may refl) (own_enter_held me old.protocol.change new.protocol.change d same rep.tables.change m stands) k refl
 
   -- Nothing is written for the own JOIN.
-  pub join_awaits : (m : JoinMessage) → MayStamp me (stamped.Join m) d → new.agreement.change ≡ old.agreement.change → AwaitsPublish me new (stamped.Join m) d
+  pub join_awaits : (m : JoinMessage) → MayStamp me (stamped.Join m) d → new.protocol.change ≡ old.protocol.change → AwaitsPublish me new (stamped.Join m) d
   join_awaits m may same =
       awaits_publish me old new (stamped.Join m) d rep b (normal_behind (stamped.Join m) may refl)
-      (subst (λ (t : ChangeTable). ChangeStands me t (Stamped (stamped.Join m) ∷ d)) (sym same) (change_stays me old.agreement.change (Stamped (stamped.Join m)) d refl rep.tables.change)) k refl
+      (subst (λ (t : ChangeTable). ChangeStands me t (Stamped (stamped.Join m) ∷ d)) (sym same) (change_stays me old.protocol.change (Stamped (stamped.Join m)) d refl rep.tables.change)) k refl
 
 -- ---- as the code writes them
 
 module _ {V : Type 0} (me : Identity V) (old bound : ReplicaState V) (d : History) where
   -- This host is one of the hosts.
-  pub own_host : IsHost me old → IsSame old bound → (n : ℕ) → n ≡ me.host → n < host_count bound.agreement.shape
-  own_host who same n is = subst (λ (s : Shape). n < host_count s) (sym same.shape) (subst (λ (h : ℕ). h < host_count old.agreement.shape) (sym (is ∙ who.host)) old.agreement.host_in)
+  pub own_host : IsHost me old → IsSame old bound → (n : ℕ) → n ≡ me.host → n < host_count bound.protocol.shape
+  own_host who same n is = subst (λ (s : Shape). n < host_count s) (sym same.shape) (subst (λ (h : ℕ). h < host_count old.protocol.shape) (sym (is ∙ who.host)) old.protocol.host_in)
 
   module _ (n : NewView) (next : IsNext me old d (Enter n)) where
     pub enter_may : MayStamp me (signed me d (enter n)) d
@@ -215,32 +215,32 @@ module _ {V : Type 0} (me : Identity V) (old bound : ReplicaState V) (d : Histor
     enter_has : HasNewView me d n
     enter_has = has_new_view me d n enter_may.adds
 
-    pub some_new_view : None ≡ old.agreement.change.new_view → ⊥
+    pub some_new_view : None ≡ old.protocol.change.new_view → ⊥
     some_new_view none = let no : None ≡ Some enter_has.shown = none ∙ next.represents.tables.change.represents.new_view_is ∙ enter_has.held in absurd cc
 
     -- The code's message is signed as this one.
-    pub enter_made : (y : NewView) → Some y ≡ old.agreement.change.new_view → signed me d (stamped.Enter (record { view = y.view; counter = y.ui.counter; plan = y.plan; ui = NO_UI })) ≡ signed me d (enter n)
+    pub enter_made : (y : NewView) → Some y ≡ old.protocol.change.new_view → signed me d (stamped.Enter (record { view = y.view; counter = y.ui.counter; plan = y.plan; ui = NO_UI })) ≡ signed me d (enter n)
     enter_made y held = enter_signed me d n enter_has y (held ∙ next.represents.tables.change.represents.new_view_is)
 
-    pub enter_waits : (w : WritesCounter old bound) (held : ReplicaState V) → WritesChange bound held → (kept : EnterMessage) → stamped.Enter kept ≡ signed me d (enter n) → StandsWith bound.agreement.change (with_enter kept) held.agreement.change
+    pub enter_waits : (w : WritesCounter old bound) (held : ReplicaState V) → WritesChange bound held → (kept : EnterMessage) → stamped.Enter kept ≡ signed me d (enter n) → StandsWith bound.protocol.change (with_enter kept) held.protocol.change
         → AwaitsPublish me held (signed me d (enter n)) d
     enter_waits w held writes kept is stands =
         let m : EnterMessage = record { view = n.view; counter = n.ui.counter; plan = n.plan; ui = next_ui me d (bare_of (enter n)) } in
         let same : kept ≡ m = same_enter kept m is in
-        let change : bound.agreement.change ≡ old.agreement.change = ap (λ (t : Tables V). t.change) w.tables in
-        let table : SameHost old.agreement.change held.agreement.change = record {
-          shape_is = held.agreement.change_is.0 ∙ writes.same.shape ∙ w.same.shape ∙ sym old.agreement.change_is.0;
-          host_is = held.agreement.change_is.1 ∙ writes.same.host ∙ w.same.host ∙ sym old.agreement.change_is.1;
+        let change : bound.protocol.change ≡ old.protocol.change = ap (λ (t : Tables V). t.change) w.tables in
+        let table : SameHost old.protocol.change held.protocol.change = record {
+          shape_is = held.protocol.change_is.0 ∙ writes.same.shape ∙ w.same.shape ∙ sym old.protocol.change_is.0;
+          host_is = held.protocol.change_is.1 ∙ writes.same.host ∙ w.same.host ∙ sym old.protocol.change_is.1;
         } in
         enter_awaits me old held d next.represents (then_change me old bound held (begun me old bound w) writes) (nothing_by_change me old bound held (nothing_yet me old bound w) writes)
         (ap (λ (t : Tables V). t.normal) writes.tables ∙ ap (λ (t : Tables V). t.normal) w.tables) m enter_may table
-        (subst (λ (y : EnterMessage). StandsWith old.agreement.change (with_enter y) held.agreement.change) same (subst (λ (t : ChangeTable). StandsWith t (with_enter kept) held.agreement.change) change stands))
+        (subst (λ (y : EnterMessage). StandsWith old.protocol.change (with_enter y) held.protocol.change) same (subst (λ (t : ChangeTable). StandsWith t (with_enter kept) held.protocol.change) change stands))
 
   module _ (next : IsNext me old d Join) where
     pub join_may : MayStamp me (signed me d (join me d)) d
     join_may = may_next me old d Join next (signed me d (join me d)) refl
 
-    pub join_made : (view : ℕ) (evidence : Option Evidence) (stable : StableCert) → view ≡ view_of me d → evidence ≡ join_evidence me d → stable ≡ old.agreement.stable
+    pub join_made : (view : ℕ) (evidence : Option Evidence) (stable : StableCert) → view ≡ view_of me d → evidence ≡ join_evidence me d → stable ≡ old.protocol.stable
         → signed me d (stamped.Join (record { view = view; evidence = evidence; stable = stable; ui = NO_UI })) ≡ signed me d (join me d)
     join_made view evidence stable same_view shown held = rw (same_view, shown, held ∙ next.represents.tables.stable) refl
 

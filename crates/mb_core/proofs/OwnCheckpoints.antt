@@ -24,22 +24,22 @@ use Rattle.mb_model.specs.UsableLogs.{normal_limit}
 use Rattle.mb_steps.specs.Arises.{Adds, Arises, JustExecuted}
 use Rattle.mb_log.specs.Logs.{Log, has_room_for, appended}
 use Rattle.mb_gate.specs.declared.gate.Gate.{Gate}
-use Rattle.mb_fitting.specs.Fitting.{AreFit}
+use Rattle.mb_encodable.specs.Fitting.{AreFit}
 use Rattle.mb_model.specs.Histories.{stamped as all_stamped}
 use Rattle.mb_model.proofs.ShapesFit.{shape_fits}
-use Rattle.mb_fitting.proofs.Fit.{checkpoint_fit}
-use Rattle.mb_fitting.proofs.Letters.{stamps_sent}
-use Rattle.mb_searches.specs.Sound.{IsSound}
-use Rattle.mb_searches.proofs.Executing.{served_ends}
-use Rattle.mb_searches.proofs.Framing.{low_stays}
-use Rattle.mb_searches.proofs.Sound.{stays_sound}
-use Rattle.mb_standing.specs.Tables.{Tables}
-use Rattle.mb_standing.specs.Stands.{GatesStand, LogStands, NormalStands, ShelfStands, HeldStand}
-use Rattle.mb_standing.proofs.OwnLogs.{place_for, stamp_appended}
-use Rattle.mb_standing.proofs.Together.{EachStands, stands_behind, stand_lags, stays}
-use Rattle.mb_standing.proofs.Values.{own_counter_stamped}
+use Rattle.mb_encodable.proofs.Fit.{checkpoint_fit}
+use Rattle.mb_encodable.proofs.Letters.{stamps_sent}
+use Rattle.mb_history_laws.specs.Sound.{IsSound}
+use Rattle.mb_history_laws.proofs.Executing.{served_ends}
+use Rattle.mb_history_laws.proofs.Framing.{low_stays}
+use Rattle.mb_history_laws.proofs.Sound.{stays_sound}
+use Rattle.mb_refinement.specs.Tables.{Tables}
+use Rattle.mb_refinement.specs.Stands.{GatesStand, LogStands, NormalStands, ShelfStands, HeldStand}
+use Rattle.mb_refinement.proofs.OwnLogs.{place_for, stamp_appended}
+use Rattle.mb_refinement.proofs.Together.{EachStands, stands_behind, stand_lags, stays}
+use Rattle.mb_refinement.proofs.Values.{own_counter_stamped}
 use Rattle.mb_replica.specs.declared.state.ReplicaState.{ReplicaState}
-use Rattle.mb_replica.specs.declared.sending.Done.{Done}
+use Rattle.mb_replica.specs.declared.sending.StepOutput.{StepOutput}
 use Rattle.mb_core.specs.declared.stamping.TheConstants.{NO_UI}
 use Rattle.mb_replica.specs.Represents.{IsHost, Represents, StandsAt, tables_of}
 use Rattle.mb_replica.specs.Told.{as_outgoing}
@@ -70,7 +70,7 @@ module _ {V : Type 0} (me : Identity V) where
   low_reached [] pos a j = absurd j
   low_reached (e ∷ d) pos a j = absurd j
 
-  module _ (old : ReplicaState V) (done : Done) (pos : ℕ) (state : Bytes) (x : Progress) (w : AwaitsCheckpoint me old done pos state x) where
+  module _ (old : ReplicaState V) (done : StepOutput) (pos : ℕ) (state : Bytes) (x : Progress) (w : AwaitsCheckpoint me old done pos state x) where
     abbrev d : History
     d = x.history
 
@@ -83,12 +83,12 @@ module _ {V : Type 0} (me : Identity V) where
     fit_now : AreFit me (Stamped made ∷ d)
     fit_now = checkpoint_fit me (there me old rep.who) pos d w.executed w.whole w.room rep.tables.sound rep.fit
 
-    made_fits : FitsStamped old.agreement.shape made
+    made_fits : FitsStamped old.protocol.shape made
     made_fits = subst (λ (s : Shape). FitsStamped s made) rep.who.shape fit_now.values.0
 
     -- ---- what is signed
 
-    pub unspent : old.agreement.usig.counter < 2 ^ 64 - 1
+    pub unspent : old.protocol.usig.counter < 2 ^ 64 - 1
     unspent = subst (λ (n : ℕ). n < 2 ^ 64 - 1) (sym rep.tables.counter) (ltb-true (counter_of d) (2 ^ 64 - 1) (and_parts (nat_lt (count_by is_normal (own_log me d)) (normal_limit me.shape)) (is_unspent me d) w.room).1)
 
     module _ (floors : List (Option Floor)) (is : floors ≡ floors_under me d pos) where
@@ -98,8 +98,8 @@ module _ {V : Type 0} (me : Identity V) where
       pub signs : signed me d (stamped.Checkpoint unsigned) ≡ made
       signs = rw (w.digest, is) refl
 
-      pub fits_unsigned : FitsStamped old.agreement.shape (stamped.Checkpoint unsigned)
-      fits_unsigned = fits_again old.agreement.shape (next_ui me d (bare_of (stamped.Checkpoint unsigned))) (stamped.Checkpoint unsigned) (no_ui_fits old.agreement.shape) (subst (FitsStamped old.agreement.shape) (sym signs) made_fits)
+      pub fits_unsigned : FitsStamped old.protocol.shape (stamped.Checkpoint unsigned)
+      fits_unsigned = fits_again old.protocol.shape (next_ui me d (bare_of (stamped.Checkpoint unsigned))) (stamped.Checkpoint unsigned) (no_ui_fits old.protocol.shape) (subst (FitsStamped old.protocol.shape) (sym signs) made_fits)
 
       -- What was signed is the copy under its identifier, and it is what is made.
       pub is_own : (s : Signed) (kept : Checkpoint) → IsSigned (signed me d (stamped.Checkpoint unsigned)) s → kept ≡ unsigned → s.message ≡ stamped.Checkpoint (record kept { ui = s.ui })
@@ -123,8 +123,8 @@ module _ {V : Type 0} (me : Identity V) where
       fit_here : AreFit me (entry ∷ d)
       fit_here = subst (λ (y : StampedMessage). AreFit me (Stamped y ∷ d)) same fit_now
 
-      pub fits_own : FitsStamped old.agreement.shape (stamped.Checkpoint m)
-      fits_own = subst (FitsStamped old.agreement.shape) same made_fits
+      pub fits_own : FitsStamped old.protocol.shape (stamped.Checkpoint m)
+      fits_own = subst (FitsStamped old.protocol.shape) same made_fits
 
       sent_own : Fits me.shape (as_message (stamped.Checkpoint m))
       unfolding all_stamped
@@ -154,50 +154,50 @@ module _ {V : Type 0} (me : Identity V) where
       -- ---- it is published
 
       module _ (mid kept : ReplicaState V) (c : WritesCounter old mid) (k : WritesKept mid kept) where
-        written : tables_of kept ≡ record (tables_of old) { counter = old.agreement.usig.counter + 1; normal = kept.agreement.normal; stable = kept.agreement.stable; shelf = kept.keeper.snapshots; parts = kept.keeper.fetched }
-        written = k.tables ∙ ap (λ (t : Tables V). record t { normal = kept.agreement.normal; stable = kept.agreement.stable; shelf = kept.keeper.snapshots; parts = kept.keeper.fetched }) c.tables
+        written : tables_of kept ≡ record (tables_of old) { counter = old.protocol.usig.counter + 1; normal = kept.protocol.normal; stable = kept.protocol.stable; shelf = kept.keeper.snapshots; parts = kept.keeper.fetched }
+        written = k.tables ∙ ap (λ (t : Tables V). record t { normal = kept.protocol.normal; stable = kept.protocol.stable; shelf = kept.keeper.snapshots; parts = kept.keeper.fetched }) c.tables
 
-        same_log : kept.agreement.log ≡ old.agreement.log
+        same_log : kept.protocol.log ≡ old.protocol.log
         same_log = ap (λ (t : Tables V). t.log) written
 
         pub who_kept : IsHost me kept
         who_kept = still_host me mid kept k.same (still_host me old mid c.same rep.who)
 
-        pub sent_kept : Fits kept.agreement.shape (as_message (stamped.Checkpoint m))
+        pub sent_kept : Fits kept.protocol.shape (as_message (stamped.Checkpoint m))
         sent_kept = subst (λ (s : Shape). Fits s (as_message (stamped.Checkpoint m))) (rep.who.shape ∙ sym (k.same.shape ∙ c.same.shape)) sent_own
 
-        pub room_kept : has_room_for kept.agreement.log (stamped_kind (stamped.Checkpoint m)) ≡ true
-        room_kept = subst (λ (l : Log). has_room_for l (stamped_kind (stamped.Checkpoint m)) ≡ true) (sym same_log) (place_for me old.agreement.log d rep.tables.log (stamped.Checkpoint m) refl w.room)
+        pub room_kept : has_room_for kept.protocol.log (stamped_kind (stamped.Checkpoint m)) ≡ true
+        room_kept = subst (λ (l : Log). has_room_for l (stamped_kind (stamped.Checkpoint m)) ≡ true) (sym same_log) (place_for me old.protocol.log d rep.tables.log (stamped.Checkpoint m) refl w.room)
 
-        pub gates_kept : GatesStand me kept.agreement.gates.items d
+        pub gates_kept : GatesStand me kept.protocol.gates.items d
         gates_kept = subst (λ (l : List Gate). GatesStand me l d) (sym (ap (λ (t : Tables V). t.gates) written)) rep.tables.gates
 
-        module _ (sent : ReplicaState V) (stands : KeepingStands me kept (entry ∷ d)) (s : WritesStamp kept sent) (log : sent.agreement.log ≡ appended (stamped.Checkpoint m) kept.agreement.log) where
+        module _ (sent : ReplicaState V) (stands : KeepingStands me kept (entry ∷ d)) (s : WritesStamp kept sent) (log : sent.protocol.log ≡ appended (stamped.Checkpoint m) kept.protocol.log) where
           pub awaits_cut : AwaitsCut me sent entry d
           awaits_cut = record {
             who = still_host me kept sent s.same who_kept;
             kept = kept_at;
-            log = stamp_appended me kept.agreement.log sent.agreement.log (stamped.Checkpoint m) d log (subst (λ (l : Log). LogStands me l d) (sym same_log) rep.tables.log);
-            counter = ap (λ (t : Tables V). t.counter) s.tables ∙ ap (λ (t : Tables V). t.counter) written ∙ own_counter_stamped old.agreement.usig.counter (stamped.Checkpoint m) d rep.tables.counter;
+            log = stamp_appended me kept.protocol.log sent.protocol.log (stamped.Checkpoint m) d log (subst (λ (l : Log). LogStands me l d) (sym same_log) rep.tables.log);
+            counter = ap (λ (t : Tables V). t.counter) s.tables ∙ ap (λ (t : Tables V). t.counter) written ∙ own_counter_stamped old.protocol.usig.counter (stamped.Checkpoint m) d rep.tables.counter;
             normal = subst (λ n. NormalStands me n (entry ∷ d)) (sym (ap (λ (t : Tables V). t.normal) s.tables)) stands.normal;
           }
 
-          pub checkpoint_stands : (new : ReplicaState V) → GatesStand me sent.agreement.gates.items (entry ∷ d) → WritesLog sent new → LogStands me new.agreement.log (entry ∷ d) → Represents me new (entry ∷ d)
+          pub checkpoint_stands : (new : ReplicaState V) → GatesStand me sent.protocol.gates.items (entry ∷ d) → WritesLog sent new → LogStands me new.protocol.log (entry ∷ d) → Represents me new (entry ∷ d)
           checkpoint_stands new gates l cut =
               let left = stays me (low_of me d) (tables_of old) entry d (stand_lags me (tables_of old) d rep.tables) adds in
               let all : tables_of new ≡ record (tables_of old) {
-                counter = old.agreement.usig.counter + 1;
-                gates = sent.agreement.gates.items;
-                log = new.agreement.log;
-                normal = kept.agreement.normal;
-                stable = kept.agreement.stable;
+                counter = old.protocol.usig.counter + 1;
+                gates = sent.protocol.gates.items;
+                log = new.protocol.log;
+                normal = kept.protocol.normal;
+                stable = kept.protocol.stable;
                 shelf = kept.keeper.snapshots;
                 parts = kept.keeper.fetched;
-              } = l.tables ∙ ap (λ (t : Tables V). record t { log = new.agreement.log }) (s.tables ∙ ap (λ (t : Tables V). record t { gates = sent.agreement.gates.items; log = sent.agreement.log }) written) in
+              } = l.tables ∙ ap (λ (t : Tables V). record t { log = new.protocol.log }) (s.tables ∙ ap (λ (t : Tables V). record t { gates = sent.protocol.gates.items; log = sent.protocol.log }) written) in
               record {
                 who = still_host me sent new l.same (still_host me kept sent s.same who_kept);
                 tables = stands_behind me (tables_of old) (tables_of new) entry d rep.tables adds tt (subst (λ (t : Tables V). EachStands me t (entry ∷ d)) (sym all) (record {
-                  counter = own_counter_stamped old.agreement.usig.counter (stamped.Checkpoint m) d rep.tables.counter;
+                  counter = own_counter_stamped old.protocol.usig.counter (stamped.Checkpoint m) d rep.tables.counter;
                   gates = gates;
                   log = cut;
                   normal = stands.normal;
@@ -215,7 +215,7 @@ module _ {V : Type 0} (me : Identity V) where
     -- ---- the step
 
     -- It was sent to all, and nothing else.
-    pub checkpoint_sent : (new : ReplicaState V) (after : Done) (m : Checkpoint) → made ≡ stamped.Checkpoint m → Represents me new (Stamped (stamped.Checkpoint m) ∷ d)
+    pub checkpoint_sent : (new : ReplicaState V) (after : StepOutput) (m : Checkpoint) → made ≡ stamped.Checkpoint m → Represents me new (Stamped (stamped.Checkpoint m) ∷ d)
         → after.sent ≡ done.sent ++ as_outgoing (to_all (as_message (stamped.Checkpoint m))) ∷ [] → (after.executed ≡ done.executed) × (after.installed ≡ done.installed) → StandsAt me new after (stamp me (checkpoint me d pos) x)
     checkpoint_sent new after m same r sent kept = subst (λ (y : StampedMessage). StandsAt me new after (send (to_all (as_message y)) (write (Stamped y) x))) (sym same) (record {
       represents = r;
@@ -225,9 +225,9 @@ module _ {V : Type 0} (me : Identity V) where
       installed = kept.1 ∙ w.stands.installed;
     })
 
-    pub checkpoint_ends : {E : Type 0} (result : Result (Unit {0}) E) (mid kept sent new : ReplicaState V) (after : Done) (m : Checkpoint) (same : made ≡ stamped.Checkpoint m) (c : WritesCounter old mid) (k : WritesKept mid kept)
-        → KeepingStands me kept (Stamped (stamped.Checkpoint m) ∷ d) → WritesStamp kept sent → sent.agreement.log ≡ appended (stamped.Checkpoint m) kept.agreement.log → GatesStand me sent.agreement.gates.items (Stamped (stamped.Checkpoint m) ∷ d)
-        → OnOk result (WritesLog sent new) → OnOk result (LogStands me new.agreement.log (Stamped (stamped.Checkpoint m) ∷ d))
+    pub checkpoint_ends : {E : Type 0} (result : Result (Unit {0}) E) (mid kept sent new : ReplicaState V) (after : StepOutput) (m : Checkpoint) (same : made ≡ stamped.Checkpoint m) (c : WritesCounter old mid) (k : WritesKept mid kept)
+        → KeepingStands me kept (Stamped (stamped.Checkpoint m) ∷ d) → WritesStamp kept sent → sent.protocol.log ≡ appended (stamped.Checkpoint m) kept.protocol.log → GatesStand me sent.protocol.gates.items (Stamped (stamped.Checkpoint m) ∷ d)
+        → OnOk result (WritesLog sent new) → OnOk result (LogStands me new.protocol.log (Stamped (stamped.Checkpoint m) ∷ d))
         → after.sent ≡ done.sent ++ as_outgoing (to_all (as_message (stamped.Checkpoint m))) ∷ [] → (after.executed ≡ done.executed) × (after.installed ≡ done.installed) → OnOk result (StandsAt me new after (stamp me (checkpoint me d pos) x))
     checkpoint_ends (Ok u) mid kept sent new after m same c k stands s log gates l cut out left =
         checkpoint_sent new after m same (checkpoint_stands m same mid kept c k sent stands s log new gates l cut) out left

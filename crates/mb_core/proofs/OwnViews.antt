@@ -34,7 +34,7 @@ use Rattle.mb_fetch.specs.Snapshots.{Snapshot}
 use Rattle.mb_plan.specs.Planned.{are_quorum}
 use Rattle.mb_plan.proofs.MemberFaults.{members_are_quorum}
 use Rattle.mb_host_laws.proofs.Cases.{some_is}
-use Rattle.mb_keeper.specs.Keeping.{Keeping, raised, fetched_from}
+use Rattle.mb_executor.specs.Keeping.{Keeping, raised, fetched_from}
 use Rattle.mb_normal.specs.declared.normal.Normal.{Normal}
 use Rattle.mb_normal.specs.Searches.{searches_in, without_votes}
 use Rattle.mb_normal.specs.Tables.{Represents as NormalRepresents, Becomes}
@@ -43,15 +43,15 @@ use Rattle.mb_change.specs.Searches.{with_change, with_wish, with_new_view, with
 use Rattle.mb_change.specs.Represents.{SameHost, StandsWith, Answers}
 use Rattle.mb_change.specs.Evidences.{chosen as chosen_in, evidence_for as evidence_in_table}
 use Rattle.mb_change.specs.Tables.{Table as ChangeTable}
-use Rattle.mb_searches.proofs.Certified.{own_stable_of_plan}
-use Rattle.mb_searches.proofs.Framing.{low_stays}
-use Rattle.mb_searches.proofs.Standing.{view_changed, view_stays}
-use Rattle.mb_standing.specs.Positions.{Learns, AreOpens, counting, hosts_below, open_votes, above_raise}
-use Rattle.mb_standing.specs.Stands.{NormalStands, ChangeStands, ShelfStands, HeldStand}
-use Rattle.mb_standing.specs.Tables.{Tables}
-use Rattle.mb_fitting.proofs.Changes.{chosen_fit}
-use Rattle.mb_standing.proofs.Changes.{change_answers, own_change_stored, own_change_not_stored, own_new_view_held, own_open_held}
-use Rattle.mb_standing.proofs.PositionsOpens.{change_cleared, change_counted, own_new_view_raised, own_new_view_counted, open_carried, own_open_view}
+use Rattle.mb_history_laws.proofs.Certified.{own_stable_of_plan}
+use Rattle.mb_history_laws.proofs.Framing.{low_stays}
+use Rattle.mb_history_laws.proofs.Standing.{view_changed, view_stays}
+use Rattle.mb_refinement.specs.Positions.{Learns, AreOpens, counting, hosts_below, open_votes, above_raise}
+use Rattle.mb_refinement.specs.Stands.{NormalStands, ChangeStands, ShelfStands, HeldStand}
+use Rattle.mb_refinement.specs.Tables.{Tables}
+use Rattle.mb_encodable.proofs.Changes.{chosen_fit}
+use Rattle.mb_refinement.proofs.Changes.{change_answers, own_change_stored, own_change_not_stored, own_new_view_held, own_open_held}
+use Rattle.mb_refinement.proofs.PositionsOpens.{change_cleared, change_counted, own_new_view_raised, own_new_view_counted, open_carried, own_open_view}
 use Rattle.mb_replica.specs.declared.state.ReplicaState.{ReplicaState}
 use Rattle.mb_core.specs.declared.stamping.TheConstants.{NO_UI}
 use Rattle.mb_replica.specs.Between.{AwaitsPublish, WritesCounter, WritesNormal, WritesChange}
@@ -148,19 +148,19 @@ pub announce_begun : {V : Type 0} (me : Identity V) (old bound : ReplicaState V)
     → WritesNormal kept counted → Begun me old counted
 announce_begun me old bound w f c shown kept counted first second third =
     then_normal me old kept counted
-    (then_written me old shown kept kept.agreement.normal kept.agreement.change (further shown.agreement.stable c) kept.keeper.snapshots kept.keeper.fetched second.same second.tables (then_change me old bound shown (begun me old bound w) first)) third
+    (then_written me old shown kept kept.protocol.normal kept.protocol.change (further shown.protocol.stable c) kept.keeper.snapshots kept.keeper.fetched second.same second.tables (then_change me old bound shown (begun me old bound w) first)) third
 
 module _ {V : Type 0} (me : Identity V) (old bound : ReplicaState V) (d : History) (rep : Represents me old d) (w : WritesCounter old bound) where
-  normal_is : bound.agreement.normal ≡ old.agreement.normal
+  normal_is : bound.protocol.normal ≡ old.protocol.normal
   normal_is = ap (λ (t : Tables V). t.normal) w.tables
 
-  change_is : bound.agreement.change ≡ old.agreement.change
+  change_is : bound.protocol.change ≡ old.protocol.change
   change_is = ap (λ (t : Tables V). t.change) w.tables
 
-  stood : NormalStands me bound.agreement.normal d
+  stood : NormalStands me bound.protocol.normal d
   stood = subst (λ (t : Normal). NormalStands me t d) (sym normal_is) rep.tables.normal
 
-  held : ChangeStands me bound.agreement.change d
+  held : ChangeStands me bound.protocol.change d
   held = subst (λ (t : ChangeTable). ChangeStands me t d) (sym change_is) rep.tables.change
 
   opens_behind : (m : StampedMessage) → MayStamp me m d → AreOpens me.shape (Stamped m ∷ d)
@@ -169,59 +169,59 @@ module _ {V : Type 0} (me : Identity V) (old bound : ReplicaState V) (d : Histor
   -- ---- the own VIEW_CHANGE
 
   -- It is stored, where it is usable.
-  pub change_behind : (m : ViewChange) → is_whole m.body ≡ true → (wished stored : ChangeTable) → SameHost bound.agreement.change stored → StandsWith bound.agreement.change (with_wish m.ui.host m.view) wished
+  pub change_behind : (m : ViewChange) → is_whole m.body ≡ true → (wished stored : ChangeTable) → SameHost bound.protocol.change stored → StandsWith bound.protocol.change (with_wish m.ui.host m.view) wished
       → StandsWith wished (λ s. if is_none (change_fault me m) then with_change m s else s) stored → ChangeStands me stored (Stamped (stamped.ViewChange m) ∷ d)
   change_behind m whole wished stored same first second = elim (cases_Bool (is_none (change_fault me m))) [
-    | inl usable ↦ own_change_stored me bound.agreement.change stored d same held m (rw (whole, usable) refl) (λ s r. let z = second (with_wish m.ui.host m.view s) (first s r) in rw usable at z)
-    | inr faulty ↦ own_change_not_stored me bound.agreement.change stored d same held m (rw (whole, faulty) refl) (λ s r. let z = second (with_wish m.ui.host m.view s) (first s r) in rw faulty at z)
+    | inl usable ↦ own_change_stored me bound.protocol.change stored d same held m (rw (whole, usable) refl) (λ s r. let z = second (with_wish m.ui.host m.view s) (first s r) in rw usable at z)
+    | inr faulty ↦ own_change_not_stored me bound.protocol.change stored d same held m (rw (whole, faulty) refl) (λ s r. let z = second (with_wish m.ui.host m.view s) (first s r) in rw faulty at z)
   ]
 
   -- All is cleared, and the votes of OPENs are counted.
-  pub normal_behind : (m : ViewChange) → MayStamp me (stamped.ViewChange m) d → (cleared counted : ReplicaState V) → IsHost me cleared → Becomes bound.agreement.normal cleared.agreement.normal without_votes
-      → ChangeStands me cleared.agreement.change (Stamped (stamped.ViewChange m) ∷ d) → CountsOpens m.view cleared counted → NormalStands me counted.agreement.normal (Stamped (stamped.ViewChange m) ∷ d)
+  pub normal_behind : (m : ViewChange) → MayStamp me (stamped.ViewChange m) d → (cleared counted : ReplicaState V) → IsHost me cleared → Becomes bound.protocol.normal cleared.protocol.normal without_votes
+      → ChangeStands me cleared.protocol.change (Stamped (stamped.ViewChange m) ∷ d) → CountsOpens m.view cleared counted → NormalStands me counted.protocol.normal (Stamped (stamped.ViewChange m) ∷ d)
   normal_behind m may cleared counted who clears changed counts =
       let e = Stamped (stamped.ViewChange m) in
       let opens : AreOpens me.shape (e ∷ d) = opens_behind (stamped.ViewChange m) may in
-      let begins : NormalRepresents me.shape me.host cleared.agreement.normal (without_votes (searches_in me d)) = change_cleared me d bound.agreement.normal cleared.agreement.normal clears stood in
-      let ends : StandsCounting me (e ∷ d) (without_votes (searches_in me d)) (hosts_below (host_count cleared.agreement.shape)) counted =
+      let begins : NormalRepresents me.shape me.host cleared.protocol.normal (without_votes (searches_in me d)) = change_cleared me d bound.protocol.normal cleared.protocol.normal clears stood in
+      let ends : StandsCounting me (e ∷ d) (without_votes (searches_in me d)) (hosts_below (host_count cleared.protocol.shape)) counted =
       counts me (e ∷ d) (without_votes (searches_in me d)) (record { change = changed; view_is = sym (view_changed me m d may.sound.arises).0; opens = opens; low = sym (low_stays me e d refl) }) begins in
-      change_counted me m d counted.agreement.normal may.sound.arises opens
-      (subst (λ (s : Shape). NormalRepresents me.shape me.host counted.agreement.normal (counting (without_votes (searches_in me d)) (open_votes me (e ∷ d)) (hosts_below (host_count s)))) (sym who.shape) ends)
+      change_counted me m d counted.protocol.normal may.sound.arises opens
+      (subst (λ (s : Shape). NormalRepresents me.shape me.host counted.protocol.normal (counting (without_votes (searches_in me d)) (open_votes me (e ∷ d)) (hosts_below (host_count s)))) (sym who.shape) ends)
 
   -- ---- the own NEW_VIEW
 
   module _ (m : NewView) (changes : List ViewChange) (may : MayStamp me (stamped.NewView m) d) (whole : m.body ≡ Whole (record { changes = changes })) (view : ℕ) (plan : Plan) (in_view : view ≡ m.view) (here : view ≡ view_of me d)
-      (plan_is : plan ≡ plan_from me changes) (shown kept counted : ReplicaState V) (first : WritesChange bound shown) (held_first : StandsWith bound.agreement.change (with_new_view m) shown.agreement.change)
+      (plan_is : plan ≡ plan_from me changes) (shown kept counted : ReplicaState V) (first : WritesChange bound shown) (held_first : StandsWith bound.protocol.change (with_new_view m) shown.protocol.change)
       (second : Holds (with_plan view plan) (Some plan.base) shown kept) (third : WritesNormal kept counted) (counts : CountsOpens view kept counted) where
     plan_shown : plan_in_new_view me m ≡ Some (view, plan)
     plan_shown = rw (whole, in_view, plan_is) refl
 
-    stable_is : shown.agreement.stable ≡ old.agreement.stable
+    stable_is : shown.protocol.stable ≡ old.protocol.stable
     stable_is = ap (λ (t : Tables V). t.stable) first.tables ∙ ap (λ (t : Tables V). t.stable) w.tables
 
     -- It is held, with its plan,
-    change_announced : SameHost bound.agreement.change kept.agreement.change → ChangeStands me kept.agreement.change (Stamped (stamped.NewView m) ∷ d)
+    change_announced : SameHost bound.protocol.change kept.protocol.change → ChangeStands me kept.protocol.change (Stamped (stamped.NewView m) ∷ d)
     change_announced same =
-        own_new_view_held me bound.agreement.change kept.agreement.change d same held m (record { changes = changes }) (ap whole_body whole)
+        own_new_view_held me bound.protocol.change kept.protocol.change d same held m (record { changes = changes }) (ap whole_body whole)
         (λ s r. let z = second.stands (with_new_view m s) (held_first s r) in rw (in_view, plan_is) at z)
 
     -- the windows rise to its base,
-    normal_raised : NormalRepresents me.shape me.host kept.agreement.normal (above_raise me (Stamped (stamped.NewView m)) d)
+    normal_raised : NormalRepresents me.shape me.host kept.protocol.normal (above_raise me (Stamped (stamped.NewView m)) d)
     normal_raised =
-        let learns : Learns (stable_of me d) (plan_base (plan_in_new_view me m)) shown.agreement.normal kept.agreement.normal =
-        subst (λ (p : Option (ℕ × Plan)). Learns (stable_of me d) (plan_base p) shown.agreement.normal kept.agreement.normal) (sym plan_shown)
-        (subst (λ (c : StableCert). Learns c (plan_base (Some (view, plan))) shown.agreement.normal kept.agreement.normal) (stable_is ∙ rep.tables.stable) second.learns) in
-        own_new_view_raised me m d shown.agreement.normal kept.agreement.normal learns (subst (λ (t : Normal). NormalStands me t d) (sym (ap (λ (t : Tables V). t.normal) first.tables)) stood)
+        let learns : Learns (stable_of me d) (plan_base (plan_in_new_view me m)) shown.protocol.normal kept.protocol.normal =
+        subst (λ (p : Option (ℕ × Plan)). Learns (stable_of me d) (plan_base p) shown.protocol.normal kept.protocol.normal) (sym plan_shown)
+        (subst (λ (c : StableCert). Learns c (plan_base (Some (view, plan))) shown.protocol.normal kept.protocol.normal) (stable_is ∙ rep.tables.stable) second.learns) in
+        own_new_view_raised me m d shown.protocol.normal kept.protocol.normal learns (subst (λ (t : Normal). NormalStands me t d) (sym (ap (λ (t : Tables V). t.normal) first.tables)) stood)
 
     -- and the votes of OPENs are counted.
-    normal_announced : IsHost me kept → SameHost bound.agreement.change kept.agreement.change → NormalStands me counted.agreement.normal (Stamped (stamped.NewView m) ∷ d)
+    normal_announced : IsHost me kept → SameHost bound.protocol.change kept.protocol.change → NormalStands me counted.protocol.normal (Stamped (stamped.NewView m) ∷ d)
     normal_announced who same =
         let e = Stamped (stamped.NewView m) in
         let opens : AreOpens me.shape (e ∷ d) = opens_behind (stamped.NewView m) may in
-        let ends : StandsCounting me (e ∷ d) (above_raise me e d) (hosts_below (host_count kept.agreement.shape)) counted =
+        let ends : StandsCounting me (e ∷ d) (above_raise me e d) (hosts_below (host_count kept.protocol.shape)) counted =
         counts me (e ∷ d) (above_raise me e d) (record { change = change_announced same; view_is = here ∙ sym (view_stays me e d may.sound.arises refl); opens = opens; low = refl }) normal_raised in
-        own_new_view_counted me m d counted.agreement.normal may.sound.arises opens
-        (subst (λ (s : Shape). NormalRepresents me.shape me.host counted.agreement.normal (counting (above_raise me e d) (open_votes me (e ∷ d)) (hosts_below (host_count s)))) (sym who.shape) ends)
+        own_new_view_counted me m d counted.protocol.normal may.sound.arises opens
+        (subst (λ (s : Shape). NormalRepresents me.shape me.host counted.protocol.normal (counting (above_raise me e d) (open_votes me (e ∷ d)) (hosts_below (host_count s)))) (sym who.shape) ends)
 
     brings : stable_of me (Stamped (stamped.NewView m) ∷ d) ≡ further (stable_of me d) (plan_base (Some (view, plan)))
     brings = own_stable_of_plan me m d ∙ ap (λ (p : Option (ℕ × Plan)). further (stable_of me d) (plan_base p)) plan_shown
@@ -230,18 +230,18 @@ module _ {V : Type 0} (me : Identity V) (old bound : ReplicaState V) (d : Histor
     announce_awaits =
         let e = Stamped (stamped.NewView m) in
         let c : Option StableCert = plan_base (Some (view, plan)) in
-        let same : SameHost bound.agreement.change kept.agreement.change = record {
-          shape_is = kept.agreement.change_is.0 ∙ second.same.shape ∙ first.same.shape ∙ sym bound.agreement.change_is.0;
-          host_is = kept.agreement.change_is.1 ∙ second.same.host ∙ first.same.host ∙ sym bound.agreement.change_is.1;
+        let same : SameHost bound.protocol.change kept.protocol.change = record {
+          shape_is = kept.protocol.change_is.0 ∙ second.same.shape ∙ first.same.shape ∙ sym bound.protocol.change_is.0;
+          host_is = kept.protocol.change_is.1 ∙ second.same.host ∙ first.same.host ∙ sym bound.protocol.change_is.1;
         } in
         let who : IsHost me kept = still_host me shown kept second.same (still_host me bound shown first.same (still_host me old bound w.same rep.who)) in
-        let k : KeptStands me old d rep e (kept_behind old.agreement.stable c old.keeper) = kept_learnt me old d rep e refl refl c brings in
-        let shelf : counted.keeper.snapshots ≡ (kept_behind old.agreement.stable c old.keeper).snapshots =
+        let k : KeptStands me old d rep e (kept_behind old.protocol.stable c old.keeper) = kept_learnt me old d rep e refl refl c brings in
+        let shelf : counted.keeper.snapshots ≡ (kept_behind old.protocol.stable c old.keeper).snapshots =
         ap (λ (t : Tables V). t.shelf) third.tables ∙ ap (λ (x : Keeping V). x.snapshots) second.keeper ∙ ap (λ (y : StableCert). (kept_behind y c shown.keeper).snapshots) stable_is
-        ∙ same_shelf old.agreement.stable c shown.keeper old.keeper (ap (λ (t : Tables V). t.shelf) first.tables ∙ ap (λ (t : Tables V). t.shelf) w.tables) in
-        let parts : counted.keeper.fetched ≡ (kept_behind old.agreement.stable c old.keeper).fetched =
+        ∙ same_shelf old.protocol.stable c shown.keeper old.keeper (ap (λ (t : Tables V). t.shelf) first.tables ∙ ap (λ (t : Tables V). t.shelf) w.tables) in
+        let parts : counted.keeper.fetched ≡ (kept_behind old.protocol.stable c old.keeper).fetched =
         ap (λ (t : Tables V). t.parts) third.tables ∙ ap (λ (x : Keeping V). x.fetched) second.keeper ∙ ap (λ (y : StableCert). (kept_behind y c shown.keeper).fetched) stable_is
-        ∙ same_parts old.agreement.stable c shown.keeper old.keeper (ap (λ (t : Tables V). t.parts) first.tables ∙ ap (λ (t : Tables V). t.parts) w.tables) in
+        ∙ same_parts old.protocol.stable c shown.keeper old.keeper (ap (λ (t : Tables V). t.parts) first.tables ∙ ap (λ (t : Tables V). t.parts) w.tables) in
         awaits_learnt me old counted (stamped.NewView m) d rep (announce_begun me old bound w (with_plan view plan) (Some plan.base) shown kept counted first second third) (normal_announced who same)
         (subst (λ (t : ChangeTable). ChangeStands me t (e ∷ d)) (sym (ap (λ (t : Tables V). t.change) third.tables)) (change_announced same))
         (ap (λ (t : Tables V). t.stable) third.tables ∙ ap (λ (t : Tables V). t.stable) second.tables ∙ ap (λ (y : StableCert). further y c) stable_is ∙ stable_learnt me old d rep e c brings)
@@ -252,21 +252,21 @@ module _ {V : Type 0} (me : Identity V) (old bound : ReplicaState V) (d : Histor
 
   -- Its plan is carried on, and its evidence held.
   pub open_awaits : (m : OpenMessage) → MayStamp me (stamped.Open m) d → (view : ℕ) (evidence : Evidence) → Opens me d m view evidence bound → (carried new : ReplicaState V) → WritesNormal bound carried → CarriesOn view evidence bound carried
-      → WritesChange carried new → StandsWith carried.agreement.change (with_evidence evidence) new.agreement.change → AwaitsPublish me new (stamped.Open m) d
+      → WritesChange carried new → StandsWith carried.protocol.change (with_evidence evidence) new.protocol.change → AwaitsPublish me new (stamped.Open m) d
   open_awaits m may view evidence opens carried new first carries second holds =
       let e = Stamped (stamped.Open m) in
-      let before : carried.agreement.change ≡ old.agreement.change = ap (λ (t : Tables V). t.change) first.tables ∙ change_is in
-      let same : SameHost old.agreement.change new.agreement.change = record {
-        shape_is = new.agreement.change_is.0 ∙ second.same.shape ∙ first.same.shape ∙ w.same.shape ∙ sym old.agreement.change_is.0;
-        host_is = new.agreement.change_is.1 ∙ second.same.host ∙ first.same.host ∙ w.same.host ∙ sym old.agreement.change_is.1;
+      let before : carried.protocol.change ≡ old.protocol.change = ap (λ (t : Tables V). t.change) first.tables ∙ change_is in
+      let same : SameHost old.protocol.change new.protocol.change = record {
+        shape_is = new.protocol.change_is.0 ∙ second.same.shape ∙ first.same.shape ∙ w.same.shape ∙ sym old.protocol.change_is.0;
+        host_is = new.protocol.change_is.1 ∙ second.same.host ∙ first.same.host ∙ w.same.host ∙ sym old.protocol.change_is.1;
       } in
-      let stands : StandsWith old.agreement.change (with_evidence m.evidence) new.agreement.change =
-      subst (λ (y : Evidence). StandsWith old.agreement.change (with_evidence y) new.agreement.change) (sym opens.shows.evidence)
-      (subst (λ (t : ChangeTable). StandsWith t (with_evidence evidence) new.agreement.change) before holds) in
-      let normal : NormalStands me carried.agreement.normal (e ∷ d) = open_carried me m d carried.agreement.normal may.sound.arises (carries me d m opens stood) in
+      let stands : StandsWith old.protocol.change (with_evidence m.evidence) new.protocol.change =
+      subst (λ (y : Evidence). StandsWith old.protocol.change (with_evidence y) new.protocol.change) (sym opens.shows.evidence)
+      (subst (λ (t : ChangeTable). StandsWith t (with_evidence evidence) new.protocol.change) before holds) in
+      let normal : NormalStands me carried.protocol.normal (e ∷ d) = open_carried me m d carried.protocol.normal may.sound.arises (carries me d m opens stood) in
       awaits_publish me old new (stamped.Open m) d rep (then_change me old carried new (then_normal me old bound carried (begun me old bound w) first) second)
       (subst (λ (t : Normal). NormalStands me t (e ∷ d)) (sym (ap (λ (t : Tables V). t.normal) second.tables)) normal)
-      (own_open_held me old.agreement.change new.agreement.change d same rep.tables.change m stands)
+      (own_open_held me old.protocol.change new.protocol.change d same rep.tables.change m stands)
       (nothing_by_change me old carried new (nothing_by_normal me old bound carried (nothing_yet me old bound w) first) second) refl
 
 -- ---- as the code writes them
@@ -281,30 +281,30 @@ module _ {V : Type 0} (me : Identity V) (old bound : ReplicaState V) (d : Histor
     pub change_may : MayStamp me (signed me d (view_change me d view)) d
     change_may = may_next me old d (ChangeView view) n (signed me d (view_change me d view)) refl
 
-    module _ (w : WritesCounter old bound) (wished stored cleared counted : ReplicaState V) (first : WritesChange bound wished) (wishes : StandsWith bound.agreement.change (with_wish bound.agreement.host view) wished.agreement.change)
-        (second : WritesChange wished stored) (stores : StoresOwn me (own_change me d view) wished stored) (third : WritesNormal stored cleared) (clears : Becomes stored.agreement.normal cleared.agreement.normal without_votes)
+    module _ (w : WritesCounter old bound) (wished stored cleared counted : ReplicaState V) (first : WritesChange bound wished) (wishes : StandsWith bound.protocol.change (with_wish bound.protocol.host view) wished.protocol.change)
+        (second : WritesChange wished stored) (stores : StoresOwn me (own_change me d view) wished stored) (third : WritesNormal stored cleared) (clears : Becomes stored.protocol.normal cleared.protocol.normal without_votes)
         (fourth : WritesNormal cleared counted) (counts : CountsOpens view cleared counted) where
       who_stored : IsHost me stored
       who_stored = still_host me wished stored second.same (still_host me bound wished first.same (still_host me old bound w.same n.represents.who))
 
-      table_stored : SameHost bound.agreement.change stored.agreement.change
+      table_stored : SameHost bound.protocol.change stored.protocol.change
       table_stored = record {
-        shape_is = stored.agreement.change_is.0 ∙ second.same.shape ∙ first.same.shape ∙ sym bound.agreement.change_is.0;
-        host_is = stored.agreement.change_is.1 ∙ second.same.host ∙ first.same.host ∙ sym bound.agreement.change_is.1;
+        shape_is = stored.protocol.change_is.0 ∙ second.same.shape ∙ first.same.shape ∙ sym bound.protocol.change_is.0;
+        host_is = stored.protocol.change_is.1 ∙ second.same.host ∙ first.same.host ∙ sym bound.protocol.change_is.1;
       }
 
-      change_stored_so : ChangeStands me stored.agreement.change (Stamped (stamped.ViewChange (own_change me d view)) ∷ d)
+      change_stored_so : ChangeStands me stored.protocol.change (Stamped (stamped.ViewChange (own_change me d view)) ∷ d)
       change_stored_so =
-          change_behind me old bound d n.represents w (own_change me d view) refl wished.agreement.change stored.agreement.change table_stored
-          (subst (λ (h : ℕ). StandsWith bound.agreement.change (with_wish h view) wished.agreement.change) (w.same.host ∙ sym n.represents.who.host) wishes) stores
+          change_behind me old bound d n.represents w (own_change me d view) refl wished.protocol.change stored.protocol.change table_stored
+          (subst (λ (h : ℕ). StandsWith bound.protocol.change (with_wish h view) wished.protocol.change) (w.same.host ∙ sym n.represents.who.host) wishes) stores
 
-      change_cleared_so : ChangeStands me cleared.agreement.change (Stamped (stamped.ViewChange (own_change me d view)) ∷ d)
+      change_cleared_so : ChangeStands me cleared.protocol.change (Stamped (stamped.ViewChange (own_change me d view)) ∷ d)
       change_cleared_so = subst (λ (t : ChangeTable). ChangeStands me t (Stamped (stamped.ViewChange (own_change me d view)) ∷ d)) (sym (ap (λ (t : Tables V). t.change) third.tables)) change_stored_so
 
-      normal_so : NormalStands me counted.agreement.normal (Stamped (stamped.ViewChange (own_change me d view)) ∷ d)
+      normal_so : NormalStands me counted.protocol.normal (Stamped (stamped.ViewChange (own_change me d view)) ∷ d)
       normal_so =
           normal_behind me old bound d n.represents w (own_change me d view) change_may cleared counted (still_host me stored cleared third.same who_stored)
-          (subst (λ (t : Normal). Becomes t cleared.agreement.normal without_votes) (ap (λ (t : Tables V). t.normal) second.tables ∙ ap (λ (t : Tables V). t.normal) first.tables) clears) change_cleared_so counts
+          (subst (λ (t : Normal). Becomes t cleared.protocol.normal without_votes) (ap (λ (t : Tables V). t.normal) second.tables ∙ ap (λ (t : Tables V). t.normal) first.tables) clears) change_cleared_so counts
 
       pub change_begun : Begun me old counted
       change_begun = then_normal me old cleared counted (then_normal me old stored cleared (then_change me old wished stored (then_change me old bound wished (begun me old bound w) first) second) third) fourth
@@ -327,16 +327,16 @@ module _ {V : Type 0} (me : Identity V) (old bound : ReplicaState V) (d : Histor
 
     -- what the table chooses
     module _ (view : ℕ) (same_view : view ≡ view_of me d) where
-      table_chooses : chosen_in old.agreement.change.shape view old.agreement.change.changes ≡ Some changes
-      table_chooses = (change_answers me old.agreement.change d n.represents.tables.change).chosen_for view ∙ ap (chosen me d) same_view ∙ chosen_is
+      table_chooses : chosen_in old.protocol.change.shape view old.protocol.change.changes ≡ Some changes
+      table_chooses = (change_answers me old.protocol.change d n.represents.tables.change).chosen_for view ∙ ap (chosen me d) same_view ∙ chosen_is
 
-      pub some_chosen : None ≡ chosen_in old.agreement.change.shape view old.agreement.change.changes → ⊥
+      pub some_chosen : None ≡ chosen_in old.protocol.change.shape view old.protocol.change.changes → ⊥
       some_chosen none = let no : None ≡ Some changes = none ∙ table_chooses in absurd cc
 
-      pub chosen_so : (l : List ViewChange) → Some l ≡ chosen_in old.agreement.change.shape view old.agreement.change.changes → l ≡ changes
+      pub chosen_so : (l : List ViewChange) → Some l ≡ chosen_in old.protocol.change.shape view old.protocol.change.changes → l ≡ changes
       chosen_so l is = some_is l changes (is ∙ table_chooses)
 
-    pub members_fit : (l : List ViewChange) → l ≡ changes → AllByRecursion (FitsMember old.agreement.shape) l
+    pub members_fit : (l : List ViewChange) → l ≡ changes → AllByRecursion (FitsMember old.protocol.shape) l
     members_fit l is = subst (λ (s : Shape). AllByRecursion (FitsMember s) l) n.represents.who.shape (subst (λ (x : List ViewChange). AllByRecursion (FitsMember me.shape) x) (sym is) fit_body.1.1)
 
     pub members_enough : (l : List ViewChange) → l ≡ changes → are_quorum me.shape l ≡ true
@@ -359,7 +359,7 @@ module _ {V : Type 0} (me : Identity V) (old bound : ReplicaState V) (d : Histor
     }
 
     pub announce_waits : (w : WritesCounter old bound) (view : ℕ) (plan : Plan) → view ≡ view_of me d → plan ≡ plan_from me changes → (shown kept counted : ReplicaState V) → WritesChange bound shown
-        → StandsWith bound.agreement.change (with_new_view own_new_view) shown.agreement.change → Holds (with_plan view plan) (Some plan.base) shown kept → WritesNormal kept counted → CountsOpens view kept counted
+        → StandsWith bound.protocol.change (with_new_view own_new_view) shown.protocol.change → Holds (with_plan view plan) (Some plan.base) shown kept → WritesNormal kept counted → CountsOpens view kept counted
         → AwaitsPublish me counted (signed me d (new_view me d changes)) d
     announce_waits w view plan here planned shown kept counted first holds second third counts =
         announce_awaits me old bound d n.represents w own_new_view changes announce_may refl view plan here here planned shown kept counted first holds second third counts
@@ -371,8 +371,8 @@ module _ {V : Type 0} (me : Identity V) (old bound : ReplicaState V) (d : Histor
     pub open_has : HasPlan me d e plan
     open_has = has_plan me d e plan open_may.adds
 
-    pub evidence_so : (view : ℕ) → view ≡ view_of me d → (o : Option Evidence) → Answers old.agreement.change o (evidence_in_table old.agreement.change.shape view) → o ≡ Some e
-    evidence_so view here o answers = (change_answers me old.agreement.change d n.represents.tables.change).evidence_for_view view o answers ∙ ap (evidence_for me d) here ∙ open_has.evidence
+    pub evidence_so : (view : ℕ) → view ≡ view_of me d → (o : Option Evidence) → Answers old.protocol.change o (evidence_in_table old.protocol.change.shape view) → o ≡ Some e
+    evidence_so view here o answers = (change_answers me old.protocol.change d n.represents.tables.change).evidence_for_view view o answers ∙ ap (evidence_for me d) here ∙ open_has.evidence
 
     pub some_evidence : (o : Option Evidence) → o ≡ Some e → o ≡ None → ⊥
     some_evidence o is none = let no : None ≡ Some e = sym none ∙ is in absurd cc
@@ -409,10 +409,10 @@ module _ {V : Type 0} (me : Identity V) (old bound : ReplicaState V) (d : Histor
     may_held = subst (λ (m : StampedMessage). MayStamp me m d) (sym open_has.signs) open_may
 
     pub open_waits : (w : WritesCounter old bound) (view : ℕ) (y : Evidence) → view ≡ view_of me d → y ≡ e → (carried held : ReplicaState V) → WritesNormal bound carried → CarriesOn view y bound carried → WritesChange carried held
-        → StandsWith carried.agreement.change (with_evidence y) held.agreement.change → AwaitsPublish me held (signed me d (opening e plan)) d
+        → StandsWith carried.protocol.change (with_evidence y) held.protocol.change → AwaitsPublish me held (signed me d (opening e plan)) d
     open_waits w view y here same carried held first carries second holds =
-        let holds_plan : plan_of_view view bound.agreement.change.plan ≡ Some open_has.held =
-        ap (λ (t : Tables V). plan_of_view view t.change.plan) w.tables ∙ (change_answers me old.agreement.change d n.represents.tables.change).plans view ∙ ap (plan_at me d) here ∙ open_has.plan_is in
+        let holds_plan : plan_of_view view bound.protocol.change.plan ≡ Some open_has.held =
+        ap (λ (t : Tables V). plan_of_view view t.change.plan) w.tables ∙ (change_answers me old.protocol.change d n.represents.tables.change).plans view ∙ ap (plan_at me d) here ∙ open_has.plan_is in
         let opens : Opens me d own_open view y bound = record {
           plan = open_has.held;
           who = still_host me old bound w.same n.represents.who;

@@ -31,22 +31,22 @@ use Rattle.mb_normal.specs.declared.normal.Normal.{Normal}
 use Rattle.mb_normal.specs.Searches.{searches_in, unordered}
 use Rattle.mb_normal.specs.Tables.{batch_of, order_of}
 use Rattle.mb_change.specs.Tables.{Table as ChangeTable}
-use Rattle.mb_searches.specs.Speaks.{speaks_of_change}
-use Rattle.mb_searches.specs.Behind.{slot_in_prepare, vote_in_prepare, vote_in_commit}
-use Rattle.mb_standing.specs.Positions.{CountsVote, PutsSlot}
-use Rattle.mb_standing.specs.Stands.{NormalStands, ChangeStands}
-use Rattle.mb_standing.proofs.Changes.{change_stays}
-use Rattle.mb_standing.proofs.PositionsRules.{commit_is}
-use Rattle.mb_standing.proofs.PositionsVoted.{own_commit_counts, own_prepare_counts}
+use Rattle.mb_history_laws.specs.Speaks.{speaks_of_change}
+use Rattle.mb_history_laws.specs.Behind.{slot_in_prepare, vote_in_prepare, vote_in_commit}
+use Rattle.mb_refinement.specs.Positions.{CountsVote, PutsSlot}
+use Rattle.mb_refinement.specs.Stands.{NormalStands, ChangeStands}
+use Rattle.mb_refinement.proofs.Changes.{change_stays}
+use Rattle.mb_refinement.proofs.PositionsRules.{commit_is}
+use Rattle.mb_refinement.proofs.PositionsVoted.{own_commit_counts, own_prepare_counts}
 use Rattle.mb_replica.specs.declared.state.ReplicaState.{ReplicaState}
-use Rattle.mb_replica.specs.declared.sending.Done.{Done}
+use Rattle.mb_replica.specs.declared.sending.StepOutput.{StepOutput}
 use Rattle.mb_core.specs.declared.rules.Due.TheVariants as due
 use Rattle.mb_core.specs.declared.stamping.TheConstants.{NO_UI}
 use Rattle.mb_replica.specs.Between.{AwaitsPublish, WritesCounter, WritesNormal}
 use Rattle.mb_core.specs.Due.{IsNamed, IsDue}
 use Rattle.mb_replica.specs.Represents.{Represents}
 use Rattle.mb_core.proofs.Publishing.{MayStamp, IsNext, is_next, may_next, awaits_publish, begun, then_normal, nothing_yet, nothing_by_normal}
-use Rattle.mb_standing.specs.Tables.{Tables}
+use Rattle.mb_refinement.specs.Tables.{Tables}
 
 -- ---- what is named
 
@@ -89,7 +89,7 @@ module _ {V : Type 0} (r : ReplicaState V) where
     pub batch : Batch
     pub next : IsNext me r history (Prepare pos batch)
 
-module _ {V : Type 0} (machine : ServiceMachine V) (r : ReplicaState V) (done : Done) where
+module _ {V : Type 0} (machine : ServiceMachine V) (r : ReplicaState V) (done : StepOutput) where
   pub commit_due : (pos : ℕ) → IsDue machine r done (due.Commit pos) → CommitDue r pos
   commit_due pos q =
       let found = commit_rule pos q.rule q.named in
@@ -201,36 +201,36 @@ counts_as old new at voter vote pos host v same_pos same_host same_vote c =
     subst (λ (x : Vote). CountsVote old new pos host x) same_vote (subst (λ (h : ℕ). CountsVote old new pos h vote) same_host (subst (λ (p : ℕ). CountsVote old new p voter vote) same_pos c))
 
 module _ {V : Type 0} (me : Identity V) (old bound : ReplicaState V) (d : History) (rep : Represents me old d) (w : WritesCounter old bound) where
-  normal_is : bound.agreement.normal ≡ old.agreement.normal
+  normal_is : bound.protocol.normal ≡ old.protocol.normal
   normal_is = ap (λ (t : Tables V). t.normal) w.tables
 
-  host_is : bound.agreement.host ≡ me.host
+  host_is : bound.protocol.host ≡ me.host
   host_is = w.same.host ∙ sym rep.who.host
 
-  change_behind : (new : ReplicaState V) (m : StampedMessage) → new.agreement.change ≡ bound.agreement.change → speaks_of_change (Stamped m) ≡ false → ChangeStands me new.agreement.change (Stamped m ∷ d)
+  change_behind : (new : ReplicaState V) (m : StampedMessage) → new.protocol.change ≡ bound.protocol.change → speaks_of_change (Stamped m) ≡ false → ChangeStands me new.protocol.change (Stamped m ∷ d)
   change_behind new m same none =
-      subst (λ (t : ChangeTable). ChangeStands me t (Stamped m ∷ d)) (sym (same ∙ ap (λ (t : Tables V). t.change) w.tables)) (change_stays me old.agreement.change (Stamped m) d none rep.tables.change)
+      subst (λ (t : ChangeTable). ChangeStands me t (Stamped m ∷ d)) (sym (same ∙ ap (λ (t : Tables V). t.change) w.tables)) (change_stays me old.protocol.change (Stamped m) d none rep.tables.change)
 
   -- The vote of the own COMMIT was counted.
   commit_awaits : (voted : ReplicaState V) (m : CommitMessage) → MayStamp me (stamped.Commit m) d → WritesNormal bound voted → (at : ℕ) (vote : Vote) → at ≡ m.pos → vote ≡ vote_in_commit m
-      → CountsVote bound.agreement.normal voted.agreement.normal at bound.agreement.host vote → AwaitsPublish me voted (stamped.Commit m) d
+      → CountsVote bound.protocol.normal voted.protocol.normal at bound.protocol.host vote → AwaitsPublish me voted (stamped.Commit m) d
   commit_awaits voted m may writes at vote same_pos same_vote counts =
       awaits_publish me old voted (stamped.Commit m) d rep (then_normal me old bound voted (begun me old bound w) writes)
-      (own_commit_counts me m d bound.agreement.normal voted.agreement.normal may.sound.arises
-      (counts_as bound.agreement.normal voted.agreement.normal at bound.agreement.host vote m.pos me.host (vote_in_commit m) same_pos host_is same_vote counts)
+      (own_commit_counts me m d bound.protocol.normal voted.protocol.normal may.sound.arises
+      (counts_as bound.protocol.normal voted.protocol.normal at bound.protocol.host vote m.pos me.host (vote_in_commit m) same_pos host_is same_vote counts)
       (subst (λ (t : Normal). NormalStands me t d) (sym normal_is) rep.tables.normal))
       (change_behind voted (stamped.Commit m) (ap (λ (t : Tables V). t.change) writes.tables) refl)
       (nothing_by_normal me old bound voted (nothing_yet me old bound w) writes) refl
 
   -- The slot of the own PREPARE was put, and its vote counted.
   prepare_awaits : (put voted : ReplicaState V) (m : PrepareMessage) → MayStamp me (stamped.Prepare m) d → WritesNormal bound put → WritesNormal put voted → (at voter : ℕ) (slot : KnownSlot) (vote : Vote) → at ≡ m.pos
-      → voter ≡ me.host → slot ≡ slot_in_prepare m → vote ≡ vote_in_prepare m → PutsSlot bound.agreement.normal put.agreement.normal at slot → CountsVote put.agreement.normal voted.agreement.normal at voter vote
+      → voter ≡ me.host → slot ≡ slot_in_prepare m → vote ≡ vote_in_prepare m → PutsSlot bound.protocol.normal put.protocol.normal at slot → CountsVote put.protocol.normal voted.protocol.normal at voter vote
       → AwaitsPublish me voted (stamped.Prepare m) d
   prepare_awaits put voted m may first second at voter slot vote same_pos same_host same_slot same_vote puts counts =
       awaits_publish me old voted (stamped.Prepare m) d rep (then_normal me old put voted (then_normal me old bound put (begun me old bound w) first) second)
-      (own_prepare_counts me m d bound.agreement.normal put.agreement.normal voted.agreement.normal may.sound.arises
-      (subst (λ (k : KnownSlot). PutsSlot bound.agreement.normal put.agreement.normal m.pos k) same_slot (subst (λ (p : ℕ). PutsSlot bound.agreement.normal put.agreement.normal p slot) same_pos puts))
-      (counts_as put.agreement.normal voted.agreement.normal at voter vote m.pos me.host (vote_in_prepare m) same_pos same_host same_vote counts)
+      (own_prepare_counts me m d bound.protocol.normal put.protocol.normal voted.protocol.normal may.sound.arises
+      (subst (λ (k : KnownSlot). PutsSlot bound.protocol.normal put.protocol.normal m.pos k) same_slot (subst (λ (p : ℕ). PutsSlot bound.protocol.normal put.protocol.normal p slot) same_pos puts))
+      (counts_as put.protocol.normal voted.protocol.normal at voter vote m.pos me.host (vote_in_prepare m) same_pos same_host same_vote counts)
       (subst (λ (t : Normal). NormalStands me t d) (sym normal_is) rep.tables.normal))
       (change_behind voted (stamped.Prepare m) (ap (λ (t : Tables V). t.change) second.tables ∙ ap (λ (t : Tables V). t.change) first.tables) refl)
       (nothing_by_normal me old put voted (nothing_by_normal me old bound put (nothing_yet me old bound w) first) second) refl
@@ -251,7 +251,7 @@ module _ {V : Type 0} (me : Identity V) (old bound : ReplicaState V) (d : Histor
     commit_made view counter cert copy was same_view order batch same = commit_signed me d pos k b commit_has view counter cert copy same_view order (ap (λ (x : Batch). Some x) same ∙ batch)
 
     pub commit_waits : (w : WritesCounter old bound) (voted : ReplicaState V) → WritesNormal bound voted → (counter : ℕ) (cert body : Bytes) → Some (counter, cert) ≡ option_map order_of (slot_at me d pos) → body ≡ stamped_digest (commit me d pos k b)
-        → CountsVote bound.agreement.normal voted.agreement.normal pos bound.agreement.host (record { counter = counter; request = body }) → AwaitsPublish me voted (signed me d (commit me d pos k b)) d
+        → CountsVote bound.protocol.normal voted.protocol.normal pos bound.protocol.host (record { counter = counter; request = body }) → AwaitsPublish me voted (signed me d (commit me d pos k b)) d
     commit_waits w voted writes counter cert body order digest counts =
         let m : CommitMessage = record { view = view_of me d; pos = pos; counter = k.counter; cert = k.cert; body = Whole b; ui = next_ui me d (bare_of (commit me d pos k b)) } in
         commit_awaits me old bound d n.represents w voted m commit_may writes pos (record { counter = counter; request = body }) refl (same_vote counter k.counter body (stamped_digest (commit me d pos k b)) (same_counter me d pos k b commit_has counter cert order) digest) counts
@@ -269,12 +269,12 @@ module _ {V : Type 0} (me : Identity V) (old bound : ReplicaState V) (d : Histor
 
     pub prepare_waits : (w : WritesCounter old bound) (put voted : ReplicaState V) → WritesNormal bound put → WritesNormal put voted → (place : ℕ) (ui : Ui) (body : Bytes) (copy : Batch) → place ≡ next_position me d → ui ≡ ui_of (signed me d (prepare me d pos b))
         → body ≡ stamped_digest (prepare me d pos b) → Some copy ≡ first_batch (unordered me.shape (searches_in me d))
-        → PutsSlot bound.agreement.normal put.agreement.normal place (record { counter = ui.counter; cert = ui.cert; digest = body; batch = Some copy })
-        → CountsVote put.agreement.normal voted.agreement.normal place put.agreement.host (record { counter = ui.counter; request = body }) → AwaitsPublish me voted (signed me d (prepare me d pos b)) d
+        → PutsSlot bound.protocol.normal put.protocol.normal place (record { counter = ui.counter; cert = ui.cert; digest = body; batch = Some copy })
+        → CountsVote put.protocol.normal voted.protocol.normal place put.protocol.host (record { counter = ui.counter; request = body }) → AwaitsPublish me voted (signed me d (prepare me d pos b)) d
     prepare_waits w put voted first second place ui body copy next same digest batch puts counts =
         let m : PrepareMessage = record { view = view_of me d; pos = pos; body = Whole b; ui = next_ui me d (bare_of (prepare me d pos b)) } in
         let at : place ≡ pos = next ∙ sym prepare_has.place in
         let a : copy ≡ b = some_is copy b (batch ∙ prepare_has.batch) in
-        prepare_awaits me old bound d n.represents w put voted m prepare_may first second place put.agreement.host (record { counter = ui.counter; cert = ui.cert; digest = body; batch = Some copy }) (record { counter = ui.counter; request = body }) at
+        prepare_awaits me old bound d n.represents w put voted m prepare_may first second place put.protocol.host (record { counter = ui.counter; cert = ui.cert; digest = body; batch = Some copy }) (record { counter = ui.counter; request = body }) at
         (first.same.host ∙ w.same.host ∙ sym n.represents.who.host) (same_slot ui m.ui body (stamped_digest (prepare me d pos b)) copy b same digest a)
         (same_vote ui.counter m.ui.counter body (stamped_digest (prepare me d pos b)) (ap (λ (u : Ui). u.counter) same) digest) puts counts

@@ -34,21 +34,21 @@ use Rattle.mb_change.specs.Tables.{Table as ChangeTable}
 use Rattle.mb_fetch.specs.Snapshots.{Snapshot}
 use Rattle.mb_fetch.specs.Fetched.{Fetched}
 use Rattle.mb_gate.specs.declared.gate.Gate.{Gate}
-use Rattle.mb_searches.specs.Sound.{IsSound}
-use Rattle.mb_searches.specs.Speaks.{speaks_of_checkpoints, speaks_of_stable}
-use Rattle.mb_searches.proofs.Framing.{low_stays}
-use Rattle.mb_searches.proofs.SoundRules.{rule_sound}
-use Rattle.mb_standing.specs.Stands.{GatesStand, LogStands, NormalStands, ChangeStands, ShelfStands, HeldStand}
-use Rattle.mb_standing.specs.Tables.{Tables}
-use Rattle.mb_standing.proofs.FetchedParts.{held_stays}
-use Rattle.mb_standing.proofs.OwnLogs.{own_log_appended, place_for, place_for_other}
-use Rattle.mb_standing.proofs.Snapshots.{shelf_stays}
-use Rattle.mb_standing.proofs.Values.{own_counter_stamped, executed_stays, certificate_stays, service_stays, asked_left}
-use Rattle.mb_fitting.specs.Fitting.{AreFit}
-use Rattle.mb_fitting.proofs.Fit.{rule_fit}
-use Rattle.mb_fitting.proofs.Letters.{stamps_sent}
+use Rattle.mb_history_laws.specs.Sound.{IsSound}
+use Rattle.mb_history_laws.specs.Speaks.{speaks_of_checkpoints, speaks_of_stable}
+use Rattle.mb_history_laws.proofs.Framing.{low_stays}
+use Rattle.mb_history_laws.proofs.SoundRules.{rule_sound}
+use Rattle.mb_refinement.specs.Stands.{GatesStand, LogStands, NormalStands, ChangeStands, ShelfStands, HeldStand}
+use Rattle.mb_refinement.specs.Tables.{Tables}
+use Rattle.mb_refinement.proofs.FetchedParts.{held_stays}
+use Rattle.mb_refinement.proofs.OwnLogs.{own_log_appended, place_for, place_for_other}
+use Rattle.mb_refinement.proofs.Snapshots.{shelf_stays}
+use Rattle.mb_refinement.proofs.Values.{own_counter_stamped, executed_stays, certificate_stays, service_stays, asked_left}
+use Rattle.mb_encodable.specs.Fitting.{AreFit}
+use Rattle.mb_encodable.proofs.Fit.{rule_fit}
+use Rattle.mb_encodable.proofs.Letters.{stamps_sent}
 use Rattle.mb_replica.specs.declared.state.ReplicaState.{ReplicaState}
-use Rattle.mb_replica.specs.declared.sending.Done.{Done}
+use Rattle.mb_replica.specs.declared.sending.StepOutput.{StepOutput}
 use Rattle.mb_core.specs.declared.stamping.TheConstants.{NO_UI}
 use Rattle.mb_replica.specs.Between.{IsSame, RestStands, AwaitsPublish, WritesStamp, WritesCounter, WritesNormal, WritesChange}
 use Rattle.mb_replica.specs.Represents.{IsHost, Represents, StandsAt, tables_of}
@@ -181,7 +181,7 @@ module _ {V : Type 0} (me : Identity V) where
   pub may_next : (r : ReplicaState V) (d : History) (a : Rule) → IsNext r d a → (m : StampedMessage) → signs a d m → MayStamp m d
   may_next r d a n m is = may_stamp r d n.represents n.whole a n.next m is
 
-  pub is_next : (r : ReplicaState V) (done : Done) (x : Progress) (a : Rule) → StandsAt me r done x → next_rule me x.history ≡ Some a → IsNext r x.history a
+  pub is_next : (r : ReplicaState V) (done : StepOutput) (x : Progress) (a : Rule) → StandsAt me r done x → next_rule me x.history ≡ Some a → IsNext r x.history a
   is_next r done x a st next = record { represents = st.represents; whole = nothing_served x.history st.serving; next = next }
 
   -- ---- what was written before
@@ -189,16 +189,16 @@ module _ {V : Type 0} (me : Identity V) where
   -- A counter was bound. Positions, view changes and what is stable may have been written.
   pub record Begun (old new : ReplicaState V) : Type 0 where
     pub same : IsSame old new
-    pub counter : new.agreement.usig.counter ≡ old.agreement.usig.counter + 1
-    pub gates : new.agreement.gates.items ≡ old.agreement.gates.items
-    pub log : new.agreement.log ≡ old.agreement.log
-    pub exec : new.agreement.exec ≡ old.agreement.exec
+    pub counter : new.protocol.usig.counter ≡ old.protocol.usig.counter + 1
+    pub gates : new.protocol.gates.items ≡ old.protocol.gates.items
+    pub log : new.protocol.log ≡ old.protocol.log
+    pub exec : new.protocol.exec ≡ old.protocol.exec
     pub service : new.keeper.served ≡ old.keeper.served
-    pub asked : new.agreement.asked ≡ old.agreement.asked
+    pub asked : new.protocol.asked ≡ old.protocol.asked
 
   -- Nothing was learnt.
   pub record LearntNothing (old new : ReplicaState V) : Type 0 where
-    pub stable : new.agreement.stable ≡ old.agreement.stable
+    pub stable : new.protocol.stable ≡ old.protocol.stable
     pub shelf : new.keeper.snapshots ≡ old.keeper.snapshots
     pub parts : new.keeper.fetched ≡ old.keeper.fetched
 
@@ -232,10 +232,10 @@ module _ {V : Type 0} (me : Identity V) where
     }
 
   pub then_normal : (old mid new : ReplicaState V) → Begun old mid → WritesNormal mid new → Begun old new
-  then_normal old mid new b w = then_written old mid new new.agreement.normal mid.agreement.change mid.agreement.stable mid.keeper.snapshots mid.keeper.fetched w.same w.tables b
+  then_normal old mid new b w = then_written old mid new new.protocol.normal mid.protocol.change mid.protocol.stable mid.keeper.snapshots mid.keeper.fetched w.same w.tables b
 
   pub then_change : (old mid new : ReplicaState V) → Begun old mid → WritesChange mid new → Begun old new
-  then_change old mid new b w = then_written old mid new mid.agreement.normal new.agreement.change mid.agreement.stable mid.keeper.snapshots mid.keeper.fetched w.same w.tables b
+  then_change old mid new b w = then_written old mid new mid.protocol.normal new.protocol.change mid.protocol.stable mid.keeper.snapshots mid.keeper.fetched w.same w.tables b
 
   pub nothing_by_normal : (old mid new : ReplicaState V) → LearntNothing old mid → WritesNormal mid new → LearntNothing old new
   nothing_by_normal old mid new k w = record {
@@ -253,29 +253,29 @@ module _ {V : Type 0} (me : Identity V) where
 
   -- ---- what waits for the own gate and the own log
 
-  module _ (old new : ReplicaState V) (m : StampedMessage) (d : History) (rep : Represents me old d) (b : Begun old new) (normal : NormalStands me new.agreement.normal (Stamped m ∷ d)) (change : ChangeStands me new.agreement.change (Stamped m ∷ d)) where
-    pub awaits_learnt : new.agreement.stable ≡ stable_of me (Stamped m ∷ d) → ShelfStands me new.keeper.snapshots (Stamped m ∷ d) → HeldStand me new.keeper.fetched (Stamped m ∷ d) → AwaitsPublish me new m d
+  module _ (old new : ReplicaState V) (m : StampedMessage) (d : History) (rep : Represents me old d) (b : Begun old new) (normal : NormalStands me new.protocol.normal (Stamped m ∷ d)) (change : ChangeStands me new.protocol.change (Stamped m ∷ d)) where
+    pub awaits_learnt : new.protocol.stable ≡ stable_of me (Stamped m ∷ d) → ShelfStands me new.keeper.snapshots (Stamped m ∷ d) → HeldStand me new.keeper.fetched (Stamped m ∷ d) → AwaitsPublish me new m d
     awaits_learnt stable shelf parts = record {
       who = still_host me old new b.same rep.who;
       gates = subst (λ (l : List Gate). GatesStand me l d) (sym b.gates) rep.tables.gates;
       log = subst (λ (l : Log). LogStands me l d) (sym b.log) rep.tables.log;
       rest = record {
-        counter = b.counter ∙ own_counter_stamped old.agreement.usig.counter m d rep.tables.counter;
+        counter = b.counter ∙ own_counter_stamped old.protocol.usig.counter m d rep.tables.counter;
         normal = normal;
         change = change;
         stable = stable;
-        exec = b.exec ∙ executed_stays me old.agreement.exec (Stamped m) d refl rep.tables.exec;
+        exec = b.exec ∙ executed_stays me old.protocol.exec (Stamped m) d refl rep.tables.exec;
         service = b.service ∙ service_stays me old.keeper.served (Stamped m) d refl rep.tables.service;
         shelf = shelf;
         parts = parts;
-        asked = b.asked ∙ asked_left me old.agreement.asked (Stamped m) d refl rep.tables.asked;
+        asked = b.asked ∙ asked_left me old.protocol.asked (Stamped m) d refl rep.tables.asked;
       };
     }
 
     -- where the message brings no certificate
     pub awaits_publish : LearntNothing old new → speaks_of_stable (Stamped m) ≡ false → AwaitsPublish me new m d
     awaits_publish k plain = awaits_learnt
-        (k.stable ∙ certificate_stays me old.agreement.stable (Stamped m) d plain rep.tables.stable)
+        (k.stable ∙ certificate_stays me old.protocol.stable (Stamped m) d plain rep.tables.stable)
         (subst (λ (l : List Snapshot). ShelfStands me l (Stamped m ∷ d)) (sym k.shelf) (shelf_stays me old.keeper.snapshots (Stamped m) d refl (low_stays me (Stamped m) d plain) rep.tables.shelf))
         (subst (λ (h : Option Fetched). HeldStand me h (Stamped m ∷ d)) (sym k.parts) (held_stays me old.keeper.fetched (Stamped m) d refl (low_stays me (Stamped m) d plain) rep.tables.parts))
 
@@ -294,15 +294,15 @@ module _ {V : Type 0} (me : Identity V) where
     asked = rest.asked;
   })
 
-  stands_published : (old r new : ReplicaState V) (m : StampedMessage) (d : History) → Represents me old d → MayStamp m d → AwaitsPublish me r m d → new.agreement.log ≡ appended m r.agreement.log
-      → GatesStand me new.agreement.gates.items (Stamped m ∷ d) → WritesStamp r new → Represents me new (Stamped m ∷ d)
+  stands_published : (old r new : ReplicaState V) (m : StampedMessage) (d : History) → Represents me old d → MayStamp m d → AwaitsPublish me r m d → new.protocol.log ≡ appended m r.protocol.log
+      → GatesStand me new.protocol.gates.items (Stamped m ∷ d) → WritesStamp r new → Represents me new (Stamped m ∷ d)
   stands_published old r new m d rep may waits log gates w = let rest = rest_after r new (Stamped m ∷ d) w waits.rest in record {
     who = still_host me r new w.same waits.who;
     tables = record {
       sound = may.sound;
       counter = rest.counter;
       gates = gates;
-      log = own_log_appended me r.agreement.log new.agreement.log m d may.plain log waits.log;
+      log = own_log_appended me r.protocol.log new.protocol.log m d may.plain log waits.log;
       normal = rest.normal;
       change = rest.change;
       stable = rest.stable;
@@ -315,9 +315,9 @@ module _ {V : Type 0} (me : Identity V) where
     fit = may.fit;
   }
 
-  published : (old r new : ReplicaState V) (before after : Done) (x : Progress) (m : StampedMessage) → StandsAt me old before x → MayStamp m x.history → AwaitsPublish me r m x.history
-      → after.sent ≡ before.sent ++ as_outgoing (to_all (as_message m)) ∷ [] → (after.executed ≡ before.executed) × (after.installed ≡ before.installed) → new.agreement.log ≡ appended m r.agreement.log
-      → GatesStand me new.agreement.gates.items (Stamped m ∷ x.history) → WritesStamp r new → StandsAt me new after (send (to_all (as_message m)) (write (Stamped m) x))
+  published : (old r new : ReplicaState V) (before after : StepOutput) (x : Progress) (m : StampedMessage) → StandsAt me old before x → MayStamp m x.history → AwaitsPublish me r m x.history
+      → after.sent ≡ before.sent ++ as_outgoing (to_all (as_message m)) ∷ [] → (after.executed ≡ before.executed) × (after.installed ≡ before.installed) → new.protocol.log ≡ appended m r.protocol.log
+      → GatesStand me new.protocol.gates.items (Stamped m ∷ x.history) → WritesStamp r new → StandsAt me new after (send (to_all (as_message m)) (write (Stamped m) x))
   unfolding just_served
   published old r new before after x m st may waits sent kept log gates w = record {
     represents = stands_published old r new m x.history st.represents may waits log gates w;
@@ -328,9 +328,9 @@ module _ {V : Type 0} (me : Identity V) where
   }
 
   -- What publishing leaves, where it succeeds.
-  pub when_published : {E : Type 0} (result : Result (Unit {0}) E) (old r new : ReplicaState V) (before after : Done) (x : Progress) (m : StampedMessage) → StandsAt me old before x → MayStamp m x.history → AwaitsPublish me r m x.history
+  pub when_published : {E : Type 0} (result : Result (Unit {0}) E) (old r new : ReplicaState V) (before after : StepOutput) (x : Progress) (m : StampedMessage) → StandsAt me old before x → MayStamp m x.history → AwaitsPublish me r m x.history
       → OnOk result (after.sent ≡ before.sent ++ as_outgoing (to_all (as_message m)) ∷ []) → (after.executed ≡ before.executed) × (after.installed ≡ before.installed)
-      → OnOk result (new.agreement.log ≡ appended m r.agreement.log) → ((me : Identity V) (d : History) → IsHost me r → IsSound me d → Adds me d (Stamped m) → GatesStand me r.agreement.gates.items d → OnOk result (GatesStand me new.agreement.gates.items (Stamped m ∷ d)))
+      → OnOk result (new.protocol.log ≡ appended m r.protocol.log) → ((me : Identity V) (d : History) → IsHost me r → IsSound me d → Adds me d (Stamped m) → GatesStand me r.protocol.gates.items d → OnOk result (GatesStand me new.protocol.gates.items (Stamped m ∷ d)))
       → OnOk result (WritesStamp r new) → OnOk result (StandsAt me new after (send (to_all (as_message m)) (write (Stamped m) x)))
   when_published (Ok a) old r new before after x m st may waits sent kept log gates w =
       published old r new before after x m st may waits sent kept log (gates me x.history waits.who st.represents.tables.sound may.adds waits.gates) w
@@ -344,39 +344,39 @@ no_ui_fits s = let k = shape_fits s in record { host = omega (arith, k.faults.0)
 
 module _ {V : Type 0} (me : Identity V) (r : ReplicaState V) (d : History) (rep : Represents me r d) (m : StampedMessage) (may : MayStamp me m d) where
   -- A message that is signed as one that may be stamped fits before.
-  pub fits_unsigned : (before : StampedMessage) → FitsUi r.agreement.shape (ui_of before) → signed me d before ≡ m → FitsStamped r.agreement.shape before
+  pub fits_unsigned : (before : StampedMessage) → FitsUi r.protocol.shape (ui_of before) → signed me d before ≡ m → FitsStamped r.protocol.shape before
   fits_unsigned before own is =
-      fits_again r.agreement.shape (next_ui me d (bare_of before)) before own (subst (FitsStamped r.agreement.shape) (sym is) (subst (λ (s : Shape). FitsStamped s m) rep.who.shape may.fit.values.0))
+      fits_again r.protocol.shape (next_ui me d (bare_of before)) before own (subst (FitsStamped r.protocol.shape) (sym is) (subst (λ (s : Shape). FitsStamped s m) rep.who.shape may.fit.values.0))
 
   -- So does one that stands under the identifier that stands for none.
-  pub fits_raw : (raw before : StampedMessage) → before ≡ with_ui NO_UI raw → signed me d raw ≡ m → FitsStamped r.agreement.shape before
+  pub fits_raw : (raw before : StampedMessage) → before ≡ with_ui NO_UI raw → signed me d raw ≡ m → FitsStamped r.protocol.shape before
   fits_raw raw before is same =
-      subst (FitsStamped r.agreement.shape) (sym is)
-      (fits_unsigned (with_ui NO_UI raw) (subst (FitsUi r.agreement.shape) (sym (ui_with NO_UI raw)) (no_ui_fits r.agreement.shape)) (signed_again me d NO_UI raw ∙ same))
+      subst (FitsStamped r.protocol.shape) (sym is)
+      (fits_unsigned (with_ui NO_UI raw) (subst (FitsUi r.protocol.shape) (sym (ui_with NO_UI raw)) (no_ui_fits r.protocol.shape)) (signed_again me d NO_UI raw ∙ same))
 
   -- A counter is left for it.
-  pub is_left : r.agreement.usig.counter < 2 ^ 64 - 1
+  pub is_left : r.protocol.usig.counter < 2 ^ 64 - 1
   is_left = subst (λ (n : ℕ). n < 2 ^ 64 - 1) (sym rep.tables.counter) may.unspent
 
   -- Once it is signed it is this message, and the log has room for it.
   module _ (new : ReplicaState V) (b : Begun me r new) where
-    pub fits_signed : (s : StampedMessage) → s ≡ m → FitsStamped new.agreement.shape s
-    fits_signed s is = subst (FitsStamped new.agreement.shape) (sym is) (subst (λ (t : Shape). FitsStamped t m) (rep.who.shape ∙ sym b.same.shape) may.fit.values.0)
+    pub fits_signed : (s : StampedMessage) → s ≡ m → FitsStamped new.protocol.shape s
+    fits_signed s is = subst (FitsStamped new.protocol.shape) (sym is) (subst (λ (t : Shape). FitsStamped t m) (rep.who.shape ∙ sym b.same.shape) may.fit.values.0)
 
-    pub sent_signed : (s : StampedMessage) → s ≡ m → Fits new.agreement.shape (as_message s)
+    pub sent_signed : (s : StampedMessage) → s ≡ m → Fits new.protocol.shape (as_message s)
     unfolding all_stamped
-    sent_signed s is = subst (λ (y : StampedMessage). Fits new.agreement.shape (as_message y)) (sym is) (subst (λ (t : Shape). Fits t (as_message m)) (rep.who.shape ∙ sym b.same.shape)
+    sent_signed s is = subst (λ (y : StampedMessage). Fits new.protocol.shape (as_message y)) (sym is) (subst (λ (t : Shape). Fits t (as_message m)) (rep.who.shape ∙ sym b.same.shape)
         (stamps_sent me (shape_fits me.shape) (there me r rep.who) (Stamped m ∷ d) may.sound may.fit).0)
 
-    pub room_signed : (s : StampedMessage) → s ≡ m → has_room_for new.agreement.log (stamped_kind s) ≡ true
-    room_signed s is = subst (λ (y : StampedMessage). has_room_for new.agreement.log (stamped_kind y) ≡ true) (sym is) (subst (λ (l : Log). has_room_for l (stamped_kind m) ≡ true) (sym b.log) (may.room r.agreement.log rep.tables.log))
+    pub room_signed : (s : StampedMessage) → s ≡ m → has_room_for new.protocol.log (stamped_kind s) ≡ true
+    room_signed s is = subst (λ (y : StampedMessage). has_room_for new.protocol.log (stamped_kind y) ≡ true) (sym is) (subst (λ (l : Log). has_room_for l (stamped_kind m) ≡ true) (sym b.log) (may.room r.protocol.log rep.tables.log))
 
 module _ {V : Type 0} (me : Identity V) where
   -- A rule ends with what it publishes.
-  pub rule_ends : {E : Type 0} (result : Result (Unit {0}) E) (old r new : ReplicaState V) (before after : Done) (x : Progress) (a : Rule) (s m : StampedMessage) → StandsAt me old before x → next_rule me x.history ≡ Some a
+  pub rule_ends : {E : Type 0} (result : Result (Unit {0}) E) (old r new : ReplicaState V) (before after : StepOutput) (x : Progress) (a : Rule) (s m : StampedMessage) → StandsAt me old before x → next_rule me x.history ≡ Some a
       → signs me a x.history m → s ≡ m → AwaitsPublish me r m x.history → OnOk result (after.sent ≡ before.sent ++ as_outgoing (to_all (as_message s)) ∷ [])
-      → (after.executed ≡ before.executed) × (after.installed ≡ before.installed) → OnOk result (new.agreement.log ≡ appended s r.agreement.log)
-      → ((me : Identity V) (d : History) → IsHost me r → IsSound me d → Adds me d (Stamped s) → GatesStand me r.agreement.gates.items d → OnOk result (GatesStand me new.agreement.gates.items (Stamped s ∷ d)))
+      → (after.executed ≡ before.executed) × (after.installed ≡ before.installed) → OnOk result (new.protocol.log ≡ appended s r.protocol.log)
+      → ((me : Identity V) (d : History) → IsHost me r → IsSound me d → Adds me d (Stamped s) → GatesStand me r.protocol.gates.items d → OnOk result (GatesStand me new.protocol.gates.items (Stamped s ∷ d)))
       → OnOk result (WritesStamp r new) → OnOk result (StandsAt me new after (send (to_all (as_message m)) (write (Stamped m) x)))
   rule_ends result old r new before after x a s m st next is same waits sent kept log gates w =
       let may : MayStamp me m x.history = may_next me old x.history a (is_next me old before x a st next) m is in
@@ -384,6 +384,6 @@ module _ {V : Type 0} (me : Identity V) where
       subst (λ (y : StampedMessage). OnOk result (StandsAt me new after (send (to_all (as_message y)) (write (Stamped y) x)))) same ends
 
   -- What it compared is no table.
-  pub when_noted : {E : Type 0} (result : Result (Unit {0}) E) (r : ReplicaState V) (done : Done) (x : Progress) (l : List Bytes) → OnOk result (StandsAt me r done x) → OnOk result (StandsAt me r done (note l x))
+  pub when_noted : {E : Type 0} (result : Result (Unit {0}) E) (r : ReplicaState V) (done : StepOutput) (x : Progress) (l : List Bytes) → OnOk result (StandsAt me r done x) → OnOk result (StandsAt me r done (note l x))
   when_noted (Ok a) r done x l st = record { represents = st.represents; serving = st.serving; sent = st.sent; executed = st.executed; installed = st.installed }
   when_noted (Err e) r done x l st = tt

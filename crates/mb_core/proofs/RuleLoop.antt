@@ -13,7 +13,7 @@ use Rattle.mb_model.specs.Sending.{Progress}
 use Rattle.mb_model.specs.EnabledRules.{Rule, ChangeView, Announce, Enter, Open, Join, Commit, Execute, Prepare, next_rule}
 use Rattle.mb_model.specs.CarriedOut.{carry_out, if_enabled, run_rules, enough}
 use Rattle.mb_replica.specs.declared.state.ReplicaState.{ReplicaState}
-use Rattle.mb_replica.specs.declared.sending.Done.{Done}
+use Rattle.mb_replica.specs.declared.sending.StepOutput.{StepOutput}
 use Rattle.mb_core.specs.declared.rules.Due.{Due}
 use Rattle.mb_core.specs.declared.rules.Due.TheVariants as due
 use Rattle.mb_core.specs.Due.{Names, IsNamed}
@@ -66,25 +66,25 @@ module _ {V : Type 0} (me : Identity V) where
   no_more (suc n) x e = ap (λ r. if_enabled me r x (λ y. run_rules me n y)) e
 
   -- The replica stands where so many rules are left to be carried out.
-  pub record Running (r : ReplicaState V) (done : Done) (left : ℕ) (all : Progress) : Type 0 where
+  pub record Running (r : ReplicaState V) (done : StepOutput) (left : ℕ) (all : Progress) : Type 0 where
     pub at : Progress
     pub stands : StandsAt me r done at
     pub rest : run_rules me left at ≡ all
 
-  pub begins : (r : ReplicaState V) (done : Done) (x : Progress) (left : ℕ) → left ≡ 1000000 → StandsAt me r done x → Running r done left (run_rules me enough x)
+  pub begins : (r : ReplicaState V) (done : StepOutput) (x : Progress) (left : ℕ) → left ≡ 1000000 → StandsAt me r done x → Running r done left (run_rules me enough x)
   unfolding enough
   begins r done x left is st = record { at = x; stands = st; rest = ap (λ n. run_rules me n x) is }
 
-  pub ends : (r : ReplicaState V) (done : Done) (left : ℕ) (all : Progress) → left ≡ 0 → Running r done left all → StandsAt me r done all
+  pub ends : (r : ReplicaState V) (done : StepOutput) (left : ℕ) (all : Progress) → left ≡ 0 → Running r done left all → StandsAt me r done all
   unfolding run_rules
   ends r done left all is run = subst (λ (x : Progress). StandsAt me r done x) (ap (λ n. run_rules me n run.at) (sym is) ∙ run.rest) run.stands
 
   -- no rule is enabled
-  pub stops : (r : ReplicaState V) (done : Done) (left : ℕ) (all : Progress) → ((d : History) → Represents me r d → Names None (next_rule me d)) → Running r done left all → StandsAt me r done all
+  pub stops : (r : ReplicaState V) (done : StepOutput) (left : ℕ) (all : Progress) → ((d : History) → Represents me r d → Names None (next_rule me d)) → Running r done left all → StandsAt me r done all
   stops r done left all named run = subst (λ (x : Progress). StandsAt me r done x) (sym (no_more left run.at (named run.at.history run.stands.represents)) ∙ run.rest) run.stands
 
   -- One is enabled, and is carried out.
-  pub goes_on : (r new : ReplicaState V) (before after : Done) (due : Due) (left more : ℕ) (all : Progress) → left ≡ suc more
+  pub goes_on : (r new : ReplicaState V) (before after : StepOutput) (due : Due) (left more : ℕ) (all : Progress) → left ≡ suc more
       → ((d : History) → Represents me r d → Names (Some due) (next_rule me d))
       → ((x : Progress) (rule : Rule) → StandsAt me r before x → IsNamed due rule → next_rule me x.history ≡ Some rule → StandsAt me new after (carry_out me rule x))
       → Running r before left all → Running new after more all
@@ -98,10 +98,10 @@ module _ {V : Type 0} (me : Identity V) where
     }
 
 -- Behind so many rounds the replica stands where the rules that are left go on, whatever it stood for at first.
-abbrev pub Runs : {V : Type 0} → ServiceMachine V → ReplicaState V → Done → ReplicaState V → Done → ℕ → Type 0
+abbrev pub Runs : {V : Type 0} → ServiceMachine V → ReplicaState V → StepOutput → ReplicaState V → StepOutput → ℕ → Type 0
 Runs {V} machine r done now more left = (me : Identity V) (x : Progress) → Serves machine me → StandsAt me r done x → Running me now more left (run_rules me enough x)
 
 -- The rule is this one, so what carries out this one carries out the rule.
-pub carried_as : {V : Type 0} {T E : Type 0} (me : Identity V) (new : ReplicaState V) (more : Done) (x : Progress) (result : Result T E) (rule this : Rule) → rule ≡ this → next_rule me x.history ≡ Some rule
+pub carried_as : {V : Type 0} {T E : Type 0} (me : Identity V) (new : ReplicaState V) (more : StepOutput) (x : Progress) (result : Result T E) (rule this : Rule) → rule ≡ this → next_rule me x.history ≡ Some rule
     → (next_rule me x.history ≡ Some this → OnOk result (StandsAt me new more (carry_out me this x))) → OnOk result (StandsAt me new more (carry_out me rule x))
 carried_as me new more x result rule this is next f = subst (λ (r : Rule). OnOk result (StandsAt me new more (carry_out me r x))) (sym is) (f (next ∙ ap (λ (r : Rule). Some r) is))

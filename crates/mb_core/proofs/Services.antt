@@ -7,7 +7,7 @@ use Rattle.mb_service.specs.Parts.{IsShort, AreParts, parts_of}
 use Rattle.mb_model.specs.Service.{Machine}
 use Rattle.mb_model.specs.States.{Snapshots}
 use Rattle.mb_model.specs.Histories.{Identity}
-use Rattle.mb_fitting.specs.Fitting.{KeepsStates}
+use Rattle.mb_encodable.specs.Fitting.{KeepsStates}
 use Rattle.mb_replica.specs.Represents.{Serves}
 
 module _ {V : Type 0} (machine : ServiceMachine V) where

@@ -17,24 +17,24 @@ use Rattle.mb_model.specs.Sending.{Progress, write, send, to_client}
 use Rattle.mb_model.specs.Given.{stored_reply}
 use Rattle.mb_model.specs.CarriedOut.{placed_in, with_reply, serve, serve_all}
 use Rattle.mb_steps.specs.Arises.{Adds}
-use Rattle.mb_searches.proofs.Framing.{low_stays}
-use Rattle.mb_searches.proofs.Executing.{served_more, state_served}
-use Rattle.mb_searches.specs.Sound.{IsServing}
-use Rattle.mb_searches.proofs.SoundRules.{serving_goes_on}
-use Rattle.mb_fitting.specs.Fitting.{AreFit}
-use Rattle.mb_fitting.proofs.Fit.{served_fit}
+use Rattle.mb_history_laws.proofs.Framing.{low_stays}
+use Rattle.mb_history_laws.proofs.Executing.{served_more, state_served}
+use Rattle.mb_history_laws.specs.Sound.{IsServing}
+use Rattle.mb_history_laws.proofs.SoundRules.{serving_goes_on}
+use Rattle.mb_encodable.specs.Fitting.{AreFit}
+use Rattle.mb_encodable.proofs.Fit.{served_fit}
 use Rattle.mb_cache.specs.Represents.{StandsServed}
 use Rattle.mb_cache.proofs.Clients.{last_written}
 use Rattle.mb_normal.specs.Tables.{Becomes}
 use Rattle.mb_normal.specs.Searches.{with_settled}
-use Rattle.mb_standing.specs.Tables.{Tables}
-use Rattle.mb_standing.proofs.Values.{clients_kept}
-use Rattle.mb_standing.proofs.Positions.{request_served}
-use Rattle.mb_standing.proofs.Snapshots.{shelf_stays}
-use Rattle.mb_standing.proofs.FetchedParts.{held_stays}
-use Rattle.mb_standing.proofs.Together.{EachStands, stand_lags, stays, stands_behind}
+use Rattle.mb_refinement.specs.Tables.{Tables}
+use Rattle.mb_refinement.proofs.Values.{clients_kept}
+use Rattle.mb_refinement.proofs.Positions.{request_served}
+use Rattle.mb_refinement.proofs.Snapshots.{shelf_stays}
+use Rattle.mb_refinement.proofs.FetchedParts.{held_stays}
+use Rattle.mb_refinement.proofs.Together.{EachStands, stand_lags, stays, stands_behind}
 use Rattle.mb_replica.specs.declared.state.ReplicaState.{ReplicaState}
-use Rattle.mb_replica.specs.declared.sending.Done.{Done}
+use Rattle.mb_replica.specs.declared.sending.StepOutput.{StepOutput}
 use Rattle.mb_replica.specs.Represents.{tables_of, Represents, StandsServing}
 use Rattle.mb_replica.specs.Between.{IsSame}
 use Rattle.mb_core.specs.Serving.{ServesOn}
@@ -59,7 +59,7 @@ module _ {V : Type 0} (me : Identity V) where
     | inr old ↦ rw old refl
   ]
 
-  replied_on : (new : ReplicaState V) (done before : Done) (pos : ℕ) (p : Placed) (more : List Request) (served : List Placed) (x : Progress)
+  replied_on : (new : ReplicaState V) (done before : StepOutput) (pos : ℕ) (p : Placed) (more : List Request) (served : List Placed) (x : Progress)
       → ServesOn me new before pos more served x → StandsServing me new done served (with_reply me p x) → ServesOn me new done pos more served (with_reply me p x)
   replied_on new done before pos p more served x s stands = record {
     stands = stands;
@@ -72,9 +72,9 @@ module _ {V : Type 0} (me : Identity V) where
   -- the service with its table, and the pending requests
   pub record WritesServed (old new : ReplicaState V) : Type 0 where
     pub same : IsSame old new
-    pub tables : tables_of new ≡ record (tables_of old) { normal = new.agreement.normal; service = new.keeper.served }
+    pub tables : tables_of new ≡ record (tables_of old) { normal = new.protocol.normal; service = new.keeper.served }
 
-  module _ (old : ReplicaState V) (done : Done) (pos : ℕ) (r : Request) (more : List Request) (before : List Placed) (x : Progress) (s : ServesOn me old done pos (r ∷ more) before x) where
+  module _ (old : ReplicaState V) (done : StepOutput) (pos : ℕ) (r : Request) (more : List Request) (before : List Placed) (x : Progress) (s : ServesOn me old done pos (r ∷ more) before x) where
     d : History
     d = x.history
 
@@ -96,7 +96,7 @@ module _ {V : Type 0} (me : Identity V) where
     request_here : FitsRequest me.shape r
     request_here = fits_on.values.0.1
 
-    pub client_known : r.client < client_count old.agreement.shape
+    pub client_known : r.client < client_count old.protocol.shape
     client_known = subst (λ (z : Shape). r.client < client_count z) rep.who.shape request_here.client
 
     fresh_is : (fresh : Bool) → fresh ≡ is_fresh old.keeper.served r → fresh ≡ is_fresh (state_of me x.history) r
@@ -104,18 +104,18 @@ module _ {V : Type 0} (me : Identity V) where
 
     -- What it leaves for the next.
     served_on : (new : ReplicaState V) (m : Machine V) → me.machine ≡ m → WritesServed old new → StandsServed m old.keeper.served pos r new.keeper.served
-        → Becomes old.agreement.normal new.agreement.normal (λ y. with_settled y r.client r.seq) → ServesOn me new done pos more (before ++ placed_in me x.history r ∷ []) (write served_now x)
+        → Becomes old.protocol.normal new.protocol.normal (λ y. with_settled y r.client r.seq) → ServesOn me new done pos more (before ++ placed_in me x.history r ∷ []) (write served_now x)
     served_on new m machine writes serves settles =
         let t : Tables V = tables_of old in
         let placed : Placed = placed_in me x.history r in
         let adds : Adds me x.history served_now = goes_on.sound.arises.0 in
         let left = stays me (low_of me x.history) t served_now x.history (stand_lags me t x.history rep.tables) adds in
         let low = low_stays me served_now x.history refl in
-        let each : EachStands me (record t { normal = new.agreement.normal; service = new.keeper.served }) (served_now ∷ x.history) = record {
+        let each : EachStands me (record t { normal = new.protocol.normal; service = new.keeper.served }) (served_now ∷ x.history) = record {
           counter = left.counter refl;
           gates = left.gates (λ h. refl);
           log = left.log refl;
-          normal = request_served me pos placed x.history t.normal new.agreement.normal goes_on.sound.arises settles rep.tables.normal;
+          normal = request_served me pos placed x.history t.normal new.protocol.normal goes_on.sound.arises settles rep.tables.normal;
           change = left.change refl;
           stable = left.stable refl;
           exec = left.exec refl;
@@ -152,8 +152,8 @@ module _ {V : Type 0} (me : Identity V) where
         subst (λ (a : LastReply). 1 ≤ a.seq) (sym now) some
 
     -- Its reply is sent where it is fresh.
-    pub replied : (new : ReplicaState V) (behind : Done) (m : Machine V) (fresh : Bool) → me.machine ≡ m → WritesServed old new → StandsServed m old.keeper.served pos r new.keeper.served
-        → Becomes old.agreement.normal new.agreement.normal (λ y. with_settled y r.client r.seq) → fresh ≡ is_fresh old.keeper.served r
+    pub replied : (new : ReplicaState V) (behind : StepOutput) (m : Machine V) (fresh : Bool) → me.machine ≡ m → WritesServed old new → StandsServed m old.keeper.served pos r new.keeper.served
+        → Becomes old.protocol.normal new.protocol.normal (λ y. with_settled y r.client r.seq) → fresh ≡ is_fresh old.keeper.served r
         → ((y : Progress) (p : Placed) (l : List Placed) → StandsServing me new done l y → p.request.client ≡ r.client → p.fresh ≡ fresh → (fresh ≡ true → 1 ≤ last_seq me y.history r.client) → StandsServing me new behind l (with_reply me p y))
         → ServesOn me new behind pos more (before ++ record { request = r; fresh = fresh } ∷ []) (serve me pos r x)
     replied new behind m fresh machine writes serves settles is sends =
@@ -183,21 +183,21 @@ module _ {V : Type 0} (me : Identity V) where
   serve_none pos x = refl
 
   -- Where these are left, the rest of the batch comes to the same as the whole from its start.
-  pub record Leads (r : ReplicaState V) (done : Done) (pos : ℕ) (rest : List Request) (served : List Placed) (all : Progress) : Type 0 where
+  pub record Leads (r : ReplicaState V) (done : StepOutput) (pos : ℕ) (rest : List Request) (served : List Placed) (all : Progress) : Type 0 where
     pub now : Progress
     pub stands : ServesOn me r done pos rest served now
     pub same : serve_all me pos rest now ≡ all
 
-  pub leads_from : (r : ReplicaState V) (done : Done) (pos : ℕ) (all rest : List Request) (served : List Placed) (x : Progress) → rest ≡ all → served ≡ [] → ServesOn me r done pos all [] x → Leads r done pos rest served (serve_all me pos all x)
+  pub leads_from : (r : ReplicaState V) (done : StepOutput) (pos : ℕ) (all rest : List Request) (served : List Placed) (x : Progress) → rest ≡ all → served ≡ [] → ServesOn me r done pos all [] x → Leads r done pos rest served (serve_all me pos all x)
   leads_from r done pos all rest served x same none s = record {
     now = x;
     stands = subst (λ (rs : List Request). ServesOn me r done pos rs served x) (sym same) (subst (λ (l : List Placed). ServesOn me r done pos all l x) (sym none) s);
     same = ap (λ (rs : List Request). serve_all me pos rs x) same;
   }
 
-  pub leads_on : (old new : ReplicaState V) (before behind : Done) (pos : ℕ) (r : Request) (rest : List Request) (served more : List Placed) (all : Progress) (l : Leads old before pos (r ∷ rest) served all)
+  pub leads_on : (old new : ReplicaState V) (before behind : StepOutput) (pos : ℕ) (r : Request) (rest : List Request) (served more : List Placed) (all : Progress) (l : Leads old before pos (r ∷ rest) served all)
       → ServesOn me new behind pos rest more (serve me pos r l.now) → Leads new behind pos rest more all
   leads_on old new before behind pos r rest served more all l stands = record { now = serve me pos r l.now; stands = stands; same = serve_next pos r rest l.now ∙ l.same }
 
-  pub leads_to : (r : ReplicaState V) (done : Done) (pos : ℕ) (served : List Placed) (all : Progress) → Leads r done pos [] served all → ServesOn me r done pos [] served all
+  pub leads_to : (r : ReplicaState V) (done : StepOutput) (pos : ℕ) (served : List Placed) (all : Progress) → Leads r done pos [] served all → ServesOn me r done pos [] served all
   leads_to r done pos served all l = subst (ServesOn me r done pos [] served) (serve_none pos l.now ∙ l.same) l.stands

@@ -11,7 +11,7 @@ use Rattle.mb_normal.specs.Searches.{searches_in}
 use Rattle.mb_normal.specs.Tables.{Represents as NormalRepresents}
 use Rattle.mb_change.specs.Searches.{with_change}
 use Rattle.mb_change.specs.Represents.{StandsWith}
-use Rattle.mb_standing.specs.Positions.{carrying, open_slots, up_to}
+use Rattle.mb_refinement.specs.Positions.{carrying, open_slots, up_to}
 use Rattle.mb_replica.specs.declared.state.ReplicaState.{ReplicaState}
 use Rattle.mb_replica.specs.Represents.{IsHost}
 
@@ -23,19 +23,19 @@ pub record Shows (m : Open) (e : Evidence) (plan : Plan) : Type 0 where
 module _ {V : Type 0} where
   -- The own VIEW_CHANGE is stored where it is usable.
   abbrev pub StoresOwn : Identity V → ViewChange → ReplicaState V → ReplicaState V → Type 0
-  StoresOwn me m old new = StandsWith old.agreement.change (λ s. if is_none (change_fault me m) then with_change m s else s) new.agreement.change
+  StoresOwn me m old new = StandsWith old.protocol.change (λ s. if is_none (change_fault me m) then with_change m s else s) new.protocol.change
 
   -- A host whose view is that of the evidence holds the plan that its OPEN shows.
   pub record Opens (me : Identity V) (d : History) (m : Open) (view : ℕ) (e : Evidence) (r : ReplicaState V) : Type 0 where
     pub plan : Plan
     pub who : IsHost me r
-    pub held : plan_of_view view r.agreement.change.plan ≡ Some plan
+    pub held : plan_of_view view r.protocol.change.plan ≡ Some plan
     pub shows : Shows m e plan
     pub view_is : e.view ≡ view_of me d
 
   -- The slots and own votes of the positions up to one were carried on.
   abbrev pub StandsCarrying : Identity V → History → Open → ℕ → ReplicaState V → Type 0
-  StandsCarrying me d m last r = NormalRepresents me.shape me.host r.agreement.normal (carrying me.host (searches_in me d) (open_slots me m d) (up_to last))
+  StandsCarrying me d m last r = NormalRepresents me.shape me.host r.protocol.normal (carrying me.host (searches_in me d) (open_slots me m d) (up_to last))
 
   -- Those of one position more were, that of the batch with this index.
   abbrev pub CarriesMore : ℕ → Evidence → ℕ → ReplicaState V → ReplicaState V → Type 0
@@ -43,5 +43,5 @@ module _ {V : Type 0} where
 
   -- Those of all positions were, of none before.
   abbrev pub CarriesOn : ℕ → Evidence → ReplicaState V → ReplicaState V → Type 0
-  CarriesOn view e old new = (me : Identity V) (d : History) (m : Open) → Opens me d m view e old → NormalRepresents me.shape me.host old.agreement.normal (searches_in me d)
-      → NormalRepresents me.shape me.host new.agreement.normal (carrying me.host (searches_in me d) (open_slots me m d) (λ p. true))
+  CarriesOn view e old new = (me : Identity V) (d : History) (m : Open) → Opens me d m view e old → NormalRepresents me.shape me.host old.protocol.normal (searches_in me d)
+      → NormalRepresents me.shape me.host new.protocol.normal (carrying me.host (searches_in me d) (open_slots me m d) (λ p. true))

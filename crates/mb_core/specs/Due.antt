@@ -6,7 +6,7 @@ use Rattle.mb_model.specs.Histories.{History, Identity}
 use Rattle.mb_model.specs.Sending.{Progress}
 use Rattle.mb_model.specs.EnabledRules.{Rule, ChangeView, Announce, Enter, Open, Join, Commit, Execute, Prepare, change_enabled, announce_enabled, enter_enabled, open_enabled, join_enabled, commit_enabled, execute_enabled, prepare_enabled, next_rule}
 use Rattle.mb_replica.specs.declared.state.ReplicaState.{ReplicaState}
-use Rattle.mb_replica.specs.declared.sending.Done.{Done}
+use Rattle.mb_replica.specs.declared.sending.StepOutput.{StepOutput}
 use Rattle.mb_core.specs.declared.rules.Due.{Due}
 use Rattle.mb_core.specs.declared.rules.Due.TheVariants as due
 use Rattle.mb_replica.specs.Represents.{Serves, StandsAt}
@@ -39,7 +39,7 @@ module _ {S : Type 0} (self : Identity S) where
   normal_rule d = option_or (commit_enabled self d) (option_or (execute_enabled self d) (prepare_enabled self d))
 
 -- There is a step that the replica is in, of a host with this service, in which the rule of this name is next.
-pub record IsDue {V : Type 0} (machine : ServiceMachine V) (r : ReplicaState V) (done : Done) (due : Due) : Type 0 where
+pub record IsDue {V : Type 0} (machine : ServiceMachine V) (r : ReplicaState V) (done : StepOutput) (due : Due) : Type 0 where
   pub me : Identity V
   pub left : Progress
   pub rule : Rule

@@ -8,21 +8,21 @@ use Rattle.mb_msg.specs.declared.event.Placed.{Placed}
 use Rattle.mb_model.specs.Histories.{Identity}
 use Rattle.mb_model.specs.Sending.{Progress}
 use Rattle.mb_steps.specs.Arises.{JustExecuted}
-use Rattle.mb_searches.specs.Sound.{IsServing}
+use Rattle.mb_history_laws.specs.Sound.{IsServing}
 use Rattle.mb_fetch.specs.Snapshots.{Snapshot, StandsWith}
 use Rattle.mb_replica.specs.declared.state.ReplicaState.{ReplicaState}
-use Rattle.mb_replica.specs.declared.sending.Done.{Done}
+use Rattle.mb_replica.specs.declared.sending.StepOutput.{StepOutput}
 use Rattle.mb_replica.specs.Represents.{tables_of, Serves, StandsServing, StandsAt}
 use Rattle.mb_replica.specs.Between.{IsSame}
 
 module _ {V : Type 0} where
   -- Of the batch at a position these requests are served, and these are left.
-  pub record ServesOn (me : Identity V) (r : ReplicaState V) (done : Done) (pos : ℕ) (more : List Request) (served : List Placed) (x : Progress) : Type 0 where
+  pub record ServesOn (me : Identity V) (r : ReplicaState V) (done : StepOutput) (pos : ℕ) (more : List Request) (served : List Placed) (x : Progress) : Type 0 where
     pub stands : StandsServing me r done served x
     pub batch : Batch
     pub serving : IsServing me pos batch more x.history
 
-  module _ (machine : ServiceMachine V) (r : ReplicaState V) (done : Done) (pos : ℕ) where
+  module _ (machine : ServiceMachine V) (r : ReplicaState V) (done : StepOutput) (pos : ℕ) where
     -- There is a step so, of a host with this service.
     pub record IsInBatch (more : List Request) (served : List Placed) : Type 0 where
       pub me : Identity V

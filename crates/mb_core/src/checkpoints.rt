@@ -12,7 +12,7 @@ ghost use Rattle.mb_core.specs.Steps.{Certifies};
 use crate::stamping::{NO_UI, publish, sign};
 use mb_base::{Digest, Duplicate, Host, Items, NoMemory, Pos};
 use mb_msg::{Body, Checkpoint, Floor, Floors, Stamped};
-use mb_replica::{Done, ReplicaState};
+use mb_replica::{ReplicaState, StepOutput};
 use mb_service::Service;
 use std::alloc::Global;
 
@@ -22,7 +22,7 @@ pub(crate) fn checkpoint<V: Service + Drop>(
     alloc: Global,
     pos: Pos,
     state: Digest,
-    done: &mut Done,
+    done: &mut StepOutput,
 ) -> Result<(), NoMemory>
     requires { BringsCheckpoint replica.old done.old pos state }
     ensures { (me : Identity V) (x : Progress) → Certifies me x pos state result replica.old done.old replica.new done.new }
@@ -54,7 +54,7 @@ fn floors_under<V: Service + Drop>(
     ensures { (me : Identity V) (d : History) → Represents me replica.now d → IfOk result (λ o. o ≡ floors_under me d pos) }
 {
     let mut floors = Items::new(alloc);
-    for host in 0..replica.agreement.shape.n() {
+    for host in 0..replica.protocol.shape.n() {
         floors.push(floor_under(replica, host, pos))?;
     }
     Ok(floors)
@@ -62,10 +62,10 @@ fn floors_under<V: Service + Drop>(
 
 /// That of a host, where all that it voted for or joined at lies at or below the position.
 fn floor_under<V: Service + Drop>(replica: &ReplicaState<V>, host: Host, pos: Pos) -> Option<Floor>
-    requires { host < host_count replica.now.agreement.shape }
+    requires { host < host_count replica.now.protocol.shape }
     ensures { (me : Identity V) (d : History) → Represents me replica.now d → result ≡ if_covered pos (floor_below d host pos) }
 {
-    match replica.agreement.gates[usize::from(host)].floor(pos) {
+    match replica.protocol.gates[usize::from(host)].floor(pos) {
         Some(floor) if floor.top <= pos => Some(floor),
         _ => None,
     }

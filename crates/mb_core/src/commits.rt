@@ -13,7 +13,7 @@ ghost use Rattle.mb_core.specs.Steps.{CarriesOut};
 use crate::stamping::{NO_UI, publish, sign};
 use mb_base::{Duplicate, NoMemory, Pos};
 use mb_msg::{Body, Commit, Stamped};
-use mb_replica::{Done, ReplicaState};
+use mb_replica::{ReplicaState, StepOutput};
 use mb_service::Service;
 use std::alloc::Global;
 
@@ -22,17 +22,17 @@ pub(crate) fn commit<V: Service + Drop>(
     replica: &mut ReplicaState<V>,
     alloc: Global,
     pos: Pos,
-    done: &mut Done,
+    done: &mut StepOutput,
 ) -> Result<(), NoMemory>
     requires { IsDue V.machine replica.old done.old (due.Commit pos) }
     ensures { (me : Identity V) (x : Progress) (k : KnownSlot) (b : BatchValue) → CarriesOut me x (rules.Commit pos k b) result replica.old done.old replica.new done.new }
 {
-    let Some(order) = replica.agreement.normal.cert_at(pos) else {
+    let Some(order) = replica.protocol.normal.cert_at(pos) else {
         return Ok(());
     };
     let counter = order.0;
     let cert = order.1;
-    let Some(batch) = replica.agreement.normal.batch_at(pos) else {
+    let Some(batch) = replica.protocol.normal.batch_at(pos) else {
         return Ok(());
     };
     let copy = batch.duplicate(alloc)?;
@@ -45,6 +45,6 @@ pub(crate) fn commit<V: Service + Drop>(
         ui: NO_UI,
     };
     let signed = sign(replica, alloc, Stamped::Commit(commit))?;
-    replica.count_vote(pos, replica.agreement.host, counter, signed.body);
+    replica.count_vote(pos, replica.protocol.host, counter, signed.body);
     publish(replica, alloc, signed.message, signed.body, done)
 }

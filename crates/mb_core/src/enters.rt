@@ -16,7 +16,7 @@ ghost use Rattle.mb_core.specs.Due.{IsDue};
 use crate::stamping::{NO_UI, publish, sign};
 use mb_base::NoMemory;
 use mb_msg::{Enter, Stamped};
-use mb_replica::{Done, ReplicaState};
+use mb_replica::{ReplicaState, StepOutput};
 use mb_service::Service;
 use std::alloc::Global;
 
@@ -24,12 +24,12 @@ use std::alloc::Global;
 pub(crate) fn enter<V: Service + Drop>(
     replica: &mut ReplicaState<V>,
     alloc: Global,
-    done: &mut Done,
+    done: &mut StepOutput,
 ) -> Result<(), NoMemory>
     requires { IsDue V.machine replica.old done.old due.Enter }
     ensures { (me : Identity V) (x : Progress) (n : NewViewValue) → CarriesOut me x (rules.Enter n) result replica.old done.old replica.new done.new }
 {
-    let Some(new_view) = replica.agreement.change.new_view() else {
+    let Some(new_view) = replica.protocol.change.new_view() else {
         return Ok(());
     };
     let enter = Enter {
@@ -51,9 +51,9 @@ pub(crate) fn enter<V: Service + Drop>(
 
 /// The own ENTER is kept as another's.
 fn hold_enter<V: Service + Drop>(replica: &mut ReplicaState<V>, m: Enter)
-    requires { m.ui.host < host_count replica.old.agreement.shape }
+    requires { m.ui.host < host_count replica.old.protocol.shape }
     ensures writes { WritesChange replica.old replica.new }
-    ensures holds { StandsWith replica.old.agreement.change (with_enter m) replica.new.agreement.change }
+    ensures holds { StandsWith replica.old.protocol.change (with_enter m) replica.new.protocol.change }
 {
-    replica.agreement.change.enter(m);
+    replica.protocol.change.enter(m);
 }

@@ -18,7 +18,7 @@ use crate::patience::on_patience;
 use crate::rules::run_rules;
 use mb_base::{Digest, NoMemory, Pos};
 use mb_msg::{Event, Message, Outcome, Undecoded, decode};
-use mb_replica::{Answer, Done, ReplicaState};
+use mb_replica::{Reaction, ReplicaState, StepOutput};
 use mb_service::Service;
 use std::alloc::Global;
 
@@ -27,10 +27,10 @@ pub(crate) fn on_event<V: Service + Drop>(
     alloc: Global,
     event: &Event,
     known: &Option<Digest>,
-    done: &mut Done,
+    done: &mut StepOutput,
 ) -> Result<Outcome, NoMemory>
     requires stepping { IsInStep V.machine replica.old done.old }
-    requires known { KnowsEvent replica.old.agreement.shape known.now event.now }
+    requires known { KnowsEvent replica.old.protocol.shape known.now event.now }
     ensures { AnswersEvent (Serves V.machine) (λ me d. transition me d event.now) result replica.old done.old replica.new done.new }
 {
     match event {
@@ -47,13 +47,13 @@ fn on_bytes<V: Service + Drop>(
     alloc: Global,
     bytes: &[u8],
     known: &Option<Digest>,
-    done: &mut Done,
+    done: &mut StepOutput,
 ) -> Result<Outcome, NoMemory>
     requires stepping { IsInStep V.machine replica.old done.old }
-    requires known { KnowsBytes replica.old.agreement.shape known.now bytes.now }
-    ensures { AnswersEvent (Serves V.machine) (λ me d. on_bytes me (message_of replica.old.agreement.shape bytes.now) d) result replica.old done.old replica.new done.new }
+    requires known { KnowsBytes replica.old.protocol.shape known.now bytes.now }
+    ensures { AnswersEvent (Serves V.machine) (λ me d. on_bytes me (message_of replica.old.protocol.shape bytes.now) d) result replica.old done.old replica.new done.new }
 {
-    match decode(alloc, &replica.agreement.shape, bytes) {
+    match decode(alloc, &replica.protocol.shape, bytes) {
         Ok(message) => on_message(replica, alloc, message, known, done),
         Err(Undecoded::Malformed { at }) => Ok(Outcome::Malformed { at }),
         Err(Undecoded::NoMemory) => Err(NoMemory),
@@ -65,9 +65,9 @@ fn on_message<V: Service + Drop>(
     alloc: Global,
     message: Message,
     known: &Option<Digest>,
-    done: &mut Done,
+    done: &mut StepOutput,
 ) -> Result<Outcome, NoMemory>
-    requires fits { Fits replica.old.agreement.shape message }
+    requires fits { Fits replica.old.protocol.shape message }
     requires known { KnowsMessage known.now message }
     requires stepping { IsInStep V.machine replica.old done.old }
     ensures { AnswersEvent (Serves V.machine) (λ me d. on_message me d message) result replica.old done.old replica.new done.new }
@@ -81,21 +81,21 @@ fn on_message<V: Service + Drop>(
 fn after_patience<V: Service + Drop>(
     replica: &mut ReplicaState<V>,
     alloc: Global,
-    done: &mut Done,
+    done: &mut StepOutput,
 ) -> Result<Outcome, NoMemory>
     requires { IsInStep V.machine replica.old done.old }
     ensures { AnswersEvent (Serves V.machine) (λ me d. after_patience me d (on_patience me (begin d))) result replica.old done.old replica.new done.new }
 {
     let before = replica.low();
     let outcome = on_patience(replica, alloc, done)?;
-    finished_where(replica, alloc, Answer::of(outcome), before, done)?;
+    finished_where(replica, alloc, Reaction::of(outcome), before, done)?;
     Ok(outcome)
 }
 
 fn after_nudge<V: Service + Drop>(
     replica: &mut ReplicaState<V>,
     alloc: Global,
-    done: &mut Done,
+    done: &mut StepOutput,
 ) -> Result<Outcome, NoMemory>
     requires { IsInStep V.machine replica.old done.old }
     ensures { AnswersEvent (Serves V.machine) (λ me d. finished me true d (on_nudge me (begin d))) result replica.old done.old replica.new done.new }
@@ -111,9 +111,9 @@ fn after_nudge<V: Service + Drop>(
 fn finished_where<V: Service + Drop>(
     replica: &mut ReplicaState<V>,
     alloc: Global,
-    answer: Answer,
+    answer: Reaction,
     before: Pos,
-    done: &mut Done,
+    done: &mut StepOutput,
 ) -> Result<(), NoMemory>
     requires { IsInStep V.machine replica.old done.old }
     ensures { Finishes (Serves V.machine) before (λ me d a. finished_where me answer.rules_follow answer.asks d a) result replica.old done.old replica.new done.new }
@@ -130,7 +130,7 @@ fn finished<V: Service + Drop>(
     alloc: Global,
     asks: bool,
     before: Pos,
-    done: &mut Done,
+    done: &mut StepOutput,
 ) -> Result<(), NoMemory>
     requires { IsInStep V.machine replica.old done.old }
     ensures { Finishes (Serves V.machine) before (λ me d a. finished me asks d a) result replica.old done.old replica.new done.new }
@@ -145,7 +145,7 @@ fn with_fetch<V: Service + Drop>(
     alloc: Global,
     asks: bool,
     before: Pos,
-    done: &mut Done,
+    done: &mut StepOutput,
 ) -> Result<(), NoMemory>
     requires { IsInStep V.machine replica.now done.old }
     ensures { (me : Identity V) (d : History) (x : Progress) → StandsAt me replica.now done.old x → before ≡ low_of me d → OnOk result (StandsAt me replica.now done.new (with_fetch me asks d x)) }

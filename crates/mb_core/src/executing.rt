@@ -26,7 +26,7 @@ use crate::checkpoints::checkpoint;
 use crate::stamping::has_room;
 use mb_base::{Client, Duplicate, Items, NoMemory, Pos};
 use mb_msg::{Batch, Placed, Request, Slot};
-use mb_replica::{Done, ReplicaState};
+use mb_replica::{ReplicaState, StepOutput};
 use mb_service::Service;
 use std::alloc::Global;
 
@@ -35,7 +35,7 @@ pub(crate) fn execute<V: Service + Drop>(
     replica: &mut ReplicaState<V>,
     alloc: Global,
     pos: Pos,
-    done: &mut Done,
+    done: &mut StepOutput,
 ) -> Result<(), NoMemory>
     requires { IsDue V.machine replica.old done.old (due.Execute pos) }
     ensures { (me : Identity V) (x : Progress) (b : BatchValue) → Serves V.machine me → CarriesOut me x (Execute pos b) result replica.old done.old replica.new done.new }
@@ -56,7 +56,7 @@ fn serve_all<V: Service + Drop>(
     alloc: Global,
     pos: Pos,
     batch: Batch,
-    done: &mut Done,
+    done: &mut StepOutput,
 ) -> Result<Items<Placed>, NoMemory>
     requires { IsInBatch V.machine replica.old done.old pos batch.requests [] }
     ensures { (me : Identity V) (x : Progress) → Serves V.machine me → ServesAll me x pos batch.requests result replica.old done.old replica.new done.new }
@@ -75,13 +75,13 @@ fn serve<V: Service + Drop>(
     alloc: Global,
     pos: Pos,
     request: &Request,
-    done: &mut Done,
+    done: &mut StepOutput,
 ) -> Result<bool, NoMemory>
     requires { (more : List RequestValue) × ((served : List PlacedValue) × IsInBatch V.machine replica.old done.old pos (request.now ∷ more) served) }
     ensures { (me : Identity V) (x : Progress) → ServesOne V.machine me x pos request.now result replica.old done.old replica.new done.new }
 {
     let fresh = replica.keeper.execute(alloc, pos, request)?;
-    replica.agreement.normal.settle(request.client, request.seq);
+    replica.protocol.normal.settle(request.client, request.seq);
     with_reply(replica, alloc, fresh, request.client, done)?;
     Ok(fresh)
 }
@@ -92,10 +92,10 @@ fn with_reply<V: Service + Drop>(
     alloc: Global,
     fresh: bool,
     client: Client,
-    done: &mut Done,
+    done: &mut StepOutput,
 ) -> Result<(), NoMemory>
-    requires client { client < client_count replica.now.agreement.shape }
-    requires clients { length replica.now.keeper.served.table ≡ client_count replica.now.agreement.shape }
+    requires client { client < client_count replica.now.protocol.shape }
+    requires clients { length replica.now.keeper.served.table ≡ client_count replica.now.protocol.shape }
     ensures { (me : Identity V) (x : Progress) (p : PlacedValue) → RepliesTo me x p client fresh result replica.now done.old done.new }
 {
     if fresh {
@@ -112,13 +112,13 @@ fn close_slot<V: Service + Drop>(
     alloc: Global,
     pos: Pos,
     requests: Items<Placed>,
-    done: &mut Done,
+    done: &mut StepOutput,
 ) -> Result<(), NoMemory>
     requires { IsInBatch V.machine replica.old done.old pos [] requests }
     ensures { (me : Identity V) (x : Progress) → Serves V.machine me → ServesOn me replica.old done.old pos [] requests x → OnOk result (StandsAt me replica.new done.new (close_slot me pos x)) }
 {
     keep_at_interval(replica, alloc, pos)?;
-    replica.agreement.exec = pos;
+    replica.protocol.exec = pos;
     done.executed.push(Slot { pos, requests })?;
     Ok(())
 }
@@ -145,7 +145,7 @@ fn at_interval<V: Service + Drop>(
     replica: &mut ReplicaState<V>,
     alloc: Global,
     pos: Pos,
-    done: &mut Done,
+    done: &mut StepOutput,
 ) -> Result<(), NoMemory>
     requires { IsBehindBatch V.machine replica.old done.old pos }
     ensures { StepsWhere (Serves V.machine) (λ me x. JustExecuted me x.history pos) (λ me x. at_interval me pos x) result replica.old done.old replica.new done.new }
@@ -161,9 +161,9 @@ fn with_checkpoint<V: Service + Drop>(
     replica: &mut ReplicaState<V>,
     alloc: Global,
     pos: Pos,
-    done: &mut Done,
+    done: &mut StepOutput,
 ) -> Result<(), NoMemory>
-    requires interval { (pos % interval replica.old.agreement.shape == 0) ≡ true }
+    requires interval { (pos % interval replica.old.protocol.shape == 0) ≡ true }
     requires standing { IsBehindBatch V.machine replica.old done.old pos }
     ensures { StepsWhere (Serves V.machine) (λ me x. JustExecuted me x.history pos) (λ me x. with_checkpoint me pos x) result replica.old done.old replica.new done.new }
 {
@@ -182,7 +182,7 @@ fn batch_at<V: Service + Drop>(
 ) -> Result<Option<Batch>, NoMemory>
     ensures { (me : Identity V) (d : History) → Represents me replica.now d → IfOk result (λ b. b ≡ batch_of (slot_at me d pos)) }
 {
-    match replica.agreement.normal.batch_at(pos) {
+    match replica.protocol.normal.batch_at(pos) {
         Some(batch) => Ok(Some(batch.duplicate(alloc)?)),
         None => Ok(None),
     }

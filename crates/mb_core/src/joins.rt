@@ -13,7 +13,7 @@ ghost use Rattle.mb_model.specs.Making.{join_evidence};
 use crate::stamping::{NO_UI, publish, sign};
 use mb_base::{Duplicate, NoMemory};
 use mb_msg::{Evidence, Join, Stamped};
-use mb_replica::{Done, ReplicaState};
+use mb_replica::{ReplicaState, StepOutput};
 use mb_service::Service;
 use std::alloc::Global;
 
@@ -21,13 +21,13 @@ use std::alloc::Global;
 pub(crate) fn join<V: Service + Drop>(
     replica: &mut ReplicaState<V>,
     alloc: Global,
-    done: &mut Done,
+    done: &mut StepOutput,
 ) -> Result<(), NoMemory>
     requires { IsDue V.machine replica.old done.old due.Join }
     ensures { (me : Identity V) (x : Progress) → CarriesOut me x rules.Join result replica.old done.old replica.new done.new }
 {
     let evidence = join_evidence(replica, alloc)?;
-    let stable = replica.agreement.stable.duplicate(alloc)?;
+    let stable = replica.protocol.stable.duplicate(alloc)?;
     let join = Join {
         view: replica.view(),
         evidence,

@@ -23,7 +23,7 @@ ghost use Rattle.mb_msg.specs.declared.message.Message.TheVariants as message;
 use crate::stamping::{NO_UI, publish, sign};
 use mb_base::{Digest, Duplicate, Items, NoMemory};
 use mb_msg::{Body, NewView, NewViewBody, Plan, Stamped, ViewChange};
-use mb_replica::{Done, ReplicaState};
+use mb_replica::{ReplicaState, StepOutput};
 use mb_service::Service;
 use std::alloc::Global;
 
@@ -31,13 +31,13 @@ use std::alloc::Global;
 pub(crate) fn announce<V: Service + Drop>(
     replica: &mut ReplicaState<V>,
     alloc: Global,
-    done: &mut Done,
+    done: &mut StepOutput,
 ) -> Result<(), NoMemory>
     requires { IsDue V.machine replica.old done.old due.Announce }
     ensures { (me : Identity V) (x : Progress) (changes : List ViewChangeValue) → CarriesOut me x (rules.Announce changes) result replica.old done.old replica.new done.new }
 {
     let view = replica.view();
-    let found = replica.agreement.change.chosen(alloc, view)?;
+    let found = replica.protocol.change.chosen(alloc, view)?;
     let Some(changes) = found else {
         return Ok(());
     };
@@ -62,13 +62,13 @@ fn hold_own<V: Service + Drop>(
 ) -> Result<(), NoMemory>
     requires { digest ≡ stamped_digest message.now }
     ensures writes { WritesChange replica.old replica.new }
-    ensures holds { (m : NewViewValue) → message.now ≡ stamped.NewView m → OnOk result (StandsWith replica.old.agreement.change (with_new_view m) replica.new.agreement.change) }
+    ensures holds { (m : NewViewValue) → message.now ≡ stamped.NewView m → OnOk result (StandsWith replica.old.protocol.change (with_new_view m) replica.new.protocol.change) }
 {
     let Stamped::NewView(own) = message else {
         return Ok(());
     };
     let copy = own.duplicate(alloc)?;
-    replica.agreement.change.hold_new_view(copy, digest);
+    replica.protocol.change.hold_new_view(copy, digest);
     Ok(())
 }
 

@@ -10,7 +10,7 @@ ghost use Rattle.mb_base.specs.Shapes.{host_count};
 ghost use Rattle.mb_model.specs.Execution.{next_host};
 
 use mb_base::{Host, NoMemory};
-use mb_replica::{Done, ReplicaState};
+use mb_replica::{ReplicaState, StepOutput};
 use mb_service::Service;
 use std::alloc::Global;
 
@@ -19,7 +19,7 @@ use std::alloc::Global;
 pub(crate) fn on_nudge<V: Service + Drop>(
     replica: &mut ReplicaState<V>,
     alloc: Global,
-    done: &mut Done,
+    done: &mut StepOutput,
 ) -> Result<(), NoMemory>
     requires { HasHistory replica.old }
     ensures { (me : Identity V) (x : Progress) → StandsAt me replica.old done.old x → OnOk result (StandsAt me replica.new done.new ((on_nudge me x).left)) }
@@ -34,19 +34,19 @@ fn ask_next<V: Service + Drop>(replica: &mut ReplicaState<V>)
     ensures { (me : Identity V) (d : History) → Represents me replica.old d → Represents me replica.new (Nudged ∷ d) }
 {
     if replica.is_behind() {
-        replica.agreement.asked = next_host(replica, replica.agreement.asked);
+        replica.protocol.asked = next_host(replica, replica.protocol.asked);
     }
 }
 
 /// The host behind another, passing over this one.
 fn next_host<V: Service + Drop>(replica: &ReplicaState<V>, host: Host) -> Host
-    requires { host < host_count replica.now.agreement.shape }
-    ensures within { result < host_count replica.now.agreement.shape }
+    requires { host < host_count replica.now.protocol.shape }
+    ensures within { result < host_count replica.now.protocol.shape }
     ensures next { (me : Identity V) (d : History) → Represents me replica.now d → result ≡ next_host me host }
 {
-    let count = replica.agreement.shape.n();
+    let count = replica.protocol.shape.n();
     let next = (host + 1) % count;
-    if next == replica.agreement.host {
+    if next == replica.protocol.host {
         (host + 2) % count
     } else {
         next
@@ -57,7 +57,7 @@ fn next_host<V: Service + Drop>(replica: &ReplicaState<V>, host: Host) -> Host
 fn wish_again<V: Service + Drop>(
     replica: &ReplicaState<V>,
     alloc: Global,
-    done: &mut Done,
+    done: &mut StepOutput,
 ) -> Result<(), NoMemory>
     requires { HasHistory replica.now }
     ensures { (me : Identity V) (x : Progress) → StandsAt me replica.now done.old x → OnOk result (StandsAt me replica.now done.new (wish_again me x)) }
@@ -69,9 +69,9 @@ fn wish_again<V: Service + Drop>(
 }
 
 /// The host wishes for a view above its own.
-#[tactic(auto, using(mb_standing::proofs::Changes::change_answers))]
+#[tactic(auto, using(mb_refinement::proofs::Changes::change_answers))]
 fn is_unfulfilled<V: Service + Drop>(replica: &ReplicaState<V>) -> bool
     ensures { (me : Identity V) (d : History) → Represents me replica.now d → result ≡ nat_lt (view_of me d) (wish_of me d me.host) }
 {
-    replica.view() < replica.agreement.change.wish_of(replica.agreement.host)
+    replica.view() < replica.protocol.change.wish_of(replica.protocol.host)
 }

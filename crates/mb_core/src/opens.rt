@@ -24,7 +24,7 @@ ghost use Rattle.mb_model.specs.Making.{opening};
 use crate::stamping::{NO_UI, publish, sign};
 use mb_base::{Digest, Duplicate, NoMemory, Ui, View};
 use mb_msg::{Body, Evidence, MAX_POS, Open, OpenBody, Stamped};
-use mb_replica::{Done, ReplicaState};
+use mb_replica::{ReplicaState, StepOutput};
 use mb_service::Service;
 use std::alloc::Global;
 
@@ -32,13 +32,13 @@ use std::alloc::Global;
 pub(crate) fn open<V: Service + Drop>(
     replica: &mut ReplicaState<V>,
     alloc: Global,
-    done: &mut Done,
+    done: &mut StepOutput,
 ) -> Result<(), NoMemory>
     requires { IsDue V.machine replica.old done.old due.Open }
     ensures { (me : Identity V) (x : Progress) (e : EvidenceValue) (plan : PlanValue) → CarriesOut me x (rules.Open e plan) result replica.old done.old replica.new done.new }
 {
     let view = replica.view();
-    let found = replica.agreement.change.evidence_for(alloc, view)?;
+    let found = replica.protocol.change.evidence_for(alloc, view)?;
     let Some(evidence) = found else {
         return Ok(());
     };
@@ -55,9 +55,9 @@ pub(crate) fn open<V: Service + Drop>(
 /// What the own OPEN shows as evidence is held.
 fn hold_own_evidence<V: Service + Drop>(replica: &mut ReplicaState<V>, evidence: Evidence)
     ensures writes { WritesChange replica.old replica.new }
-    ensures holds { StandsWith replica.old.agreement.change (with_evidence evidence) replica.new.agreement.change }
+    ensures holds { StandsWith replica.old.protocol.change (with_evidence evidence) replica.new.protocol.change }
 {
-    replica.agreement.change.hold_evidence(evidence);
+    replica.protocol.change.hold_evidence(evidence);
 }
 
 /// The OPEN with this evidence and the plan of a view, before it is stamped.
@@ -69,7 +69,7 @@ fn opening<V: Service + Drop>(
 ) -> Result<Option<Stamped>, NoMemory>
     ensures { (me : Identity V) (d : History) → Represents me replica.now d → IfOk result (λ o. o ≡ option_map (λ plan. with_ui NO_UI (opening evidence.now plan)) (plan_at me d view)) }
 {
-    let Some(held) = replica.agreement.change.plan_at(view) else {
+    let Some(held) = replica.protocol.change.plan_at(view) else {
         return Ok(None);
     };
     let plan = held.plan();
@@ -112,11 +112,11 @@ fn carry_on_at<V: Service + Drop>(
     index: usize,
 ) -> Result<(), NoMemory>
     requires base { evidence.now.base < 2 ^ 63 }
-    requires index { index < length_in (plan_of_view view replica.old.agreement.change.plan) }
+    requires index { index < length_in (plan_of_view view replica.old.protocol.change.plan) }
     ensures writes { WritesNormal replica.old replica.new }
     ensures carries { OnOk result (CarriesMore view evidence.now index replica.old replica.new) }
 {
-    let Some(held) = replica.agreement.change.plan_at(view) else {
+    let Some(held) = replica.protocol.change.plan_at(view) else {
         return Ok(());
     };
     let plan = held.plan();
@@ -127,21 +127,21 @@ fn carry_on_at<V: Service + Drop>(
     let batch = plan.batches.as_slice()[index].duplicate(alloc)?;
     let digest = digest_at(replica, view, index);
     let ui = Ui {
-        host: replica.agreement.host,
+        host: replica.protocol.host,
         counter: evidence.counter,
         cert: evidence.cert,
     };
     replica.put_slot(pos, &ui, digest, Some(batch));
-    replica.count_vote(pos, replica.agreement.host, evidence.counter, digest);
+    replica.count_vote(pos, replica.protocol.host, evidence.counter, digest);
     Ok(())
 }
 
 /// The digest of the batch of the plan with this index.
 fn digest_at<V: Service + Drop>(replica: &ReplicaState<V>, view: View, index: usize) -> Digest
-    requires { index < length_in (plan_of_view view replica.now.agreement.change.plan) }
-    ensures { (plan : PlanValue) → plan_of_view view replica.now.agreement.change.plan ≡ Some plan → slice_get (map batch_digest plan.batches) index ≡ Some result }
+    requires { index < length_in (plan_of_view view replica.now.protocol.change.plan) }
+    ensures { (plan : PlanValue) → plan_of_view view replica.now.protocol.change.plan ≡ Some plan → slice_get (map batch_digest plan.batches) index ≡ Some result }
 {
-    let Some(held) = replica.agreement.change.plan_at(view) else {
+    let Some(held) = replica.protocol.change.plan_at(view) else {
         return [0; 32];
     };
     held.batches()[index]

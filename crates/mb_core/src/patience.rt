@@ -10,7 +10,7 @@ ghost use Rattle.mb_replica.specs.Wishing.{LosesPatience};
 
 use mb_base::NoMemory;
 use mb_msg::{MAX_VIEW, Outcome};
-use mb_replica::{Done, ReplicaState};
+use mb_replica::{ReplicaState, StepOutput};
 use mb_service::Service;
 use std::alloc::Global;
 
@@ -18,7 +18,7 @@ use std::alloc::Global;
 pub(crate) fn on_patience<V: Service + Drop>(
     replica: &mut ReplicaState<V>,
     alloc: Global,
-    done: &mut Done,
+    done: &mut StepOutput,
 ) -> Result<Outcome, NoMemory>
     requires { HasHistory replica.old }
     ensures { (me : Identity V) (x : Progress) → StandsAt me replica.old done.old x → IfOk result (λ o. (o ≡ (on_patience me x).outcome) × StandsAt me replica.new done.new (on_patience me x).left) }
@@ -40,12 +40,12 @@ fn is_last_view<V: Service + Drop>(replica: &ReplicaState<V>) -> bool
 fn wish_onward<V: Service + Drop>(
     replica: &mut ReplicaState<V>,
     alloc: Global,
-    done: &mut Done,
+    done: &mut StepOutput,
 ) -> Result<(), NoMemory>
     requires { LosesPatience replica.old }
     ensures { (me : Identity V) (x : Progress) → StandsAt me replica.old done.old x → (view_of me x.history == view_limit) ≡ false → OnOk result (StandsAt me replica.new done.new (wish_onward me x)) }
 {
     let next = replica.view() + 1;
-    replica.agreement.change.wish(replica.agreement.host, next);
+    replica.protocol.change.wish(replica.protocol.host, next);
     replica.send_wish(alloc, done)
 }

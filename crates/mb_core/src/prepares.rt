@@ -13,7 +13,7 @@ use crate::rules::next_position;
 use crate::stamping::{NO_UI, publish, sign};
 use mb_base::{Duplicate, NoMemory};
 use mb_msg::{Body, Prepare, Stamped};
-use mb_replica::{Done, ReplicaState};
+use mb_replica::{ReplicaState, StepOutput};
 use mb_service::Service;
 use std::alloc::Global;
 
@@ -21,13 +21,13 @@ use std::alloc::Global;
 pub(crate) fn prepare<V: Service + Drop>(
     replica: &mut ReplicaState<V>,
     alloc: Global,
-    done: &mut Done,
+    done: &mut StepOutput,
 ) -> Result<(), NoMemory>
     requires { IsDue V.machine replica.old done.old due.Prepare }
     ensures { (me : Identity V) (x : Progress) (pos : ℕ) (b : BatchValue) → CarriesOut me x (rules.Prepare pos b) result replica.old done.old replica.new done.new }
 {
     let pos = next_position(replica);
-    let batch = replica.agreement.normal.batch(alloc)?;
+    let batch = replica.protocol.normal.batch(alloc)?;
     let kept = batch.duplicate(alloc)?;
     let prepare = Prepare {
         view: replica.view(),
@@ -38,6 +38,6 @@ pub(crate) fn prepare<V: Service + Drop>(
     let signed = sign(replica, alloc, Stamped::Prepare(prepare))?;
     let ordered = kept.with_digest(signed.body);
     replica.put_slot(pos, &signed.ui, signed.body, Some(ordered));
-    replica.count_vote(pos, replica.agreement.host, signed.ui.counter, signed.body);
+    replica.count_vote(pos, replica.protocol.host, signed.ui.counter, signed.body);
     publish(replica, alloc, signed.message, signed.body, done)
 }

@@ -16,7 +16,7 @@ ghost use Rattle.mb_replica.specs.Waiting.{wants};
 use crate::events::on_event;
 use mb_base::{Digest, Host, Key, NoMemory, Pos, Shape};
 use mb_msg::{Event, Floor, Step};
-use mb_replica::{Done, ReplicaState, Told};
+use mb_replica::{ReplicaState, StepOutput, StepRecord};
 use mb_service::Service;
 use std::alloc::Global;
 
@@ -47,7 +47,7 @@ impl<V: Service + Drop> Replica<V> {
     ) -> Result<Replica<V>, NoMemory>
         requires { host < host_count shape }
         ensures stands { (me : Identity V) → Serves V.machine me → me.initial ≡ service → IfOk result (λ r. IsHost me r → Represents me r []) }
-        ensures host { IfOk result (λ r. (r.state.agreement.shape ≡ shape) × (r.state.agreement.host ≡ host) × (r.state.agreement.usig.secret ≡ secret.now)) }
+        ensures host { IfOk result (λ r. (r.state.protocol.shape ≡ shape) × (r.state.protocol.host ≡ host) × (r.state.protocol.usig.secret ≡ secret.now)) }
         ensures rests { IfOk result (λ r. IsAtRest V.machine r) }
         ensures runs { IfOk result (λ r. r.halted ≡ false) }
     {
@@ -83,9 +83,9 @@ impl<V: Service + Drop> Replica<V> {
         alloc: Global,
         event: &Event,
         known: &Option<Digest>,
-    ) -> Result<Told, Stop>
+    ) -> Result<StepRecord, Stop>
         requires rests { self.old.halted ≡ false → IsAtRest V.machine self.old }
-        requires known { KnowsEvent self.old.state.agreement.shape known.now event.now }
+        requires known { KnowsEvent self.old.state.protocol.shape known.now event.now }
         ensures stands { StepsAs V.machine event.now IsTold self.old result self.new }
         ensures lengths { IfOk result (λ t. AreOutgoingLong t.sent) }
         ensures rests { self.new.halted ≡ false → IsAtRest V.machine self.new }
@@ -94,7 +94,7 @@ impl<V: Service + Drop> Replica<V> {
         if self.halted {
             return Err(Stop::Halted);
         }
-        let mut done = Done::new(alloc);
+        let mut done = StepOutput::new(alloc);
         match on_event(&mut self.state, alloc, event, known, &mut done) {
             Ok(outcome) => {
                 self.halted = false;
@@ -111,16 +111,16 @@ impl<V: Service + Drop> Replica<V> {
 
     /// The size of the system: hosts, clients and the interval of checkpoints.
     pub fn shape(&self) -> Shape
-        ensures { result ≡ self.now.state.agreement.shape }
+        ensures { result ≡ self.now.state.protocol.shape }
     {
-        self.state.agreement.shape
+        self.state.protocol.shape
     }
 
     /// The number of this host.
     pub fn host(&self) -> Host
-        ensures { result ≡ self.now.state.agreement.host }
+        ensures { result ≡ self.now.state.protocol.host }
     {
-        self.state.agreement.host
+        self.state.protocol.host
     }
 
     /// Where this host stands: where the gate for its own messages stands.
@@ -134,12 +134,12 @@ impl<V: Service + Drop> Replica<V> {
     pub fn exec(&self) -> Pos
         ensures { (me : Identity V) (d : History) → Represents me self.now d → result ≡ exec_of d }
     {
-        self.state.agreement.exec
+        self.state.protocol.exec
     }
 
     /// The stable position.
     pub fn low(&self) -> Pos
-        ensures low_is { result ≡ self.now.state.agreement.stable.pos }
+        ensures low_is { result ≡ self.now.state.protocol.stable.pos }
         ensures reads { (me : Identity V) (d : History) → Represents me self.now d → result ≡ low_of me d }
     {
         self.state.low()
@@ -156,14 +156,14 @@ impl<V: Service + Drop> Replica<V> {
     pub fn log_len(&self) -> u32
         ensures { (me : Identity V) (d : History) → Represents me self.now d → result ≡ length (own_log me d) }
     {
-        self.state.agreement.log.len()
+        self.state.protocol.log.len()
     }
 
     /// The most messages that the own log ever held.
     pub fn log_longest(&self) -> u32
         ensures { (me : Identity V) (d : History) → Represents me self.now d → result ≡ log_longest me d }
     {
-        self.state.agreement.log.longest()
+        self.state.protocol.log.longest()
     }
 
     /// Whether an earlier step ran out of memory.

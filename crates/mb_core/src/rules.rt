@@ -22,7 +22,7 @@ use crate::view_changes::change_view;
 use mb_base::{NoMemory, Pos, View};
 use mb_change::ChangeDue;
 use mb_normal::Due as NormalDue;
-use mb_replica::{Done, ReplicaState};
+use mb_replica::{ReplicaState, StepOutput};
 use mb_service::Service;
 use std::alloc::Global;
 
@@ -54,7 +54,7 @@ pub(crate) enum Due {
 pub(crate) fn run_rules<V: Service + Drop>(
     replica: &mut ReplicaState<V>,
     alloc: Global,
-    done: &mut Done,
+    done: &mut StepOutput,
 ) -> Result<(), NoMemory>
     requires { IsInStep V.machine replica.old done.old }
     ensures { StepsTo (Serves V.machine) (λ me x. run_rules me enough x) result replica.old done.old replica.new done.new }
@@ -72,7 +72,7 @@ fn carry_out<V: Service + Drop>(
     replica: &mut ReplicaState<V>,
     alloc: Global,
     rule: Due,
-    done: &mut Done,
+    done: &mut StepOutput,
 ) -> Result<(), NoMemory>
     requires { IsDue V.machine replica.old done.old rule }
     ensures { (me : Identity V) (x : Progress) (r : Rule) → Serves V.machine me → CarriesNamed me x rule r result replica.old done.old replica.new done.new }
@@ -104,12 +104,7 @@ fn change_rule<V: Service + Drop>(replica: &ReplicaState<V>) -> Option<Due>
     ensures { (me : Identity V) (d : History) → Represents me replica.now d → Names result (change_rule me d) }
 {
     let room = has_other_room(replica);
-    match replica.agreement.change.due(
-        &replica.here(),
-        replica.agreement.exec,
-        replica.low(),
-        room,
-    ) {
+    match replica.protocol.change.due(&replica.here(), replica.protocol.exec, replica.low(), room) {
         ChangeDue::Nothing => None,
         ChangeDue::ViewChange { view } => Some(Due::ChangeView { view }),
         ChangeDue::NewView => Some(Due::Announce),
@@ -124,12 +119,7 @@ fn normal_rule<V: Service + Drop>(replica: &ReplicaState<V>) -> Option<Due>
     ensures { (me : Identity V) (d : History) → Represents me replica.now d → Names result (normal_rule me d) }
 {
     let room = has_room(replica);
-    match replica.agreement.normal.due(
-        &replica.here(),
-        replica.agreement.exec,
-        replica.low(),
-        room,
-    ) {
+    match replica.protocol.normal.due(&replica.here(), replica.protocol.exec, replica.low(), room) {
         NormalDue::Nothing => None,
         NormalDue::Commit { pos } => Some(Due::Commit { pos }),
         NormalDue::Execute { pos } => Some(Due::Execute { pos }),

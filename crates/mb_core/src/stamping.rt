@@ -18,7 +18,7 @@ ghost use Rattle.mb_core.specs.Signed.{IsSigned};
 
 use mb_base::{Counter, Digest, Items, NoMemory, Ui};
 use mb_msg::Stamped;
-use mb_replica::{Done, ReplicaState, Said};
+use mb_replica::{ReplicaState, Said, StepOutput};
 use mb_service::Service;
 use std::alloc::Global;
 
@@ -51,21 +51,21 @@ pub(crate) struct Signed {
 fn is_unspent<V: Service + Drop>(replica: &ReplicaState<V>) -> bool
     ensures { (me : Identity V) (d : History) → Represents me replica.now d → result ≡ is_unspent me d }
 {
-    replica.agreement.usig.counter() < Counter::MAX
+    replica.protocol.usig.counter() < Counter::MAX
 }
 
 /// For one more PREPARE, COMMIT or CHECKPOINT.
 pub(crate) fn has_room<V: Service + Drop>(replica: &ReplicaState<V>) -> bool
     ensures { (me : Identity V) (d : History) → Represents me replica.now d → result ≡ has_room me d }
 {
-    replica.agreement.log.room(NORMAL) && is_unspent(replica)
+    replica.protocol.log.room(NORMAL) && is_unspent(replica)
 }
 
 /// For one more of the other kinds.
 pub(crate) fn has_other_room<V: Service + Drop>(replica: &ReplicaState<V>) -> bool
     ensures { (me : Identity V) (d : History) → Represents me replica.now d → result ≡ has_other_room me d }
 {
-    replica.agreement.log.room(OTHER) && is_unspent(replica)
+    replica.protocol.log.room(OTHER) && is_unspent(replica)
 }
 
 // ---- stamping
@@ -76,9 +76,9 @@ pub(crate) fn sign<V: Service + Drop>(
     alloc: Global,
     message: Stamped,
 ) -> Result<Signed, NoMemory>
-    requires fits { FitsStamped replica.old.agreement.shape message }
-    requires unspent { replica.old.agreement.usig.counter < 2 ^ 64 - 1 }
-    ensures signed { (me : Identity V) (d : History) → IsHost me replica.old → replica.old.agreement.usig.counter ≡ counter_of d → IfOk result (λ s. IsSigned (signed me d message) s) }
+    requires fits { FitsStamped replica.old.protocol.shape message }
+    requires unspent { replica.old.protocol.usig.counter < 2 ^ 64 - 1 }
+    ensures signed { (me : Identity V) (d : History) → IsHost me replica.old → replica.old.protocol.usig.counter ≡ counter_of d → IfOk result (λ s. IsSigned (signed me d message) s) }
     ensures writes { OnOk result (WritesCounter replica.old replica.new) }
 {
     match said_of(replica, alloc, &message) {
@@ -103,11 +103,11 @@ fn said_of<V: Service + Drop>(
     alloc: Global,
     message: &Stamped,
 ) -> Result<Said, NoMemory>
-    requires { FitsStamped replica.now.agreement.shape message.now }
+    requires { FitsStamped replica.now.protocol.shape message.now }
     ensures { IfOk result (λ s. s ≡ said_of message.now) }
 {
-    let body = message.body_digest(alloc, &replica.agreement.shape)?;
-    let bare = message.bare_with(alloc, &replica.agreement.shape, &body)?;
+    let body = message.body_digest(alloc, &replica.protocol.shape)?;
+    let bare = message.bare_with(alloc, &replica.protocol.shape, &body)?;
     Ok(Said {
         bare: Items::from_vec(bare),
         body,
@@ -116,11 +116,11 @@ fn said_of<V: Service + Drop>(
 
 /// The identifier of the next message, of which these bytes are hashed.
 fn next_ui<V: Service + Drop>(replica: &mut ReplicaState<V>, bare: &[u8]) -> Ui
-    requires { replica.old.agreement.usig.counter < 2 ^ 64 - 1 }
-    ensures ui { result ≡ ui_at replica.old.agreement.usig (replica.old.agreement.usig.counter + 1) bare.now }
+    requires { replica.old.protocol.usig.counter < 2 ^ 64 - 1 }
+    ensures ui { result ≡ ui_at replica.old.protocol.usig (replica.old.protocol.usig.counter + 1) bare.now }
     ensures writes { WritesCounter replica.old replica.new }
 {
-    match replica.agreement.usig.create_ui(bare) {
+    match replica.protocol.usig.create_ui(bare) {
         Ok(ui) => ui,
         Err(_) => unreachable!(),
     }
@@ -132,21 +132,21 @@ pub(crate) fn publish<V: Service + Drop>(
     alloc: Global,
     message: Stamped,
     body: Digest,
-    done: &mut Done,
+    done: &mut StepOutput,
 ) -> Result<(), NoMemory>
-    requires room { has_room_for replica.old.agreement.log (stamped_kind message) ≡ true }
-    requires fits { Fits replica.old.agreement.shape (as_message message) }
+    requires room { has_room_for replica.old.protocol.log (stamped_kind message) ≡ true }
+    requires fits { Fits replica.old.protocol.shape (as_message message) }
     requires body { body ≡ stamped_digest message }
     ensures sent { OnOk result (done.new.sent ≡ done.old.sent ++ as_outgoing (to_all (as_message message)) ∷ []) }
     ensures kept { (done.new.executed ≡ done.old.executed) × (done.new.installed ≡ done.old.installed) }
-    ensures log { OnOk result (replica.new.agreement.log ≡ appended message replica.old.agreement.log) }
+    ensures log { OnOk result (replica.new.protocol.log ≡ appended message replica.old.protocol.log) }
     ensures gates { (me : Identity V) (d : History) → GatesFollow me d (StampedEntry message) result replica.old replica.new }
     ensures writes { OnOk result (WritesStamp replica.old replica.new) }
 {
     let message = replica
         .send_stamped(alloc, &message, body, done)
         .and(Ok(message))?;
-    replica.gate_follows(replica.agreement.host, &message.mark());
-    replica.agreement.log.append_with(message, body);
+    replica.gate_follows(replica.protocol.host, &message.mark());
+    replica.protocol.log.append_with(message, body);
     Ok(())
 }

@@ -26,7 +26,7 @@ use crate::stamping::{NO_UI, publish, sign};
 use mb_base::{Duplicate, NoMemory, View};
 use mb_msg::{Body, ChangeBody, Hashed, Stamped, ViewChange};
 use mb_plan::{BadProof, usable};
-use mb_replica::{Done, ReplicaState};
+use mb_replica::{ReplicaState, StepOutput};
 use mb_service::Service;
 use std::alloc::Global;
 
@@ -35,7 +35,7 @@ pub(crate) fn change_view<V: Service + Drop>(
     replica: &mut ReplicaState<V>,
     alloc: Global,
     view: View,
-    done: &mut Done,
+    done: &mut StepOutput,
 ) -> Result<(), NoMemory>
     requires { IsDue V.machine replica.old done.old (due.ChangeView view) }
     ensures { (me : Identity V) (x : Progress) → CarriesOut me x (rules.ChangeView view) result replica.old done.old replica.new done.new }
@@ -52,17 +52,17 @@ pub(crate) fn change_view<V: Service + Drop>(
 /// This host asks for a view.
 fn wish_own<V: Service + Drop>(replica: &mut ReplicaState<V>, view: View)
     ensures writes { WritesChange replica.old replica.new }
-    ensures wishes { StandsWith replica.old.agreement.change (with_wish replica.old.agreement.host view) replica.new.agreement.change }
+    ensures wishes { StandsWith replica.old.protocol.change (with_wish replica.old.protocol.host view) replica.new.protocol.change }
 {
-    replica.agreement.change.wish(replica.agreement.host, view);
+    replica.protocol.change.wish(replica.protocol.host, view);
 }
 
 /// No slots and votes any more.
 fn clear_votes<V: Service + Drop>(replica: &mut ReplicaState<V>)
     ensures writes { WritesNormal replica.old replica.new }
-    ensures clears { Becomes replica.old.agreement.normal replica.new.agreement.normal without_votes }
+    ensures clears { Becomes replica.old.protocol.normal replica.new.protocol.normal without_votes }
 {
-    replica.agreement.normal.clear();
+    replica.protocol.normal.clear();
 }
 
 /// The VIEW_CHANGE to a view, with all of the own log, before it is stamped.
@@ -73,10 +73,7 @@ fn view_change<V: Service + Drop>(
 ) -> Result<Stamped, NoMemory>
     ensures { (me : Identity V) (d : History) → Represents me replica.now d → IfOk result (λ o. o ≡ with_ui NO_UI (view_change me d view)) }
 {
-    let proof = replica
-        .agreement
-        .log
-        .proof(alloc, &replica.agreement.stable)?;
+    let proof = replica.protocol.log.proof(alloc, &replica.protocol.stable)?;
     let body = ChangeBody {
         floor: proof.floor,
         stable: proof.stable,
@@ -96,7 +93,7 @@ fn store_own<V: Service + Drop>(
     alloc: Global,
     message: &Stamped,
 ) -> Result<(), NoMemory>
-    requires { FitsStamped replica.old.agreement.shape message.now }
+    requires { FitsStamped replica.old.protocol.shape message.now }
     ensures writes { WritesChange replica.old replica.new }
     ensures stores { (me : Identity V) (m : ViewChangeValue) → IsHost me replica.old → message.now ≡ stamped.ViewChange m → is_whole m.body ≡ true → OnOk result (StoresOwn me m replica.old replica.new) }
 {
@@ -107,7 +104,7 @@ fn store_own<V: Service + Drop>(
     if !is_usable(replica, alloc, &own)? {
         return Ok(());
     }
-    replica.agreement.change.store(own)
+    replica.protocol.change.store(own)
 }
 
 /// What it shows has no fault.
@@ -116,10 +113,10 @@ fn is_usable<V: Service + Drop>(
     alloc: Global,
     m: &ViewChange,
 ) -> Result<bool, NoMemory>
-    requires { FitsViewChange replica.now.agreement.shape m.now }
+    requires { FitsViewChange replica.now.protocol.shape m.now }
     ensures { (me : Identity V) → IsHost me replica.now → IfOk result (λ b. b ≡ is_none (change_fault me m.now)) }
 {
-    match usable(alloc, &replica.agreement.shape, &replica.agreement.usig, m) {
+    match usable(alloc, &replica.protocol.shape, &replica.protocol.usig, m) {
         Ok(()) => Ok(true),
         Err(BadProof::At { .. }) => Ok(false),
         Err(BadProof::NoMemory) => Err(NoMemory),

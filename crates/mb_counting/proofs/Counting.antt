@@ -5,12 +5,12 @@ use Rattle.mb_cache.specs.Represents.{machine_of, snapshots_of}
 use Rattle.mb_counter.specs.Machine.{count_machine}
 use Rattle.mb_counter.specs.Operations.{IsCount, after}
 use Rattle.mb_counter.specs.Laws.{states_stay, answers_are_short, parts_give_the_state}
-use Rattle.mb_headline.proofs.Promised.{all_stay_one}
+use Rattle.mb_theorem.proofs.Promised.{all_stay_one}
 use Rattle.mb_schedule.specs.declared.schedule.Schedule.{Schedule}
 use Rattle.mb_schedule.specs.Limits.{IsSchedule}
 use Rattle.mb_sched.specs.Report.{report_text}
 use Rattle.mb_promise.specs.Headline.{state_after, IsService}
-use Rattle.mb_parties.specs.Hosts.{IsSystem}
+use Rattle.mb_members.specs.Hosts.{IsSystem}
 use Rattle.mb_story.specs.declared.story.End.{End}
 use Rattle.mb_story.specs.declared.story.End.TheVariants.{Whole, Stopped}
 use Rattle.mb_story.specs.declared.story.Story.{Story}

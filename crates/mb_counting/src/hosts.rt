@@ -2,7 +2,7 @@
 
 ghost use Rattle.std.specs.Prelude.{◌≡◌, length, IfOk};
 ghost use Rattle.mb_schedule.specs.Limits.{IsSchedule};
-ghost use Rattle.mb_parties.specs.Hosts.{AreServices};
+ghost use Rattle.mb_members.specs.Hosts.{AreServices};
 ghost use Rattle.mb_counting.specs.Counts.{text_of_end, IsAnswer};
 
 use mb_base::{Items, NoMemory};

@@ -12,8 +12,8 @@ mod hosts;
 mod text;
 
 use mb_edge::{read_all, write_all};
+use mb_os::{StdSink, StdSource};
 use mb_sched::MAX_TEXT;
-use mb_system::{StdSink, StdSource};
 use std::process::ExitCode;
 use text::report_of;
 

@@ -31,8 +31,8 @@ use Rattle.mb_host_laws.specs.Rests.{Each}
 use Rattle.mb_world_laws.proofs.Facts.{Facts}
 use Rattle.mb_views.proofs.Prefixes.{prefix_said}
 use Rattle.mb_views.proofs.Follows.{JumpsLed}
-use Rattle.mb_line.proofs.CountedVotes.{IsVoteIn, counted_vote}
-use Rattle.mb_line.proofs.OneVote.{stands_voted}
+use Rattle.mb_one_log.proofs.CountedVotes.{IsVoteIn, counted_vote}
+use Rattle.mb_one_log.proofs.OneVote.{stands_voted}
 use Rattle.mb_views.proofs.AcceptedIn.{passes_as}
 use Rattle.mb_host_laws.proofs.Moments.{IsPast, past_tail, each_at, past_numbered, arises_by, past_past}
 use Rattle.mb_justified.proofs.FirstHosts.{FirstHosts, first_hosts}
@@ -42,7 +42,7 @@ use Rattle.mb_justified.proofs.SlotBatches.{slot_sound}
 use Rattle.mb_parts.specs.declared.batch.Batch.{Batch}
 use Rattle.mb_model.specs.Service.{batch_of}
 use Rattle.mb_host_laws.proofs.Executing.{IsExecution}
-use Rattle.mb_line.proofs.Executions.{executed_so}
+use Rattle.mb_one_log.proofs.Executions.{executed_so}
 
 module _ {S : Type 0} (system : System S) (w : World) (f : Facts system w) (jumps : (h : ℕ) → IsCorrect system.schedule h → Each (JumpsLed system w f) (w.histories h))
     (record_is : IsConsistent system.schedule w) (h : ℕ) (correct : IsCorrect system.schedule h) where

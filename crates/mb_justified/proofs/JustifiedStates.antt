@@ -28,9 +28,9 @@ use Rattle.mb_host_laws.proofs.Cases.{all_holds}
 use Rattle.mb_world_laws.proofs.Facts.{Facts}
 use Rattle.mb_world_laws.proofs.Grown.{IsGivenTo}
 use Rattle.mb_views.proofs.EvidenceHost.{issued_host}
-use Rattle.mb_line.proofs.Executions.{in_past}
+use Rattle.mb_one_log.proofs.Executions.{in_past}
 use Rattle.mb_host_laws.proofs.Moments.{IsPast, past_tail, arises_by}
-use Rattle.mb_line.proofs.StateDigests.{IsCertified, certified}
+use Rattle.mb_one_log.proofs.StateDigests.{IsCertified, certified}
 use Rattle.mb_views.proofs.KnownMembers.{all_known}
 
 -- ---- members of a certificate

@@ -30,7 +30,7 @@ use Rattle.mb_world_laws.proofs.Facts.{Facts}
 use Rattle.mb_host_laws.proofs.Moments.{IsPast, past_tail, each_at}
 use Rattle.mb_world_laws.proofs.AcceptedParts.{accepted_fits}
 use Rattle.mb_host_laws.proofs.Executing.{IsExecution}
-use Rattle.mb_line.proofs.Executions.{executed_so}
+use Rattle.mb_one_log.proofs.Executions.{executed_so}
 use Rattle.mb_views.proofs.PlanMoments.{low_grows}
 use Rattle.mb_views.proofs.HeldSound.{held_sound}
 

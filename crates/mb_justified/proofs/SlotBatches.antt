@@ -42,7 +42,7 @@ use Rattle.mb_parts.specs.declared.batch.Batch.{Batch}
 use Rattle.mb_model.specs.Batches.{first_batch}
 use Rattle.mb_model.specs.Verified.{is_rightly_tagged}
 use Rattle.mb_host_laws.proofs.FirstBatches.{first_all}
-use Rattle.mb_line.proofs.ExecutedSound.{fresh_is}
+use Rattle.mb_one_log.proofs.ExecutedSound.{fresh_is}
 use Rattle.mb_model.proofs.Lists.{all_at}
 
 module _ {S : Type 0} (self : Identity S) where

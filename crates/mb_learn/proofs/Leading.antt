@@ -8,7 +8,7 @@ use Rattle.mb_parts.specs.Bares as bare
 use Rattle.mb_parts.specs.Counters.{at_counter}
 use Rattle.mb_parts.proofs.Counters.{at_bound}
 use Rattle.mb_model.specs.Committed.{leads}
-use Rattle.mb_forged.proofs.Places.{at_place, none_at_zero}
+use Rattle.mb_forgery.proofs.Places.{at_place, none_at_zero}
 use Rattle.mb_learn.specs.Followers.{led_by}
 
 -- the view that is kept is this one

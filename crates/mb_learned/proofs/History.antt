@@ -43,12 +43,12 @@ use Rattle.mb_world_laws.proofs.Facts.{Facts}
 use Rattle.mb_host_laws.specs.Rests.{Each}
 use Rattle.mb_views.proofs.CorrectOne.{IsStamped, issued_stamped}
 use Rattle.mb_views.proofs.Follows.{JumpsLed}
-use Rattle.mb_line.proofs.Along.{IsOnLine, on_line, within, along, between}
-use Rattle.mb_line.proofs.Committed.{executed_committed}
-use Rattle.mb_line.proofs.InstalledState.{IsOnceAt, checkpoint_once}
-use Rattle.mb_line.proofs.Line.{LineStands}
-use Rattle.mb_line.proofs.OneExecuted.{executed_batch}
-use Rattle.mb_line.proofs.WholeBatches.{IsWholeAll}
+use Rattle.mb_one_log.proofs.Along.{IsOnLine, on_line, within, along, between}
+use Rattle.mb_one_log.proofs.Committed.{executed_committed}
+use Rattle.mb_one_log.proofs.InstalledState.{IsOnceAt, checkpoint_once}
+use Rattle.mb_one_log.proofs.Line.{LineStands}
+use Rattle.mb_one_log.proofs.OneExecuted.{executed_batch}
+use Rattle.mb_one_log.proofs.WholeBatches.{IsWholeAll}
 use Rattle.mb_audit.specs.Stamps.{claims_among}
 use Rattle.mb_learn.specs.Proved.{behind, DiffersAt, digest_behind, is_checkpoint, says_state}
 use Rattle.mb_learn.proofs.Tests.{true_false}

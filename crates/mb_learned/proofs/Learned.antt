@@ -11,9 +11,9 @@ use Rattle.mb_world_laws.proofs.Facts.{Facts}
 use Rattle.mb_world_laws.proofs.FactsOf.{facts_in}
 use Rattle.mb_views.proofs.Agreed.{consistent}
 use Rattle.mb_views.proofs.Jumps.{jumps_led}
-use Rattle.mb_line.proofs.AskedFits.{asked_fits}
-use Rattle.mb_line.proofs.SafeWorlds.{line_stands, safe_from}
-use Rattle.mb_line.proofs.WholeBatches.{world_whole}
+use Rattle.mb_one_log.proofs.AskedFits.{asked_fits}
+use Rattle.mb_one_log.proofs.SafeWorlds.{line_stands, safe_from}
+use Rattle.mb_one_log.proofs.WholeBatches.{world_whole}
 use Rattle.mb_learned.specs.Learned.{LearnersAgree}
 use Rattle.mb_learned.proofs.History.{one_history, same_states}
 use Rattle.mb_learned.proofs.Voted.{proved_committed}

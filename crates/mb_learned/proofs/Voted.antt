@@ -23,7 +23,7 @@ use Rattle.mb_world_model.specs.Hashed.{HashesApart}
 use Rattle.mb_world_model.specs.World.{World, System}
 use Rattle.mb_world_model.specs.WorldRecord.{issued, prefix, plan_with_digest, plans_of, plans, IsConsistent}
 use Rattle.mb_world_laws.proofs.Facts.{Facts}
-use Rattle.mb_line.proofs.OneVote.{stands_voted}
+use Rattle.mb_one_log.proofs.OneVote.{stands_voted}
 use Rattle.mb_learn.specs.Held.{known_plans}
 use Rattle.mb_learn.specs.Lists.{has_vote}
 use Rattle.mb_learn.specs.Proved.{IsProved}

@@ -49,23 +49,23 @@ use Rattle.mb_steps.proofs.StepGivenArise.{give_arises}
 use Rattle.mb_model.proofs.ShapesFit.{shape_fits}
 use Rattle.mb_reading_laws.proofs.ReadFits.{read_fits}
 use Rattle.mb_host_laws.proofs.Executing.{may_execute}
-use Rattle.mb_searches.specs.Sound.{IsSound}
-use Rattle.mb_searches.proofs.Sound.{stays_sound}
-use Rattle.mb_searches.proofs.SoundSteps.{give_sound}
-use Rattle.mb_searches.proofs.SoundRules.{rule_sound}
+use Rattle.mb_history_laws.specs.Sound.{IsSound}
+use Rattle.mb_history_laws.proofs.Sound.{stays_sound}
+use Rattle.mb_history_laws.proofs.SoundSteps.{give_sound}
+use Rattle.mb_history_laws.proofs.SoundRules.{rule_sound}
 use Rattle.mb_change.specs.declared.due.ChangeDue.{ChangeDue}
 use Rattle.mb_change.specs.declared.due.ChangeDue.TheVariants as due
 use Rattle.mb_change.specs.Histories.{IsRule, first_rule}
 use Rattle.mb_change.specs.Represents.{searches_of}
 use Rattle.mb_change.specs.Rules.{due_with}
 use Rattle.mb_change.proofs.Agreeing.{rules_agree}
-use Rattle.mb_standing.proofs.PositionsRules.{normal_rule, next_is, ExecuteIs, execute_is}
+use Rattle.mb_refinement.proofs.PositionsRules.{normal_rule, next_is, ExecuteIs, execute_is}
 use Rattle.mb_core.specs.declared.replica.Replica.{Replica}
 use Rattle.mb_core.specs.Represents.{Represents}
 use Rattle.mb_replica.specs.Represents.{IsStep, as_sent}
-use Rattle.mb_fitting.specs.Fitting.{AreFit}
-use Rattle.mb_fitting.proofs.Fit.{give_fit, rule_fit, unstamped_fit}
-use Rattle.mb_fitting.proofs.Stamps.{execution_fits}
+use Rattle.mb_encodable.specs.Fitting.{AreFit}
+use Rattle.mb_encodable.proofs.Fit.{give_fit, rule_fit, unstamped_fit}
+use Rattle.mb_encodable.proofs.Stamps.{execution_fits}
 
 abbrev sent_count : Progress → ℕ
 sent_count x = length x.sent
@@ -366,9 +366,9 @@ module _ {S : Type 0} (self : Identity S) where
     sends_few d e s w f = let most = sends_at_most d e (record { sound = s; whole = w; fit = f }) in omega (arith, most)
 
 -- So it is with the step of a host.
-pub step_few : {V : Type 0} (me : Identity V) (d : History) (e : Event) (r : Replica V) (s : Step) → Represents me r d → IsWhole d → r.state.agreement.host < host_count r.state.agreement.shape → IsStep s (transition me d e) → length s.sent < 2 ^ 32
+pub step_few : {V : Type 0} (me : Identity V) (d : History) (e : Event) (r : Replica V) (s : Step) → Represents me r d → IsWhole d → r.state.protocol.host < host_count r.state.protocol.shape → IsStep s (transition me d e) → length s.sent < 2 ^ 32
 step_few me d e r s rep whole there is =
-    let host : me.host < host_count me.shape = subst (λ (h : ℕ). h < host_count me.shape) (sym rep.who.host) (subst (λ (y : Shape). r.state.agreement.host < host_count y) (sym rep.who.shape) there) in
+    let host : me.host < host_count me.shape = subst (λ (h : ℕ). h < host_count me.shape) (sym rep.who.host) (subst (λ (y : Shape). r.state.protocol.host < host_count y) (sym rep.who.shape) there) in
     let few = sends_few me host d e rep.tables.sound whole rep.fit in
     let same : length s.sent ≡ length (transition me d e).left.sent = ap length is.sent ∙ length-map (transition me d e).left.sent as_sent in
     omega (arith, few, same)

@@ -7,7 +7,7 @@ use Rattle.mb_model.specs.Positions.{exec_of}
 use Rattle.mb_model.specs.OwnLog.{has_room}
 use Rattle.mb_model.specs.EnabledRules.{commit_enabled, execute_enabled, prepare_enabled, greatest_in_slots, window}
 use Rattle.mb_model.specs.EnabledRules as history_rules
-use Rattle.mb_kept.proofs.InHistories.{learns, cuts}
+use Rattle.mb_checkpoints.proofs.InHistories.{learns, cuts}
 use Rattle.mb_normal.specs.Searches.{searches_in, unordered}
 use Rattle.mb_normal.specs.Rules.{first_rule}
 use Rattle.mb_normal.specs.Histories.{AnswersFor}

@@ -10,9 +10,9 @@ use Rattle.mb_window.specs.declared.refused.Refused.{Refused}
 use Rattle.mb_window.specs.declared.refused.Refused.TheVariants.{Below, Beyond, Filled}
 use Rattle.mb_window.specs.Places.{Places, item_at}
 use Rattle.mb_window.specs.Represents.{Represents as WindowRepresents, StandsAbove as WindowAbove, StandsWith as WindowWith}
-use Rattle.mb_kept.specs.declared.checkpoints.Checkpoints.{Checkpoints}
-use Rattle.mb_kept.specs.Kept.{Represents as KeptRepresents, KeepsAbove, Keeps, kept_at, low_of}
-use Rattle.mb_kept.proofs.Places.{number_is}
+use Rattle.mb_checkpoints.specs.declared.checkpoints.Checkpoints.{Checkpoints}
+use Rattle.mb_checkpoints.specs.Kept.{Represents as KeptRepresents, KeepsAbove, Keeps, kept_at, low_of}
+use Rattle.mb_checkpoints.proofs.Places.{number_is}
 use Rattle.mb_votes.specs.declared.votes.Votes.{Votes}
 use Rattle.mb_votes.specs.Ballots.{vote_at}
 use Rattle.mb_votes.specs.Votes.{Represents as VotesRepresents, StandsAbove as VotesAbove, StandsWith as VotesWith, Refuses as VotesRefuses}

@@ -6,7 +6,7 @@ use Rattle.mb_model.specs.Stable.{low_of, agreed_above, floor_from}
 use Rattle.mb_model.specs.Positions.{exec_of}
 use Rattle.mb_model.specs.OwnLog.{has_room}
 use Rattle.mb_model.specs.EnabledRules.{commit_enabled, execute_enabled, prepare_enabled, unordered}
-use Rattle.mb_kept.specs.Certificates as kept
+use Rattle.mb_checkpoints.specs.Certificates as kept
 use Rattle.mb_normal.specs.declared.normal.Normal.{Normal}
 use Rattle.mb_normal.specs.Searches as tables
 use Rattle.mb_normal.specs.Rules.{first_rule}

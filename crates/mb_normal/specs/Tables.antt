@@ -9,7 +9,7 @@ use Rattle.mb_window.specs.declared.refused.Refused.{Refused}
 use Rattle.mb_window.specs.declared.refused.Refused.TheVariants.{Below, Beyond, Filled}
 use Rattle.mb_window.specs.Represents.{Represents as WindowRepresents}
 use Rattle.mb_votes.specs.Votes.{Represents as VotesRepresents}
-use Rattle.mb_kept.specs.Kept.{Represents as KeptRepresents}
+use Rattle.mb_checkpoints.specs.Kept.{Represents as KeptRepresents}
 use Rattle.mb_normal.specs.Waiting.{request_of}
 use Rattle.mb_normal.specs.declared.normal.Normal.{Normal}
 use Rattle.mb_normal.specs.Searches.{Searches}

@@ -5,7 +5,7 @@ ghost use Rattle.mb_base.specs.Limits.{batch_limit, batch_bytes_limit};
 
 use mb_base::{Duplicate, Items, NoMemory};
 use mb_msg::Request;
-use mb_parts::{MAX_BATCH, MAX_REQUESTS};
+use mb_parts::{MAX_BATCH_BYTES, MAX_BATCH_REQUESTS};
 use std::alloc::Global;
 
 /// The requests of a batch, and how many bytes they have together.
@@ -58,6 +58,6 @@ impl Filling {
         ensures { result ≡ (nat_lt (length self.now.requests) batch_limit && has_place self.now.used request.now) }
     {
         let size = request.size();
-        self.requests.len() < usize::from(MAX_REQUESTS) && self.used + size <= MAX_BATCH
+        self.requests.len() < usize::from(MAX_BATCH_REQUESTS) && self.used + size <= MAX_BATCH_BYTES
     }
 }

@@ -2,12 +2,12 @@
 
 ghost use Rattle.std.specs.Prelude.{◌≡◌, length};
 ghost use Rattle.mb_base.specs.Shapes.{client_count};
-ghost use Rattle.mb_kept.specs.Kept.{low_of};
+ghost use Rattle.mb_checkpoints.specs.Kept.{low_of};
 
 use crate::pending::Pending;
 use crate::slots::Slots;
 use mb_base::{Client, Counter, Digest, Host, NoMemory, Pos, Seq, Shape};
-use mb_kept::Checkpoints;
+use mb_checkpoints::Checkpoints;
 use mb_model::KnownSlot;
 use mb_msg::{Batch, Checkpoint, FloorCert, Request, StableCert};
 use mb_votes::{Vote, Votes};
@@ -42,8 +42,8 @@ impl Normal {
     ghost use Rattle.mb_parts.specs.Fits.{FitsText};
     ghost use Rattle.mb_msg.specs.Fits.{FitsFloorsBody};
     ghost use Rattle.mb_msg.specs.Bodies.{FitsBody};
-    ghost use Rattle.mb_kept.specs.Kept.{IsKeptPlace, low_of};
-    ghost use Rattle.mb_kept.specs.Certificates.{agreed_above, floor_from};
+    ghost use Rattle.mb_checkpoints.specs.Kept.{IsKeptPlace, low_of};
+    ghost use Rattle.mb_checkpoints.specs.Certificates.{agreed_above, floor_from};
     ghost use Rattle.mb_normal.specs.Searches.{Searches, nothing_above, with_slot, with_vote, with_pending, with_settled, with_checkpoint, above_low, without_votes};
     ghost use Rattle.mb_normal.specs.Tables.{Represents, RefusesIn, Becomes, batch_of, order_of};
 

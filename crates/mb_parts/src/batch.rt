@@ -13,7 +13,7 @@ ghost use Rattle.mb_parts.specs.Reading.{request_at, batch_at};
 
 use crate::counting::count_u8;
 use crate::fault::Undecoded;
-use crate::limits::{MAX_BATCH, MAX_REQUESTS};
+use crate::limits::{MAX_BATCH_BYTES, MAX_BATCH_REQUESTS};
 use crate::part::{Part, Readable, all_fit, count_all, put_all};
 use crate::reading::read_request;
 use crate::request::{Request, byte};
@@ -40,7 +40,7 @@ impl Duplicate for Batch {
 fn are_enough(requests: &[Request]) -> bool
     ensures { IsTrue result ↔ ((1 ≤ length requests.now) × (length requests.now ≤ batch_limit)) }
 {
-    1 <= requests.len() && requests.len() <= MAX_REQUESTS as usize
+    1 <= requests.len() && requests.len() <= MAX_BATCH_REQUESTS as usize
 }
 
 /// Whether they have at most 2,048 bytes together. Each field of each has an allowed value.
@@ -49,7 +49,7 @@ fn are_short(shape: &Shape, requests: &[Request]) -> bool
     requires { AllByRecursion (FitsRequest shape.now) requests.now }
     ensures { IsTrue result ↔ (length (flat_map request_bytes requests.now) ≤ batch_bytes_limit) }
 {
-    count_all(shape, 0, requests) <= MAX_BATCH
+    count_all(shape, 0, requests) <= MAX_BATCH_BYTES
 }
 
 impl Part for Batch {
@@ -92,7 +92,7 @@ fn read_next(
 {
     let start = *fields;
     let request = read_request(alloc, shape, fields)?;
-    if used + request.size() <= MAX_BATCH {
+    if used + request.size() <= MAX_BATCH_BYTES {
         return Ok(request);
     }
     *fields = start;
@@ -123,7 +123,7 @@ impl Readable for Batch {
 
     #[tactic(auto, unfolding(crate::specs::Reading::batch_at))]
     fn read(alloc: Global, shape: &Shape, fields: &mut Fields<'_>) -> Result<Batch, Undecoded> {
-        let count = fields.u8_in(1, MAX_REQUESTS)?;
+        let count = fields.u8_in(1, MAX_BATCH_REQUESTS)?;
         let requests = read_requests(alloc, shape, count, fields)?;
         Ok(Batch {
             requests: Requests::from_items(requests),

@@ -7,7 +7,8 @@ ghost use Rattle.mb_parts.specs.Issued.{PrefixesAreConsistent};
 ghost use Rattle.mb_parts.specs.OrderedLists.{OrderedListLaws};
 
 use crate::limits::{
-    LOG_INTERVALS, MAX_BATCH, MAX_ENTRIES, MAX_REQUESTS, OTHER_LIMIT, PART_COUNT, TEXT_LIMIT,
+    LOG_INTERVALS, MAX_BATCH_BYTES, MAX_BATCH_REQUESTS, MAX_ENTRIES, OTHER_LIMIT, PART_COUNT,
+    TEXT_LIMIT,
 };
 use mb_base::{MESSAGE_LIMIT, Shape};
 
@@ -19,8 +20,8 @@ pub fn limits_are_those_defined()
     ensures clients { Shape.MAX_CLIENTS ≡ most_clients }
     ensures message { MESSAGE_LIMIT ≡ message_limit }
     ensures text { TEXT_LIMIT ≡ text_limit }
-    ensures batch { MAX_REQUESTS ≡ batch_limit }
-    ensures batch_bytes { MAX_BATCH ≡ batch_bytes_limit }
+    ensures batch { MAX_BATCH_REQUESTS ≡ batch_limit }
+    ensures batch_bytes { MAX_BATCH_BYTES ≡ batch_bytes_limit }
     ensures log { LOG_INTERVALS ≡ log_intervals }
     ensures others { OTHER_LIMIT ≡ other_limit }
     ensures entries { MAX_ENTRIES ≡ entry_limit }

@@ -34,8 +34,8 @@ pub use laws::{
     prefixes_are_consistent,
 };
 pub use limits::{
-    LOG_INTERVALS, MAX_BATCH, MAX_ENTRIES, MAX_PLACE, MAX_POS, MAX_REQUESTS, MAX_VIEW, OTHER_LIMIT,
-    PART_COUNT, TEXT_LIMIT,
+    LOG_INTERVALS, MAX_BATCH_BYTES, MAX_BATCH_REQUESTS, MAX_ENTRIES, MAX_PLACE, MAX_POS, MAX_VIEW,
+    OTHER_LIMIT, PART_COUNT, TEXT_LIMIT,
 };
 pub use numbers::{
     is_base, is_counter, is_end, is_place, is_position, read_base, read_client, read_counter,

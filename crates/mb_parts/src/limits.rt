@@ -15,10 +15,10 @@ pub const MAX_VIEW: View = MAX_PLACE;
 pub const MAX_POS: Pos = MAX_PLACE;
 
 /// The most requests of a batch.
-pub const MAX_REQUESTS: u8 = 16;
+pub const MAX_BATCH_REQUESTS: u8 = 16;
 
 /// The most bytes that the requests of a batch have together, without their count.
-pub const MAX_BATCH: usize = 2048;
+pub const MAX_BATCH_BYTES: usize = 2048;
 
 /// For how many checkpoint intervals of PREPAREs, COMMITs and CHECKPOINTs a log has room.
 pub const LOG_INTERVALS: u8 = 6;

@@ -22,7 +22,7 @@ use Rattle.mb_model.specs.EnabledRules.{number_of, greatest, greatest_in, number
 use Rattle.mb_model.specs.Members.{In}
 use Rattle.mb_model.proofs.Members.{in_contained, contained, in_left, in_right, in_map}
 use Rattle.mb_model.proofs.Options.{option_cases, if_some}
-use Rattle.mb_searches.proofs.Executing.{pending_client}
+use Rattle.mb_history_laws.proofs.Executing.{pending_client}
 use Rattle.mb_steps.specs.Arises.{Arises}
 use Rattle.mb_promise.specs.NothingLeft.{IsFull, IsInWindow, AreBelow, IsUnordered}
 use Rattle.mb_world_model.specs.World.{self_of}
@@ -32,8 +32,8 @@ use Rattle.mb_world_laws.proofs.KeptByWorlds.{world_arises}
 use Rattle.mb_each_host.proofs.Words.{window_says}
 use Rattle.mb_host_laws.proofs.Cases.{some_is}
 use Rattle.mb_host_laws.proofs.Moments.{arises_by}
-use Rattle.mb_line.proofs.Executions.{in_parts}
-use Rattle.mb_due.proofs.OrdersAll.{orders_all_that_fit}
+use Rattle.mb_one_log.proofs.Executions.{in_parts}
+use Rattle.mb_obligations.proofs.OrdersAll.{orders_all_that_fit}
 use Rattle.mb_results.proofs.Replies.{reply_new, reply_again, reply_other, reply_past}
 use Rattle.mb_pins.specs.Batches.{Waits, IsNextBehind, OrdersInTurn, OrdersAllInTurn, HostsOrderInTurn}
 

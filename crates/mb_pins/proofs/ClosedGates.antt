@@ -12,7 +12,7 @@ use Rattle.mb_promise.specs.AddsGiven.{IsDone, ComesWith, AllCome, AddsWhatCame}
 use Rattle.mb_world_model.specs.World.{System, self_of}
 use Rattle.mb_world_model.specs.WorldSteps.{after, world}
 use Rattle.mb_host_laws.proofs.Cases.{some_is, some_none}
-use Rattle.mb_due.proofs.Added.{hosts_add_given}
+use Rattle.mb_obligations.proofs.Added.{hosts_add_given}
 use Rattle.mb_pins.proofs.WorldAdds.{history_moves}
 
 -- At a closed gate the next counter is the one at which it was closed, or a later one.

@@ -22,7 +22,7 @@ use Rattle.mb_promise.specs.JoinsWithCause.{MayStampJoin}
 use Rattle.mb_world_model.specs.World.{self_of}
 use Rattle.mb_world_laws.proofs.KeptByWorlds.{world_arises}
 use Rattle.mb_host_laws.proofs.Moments.{arises_by}
-use Rattle.mb_due.proofs.JoinsWithCause.{hosts_join_with_cause}
+use Rattle.mb_obligations.proofs.JoinsWithCause.{hosts_join_with_cause}
 use Rattle.mb_pins.specs.Joins.{IsShown, ShowsEvidence, HostsShowInJoins}
 
 module _ {S : Type 0} (self : Identity S) (d : History) (arises : Arises self d) (m : Join) where

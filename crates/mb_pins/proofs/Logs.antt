@@ -23,17 +23,17 @@ use Rattle.mb_model.specs.Passed.{PassesResend}
 use Rattle.mb_model.specs.PlainChecks.{resend_refusal}
 use Rattle.mb_model.specs.Given.{give_resend}
 use Rattle.mb_model.specs.HostStep.{on_bytes, transition}
-use Rattle.mb_searches.proofs.OwnLog.{log_kept_length}
+use Rattle.mb_history_laws.proofs.OwnLog.{log_kept_length}
 use Rattle.mb_promise.specs.Bounds.{KeepsLimits}
 use Rattle.mb_promise.specs.ShowsLog.{next_shown, IsShownOf, ShowsLog}
 use Rattle.mb_world_model.specs.World.{self_of}
 use Rattle.mb_world_model.specs.WorldSteps.{world}
 use Rattle.mb_model.proofs.Lists.{get_last, get_more}
 use Rattle.mb_each_host.proofs.LogLimits.{hosts_keep_limits}
-use Rattle.mb_line.proofs.Walks.{finished_keeps}
-use Rattle.mb_due.proofs.Taken.{resend_passed, takes_what_passes}
-use Rattle.mb_due.proofs.Answers.{letter_walked, last_of}
-use Rattle.mb_due.proofs.ShowsLog.{log_shown, shows_log}
+use Rattle.mb_one_log.proofs.Walks.{finished_keeps}
+use Rattle.mb_obligations.proofs.Taken.{resend_passed, takes_what_passes}
+use Rattle.mb_obligations.proofs.Answers.{letter_walked, last_of}
+use Rattle.mb_obligations.proofs.ShowsLog.{log_shown, shows_log}
 use Rattle.mb_pins.specs.Logs.{bytes_of, IsFilled, AreAllFrom, GivesWhatFits, FillsLogs, length_with, TellsLongest, HostsKeepLogs}
 
 -- ---- what is packed

@@ -62,7 +62,7 @@ use Rattle.mb_promise.specs.TakesLogs.{IsValidLog}
 use Rattle.mb_promise.specs.TakesValid.{IsCertified, IsTagged, AreTagged, IsUsable, IsMember, IsPlanned, IsPlanOf, IsNextOfSender, IsShown, IsVote, IsNewRequest, IsGreaterWish, AsksForNews, AsksForState, BringsParts, IsValid}
 use Rattle.mb_host_laws.proofs.Cases.{not_false, some_is}
 use Rattle.mb_host_laws.proofs.Moments.{arises_by}
-use Rattle.mb_due.proofs.Added.{parts_certified}
+use Rattle.mb_obligations.proofs.Added.{parts_certified}
 use Rattle.mb_pins.specs.OnlyValid.{AcceptsOnlyValid, AcceptsOnlyValidLogs}
 use Rattle.mb_pins.proofs.ClosedGates.{IsShut, AreShut, shut_at, shut_past}
 

@@ -64,10 +64,10 @@ use Rattle.mb_promise.specs.TakesValid.{IsCertified, IsTagged, AreTagged, IsPlan
 use Rattle.mb_world_model.specs.World.{self_of}
 use Rattle.mb_world_model.specs.WorldSteps.{world}
 use Rattle.mb_host_laws.proofs.Cases.{not_true, not_false, not_both, or_false, some_is, then_some_of, whole_is}
-use Rattle.mb_line.proofs.Walks.{each_entry, entries_keep, finished_keeps}
-use Rattle.mb_due.proofs.LogsStand.{HasEntry, entry_walked}
-use Rattle.mb_due.proofs.TakesLogs.{accepted_there}
-use Rattle.mb_due.proofs.TakesValid.{certified, valid_passes}
+use Rattle.mb_one_log.proofs.Walks.{each_entry, entries_keep, finished_keeps}
+use Rattle.mb_obligations.proofs.LogsStand.{HasEntry, entry_walked}
+use Rattle.mb_obligations.proofs.TakesLogs.{accepted_there}
+use Rattle.mb_obligations.proofs.TakesValid.{certified, valid_passes}
 use Rattle.mb_pins.specs.TellsWhy.{IsVoteOf, IsOfPosition, kind_number, IsBadlyTagged, IsFaulty, IsNoMember, IsMisplanned, IsOwnAhead, WaitsAlready, IsIdle, Tells, TellsOf, IsOfEntry, IsThrough, TellsOfLog, TellsOfLogs, TellsOfMessages, TellsOfBytes, HostsTellWhy}
 use Rattle.mb_pins.proofs.OnlyValid.{log_so}
 

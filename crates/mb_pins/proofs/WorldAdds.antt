@@ -36,11 +36,11 @@ use Rattle.mb_world_model.specs.WorldSteps.{where_faulty, with_message, stamps_s
 use Rattle.mb_world_model.specs.EventsStep.{arrival}
 use Rattle.mb_world_model.specs.Stops.{delivered}
 use Rattle.mb_host_laws.proofs.Cases.{some_is, none_some, not_both}
-use Rattle.mb_line.proofs.Executions.{in_parts}
+use Rattle.mb_one_log.proofs.Executions.{in_parts}
 use Rattle.mb_pins.specs.WorldAdds.{IsStringOf, IsStateString, IsTagged, IsStepOf, IsNoStep, request_for, IsHashedNow, StampsNow, ExtendsLine, sent_by, AddsNoMore, EventsAddNoMore}
 use Rattle.mb_pins.proofs.Strings.{IsNoted, step_noted}
 use Rattle.mb_world_laws.proofs.Asked.{not_asked}
-use Rattle.mb_line.proofs.Replied.{from_letters as letters_tagged}
+use Rattle.mb_one_log.proofs.Replied.{from_letters as letters_tagged}
 
 -- ---- lists
 

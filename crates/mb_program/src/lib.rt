@@ -2,9 +2,7 @@
 #![tactic(auto)]
 
 use mb_edge::{Sink, Source};
-use mb_system::{
-    ChildSpawner, FileDisk, StdSink, StdSource, UdpLink, own_path, starter_of, words_of,
-};
+use mb_os::{ChildSpawner, FileDisk, StdSink, StdSource, UdpLink, own_path, starter_of, words_of};
 use mb_top::minbft;
 use std::io::ErrorKind;
 use std::process;

@@ -39,7 +39,7 @@ module _ {S : Type 0} (system : System S) (w : World) where
     pub by : (h : ℕ) × IsCorrect system.schedule h × Contains (w.histories h) (Executed slot)
 
   -- the request at a place of a slot of the line
-  pub record StandsAt (q i : ℕ) (p : Placed) : Type 0 where
+  pub record IsAt (q i : ℕ) (p : Placed) : Type 0 where
     pub slot : Slot
     pub in_line : slice_get w.line q ≡ Some slot
     pub in_slot : slice_get slot.requests i ≡ Some p
@@ -55,7 +55,7 @@ module _ {S : Type 0} (system : System S) (w : World) where
     pub state : (h : ℕ) → IsCorrect system.schedule h → state_of (self_of system h) (w.histories h) ≡ after_line (exec_of (w.histories h))
     pub slots : (h : ℕ) (slot : Slot) → IsCorrect system.schedule h → Contains (w.histories h) (Executed slot) → (q : ℕ) × (slot.pos ≡ q + 1) × (slice_get w.line q ≡ Some slot)
     pub line : (q : ℕ) (slot : Slot) → slice_get w.line q ≡ Some slot → IsLineSlot q slot
-    pub rising : (q i r j : ℕ) (x y : Placed) → IsBefore q i r j → StandsAt q i x → StandsAt r j y → x.fresh ≡ true → y.fresh ≡ true
+    pub rising : (q i r j : ℕ) (x y : Placed) → IsBefore q i r j → IsAt q i x → IsAt r j y → x.fresh ≡ true → y.fresh ≡ true
         → x.request.client ≡ y.request.client → x.request.seq < y.request.seq
 
   -- ---- accepted results

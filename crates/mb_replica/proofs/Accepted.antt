@@ -13,12 +13,12 @@ use Rattle.mb_log.specs.Logs.{Log}
 use Rattle.mb_normal.specs.declared.normal.Normal.{Normal}
 use Rattle.mb_change.specs.Tables.{Table as ChangeTable}
 use Rattle.mb_change.specs.Represents.{SameHost}
-use Rattle.mb_searches.specs.Speaks.{is_stamp, speaks_of_log, speaks_of_positions, speaks_of_stable, speaks_of_executed, speaks_of_state, speaks_of_snapshots, speaks_of_parts, is_nudge}
-use Rattle.mb_searches.proofs.Framing.{low_stays}
-use Rattle.mb_searches.proofs.Sound.{accepted_adds}
-use Rattle.mb_standing.specs.Tables.{Tables}
-use Rattle.mb_standing.specs.Stands.{LogStands, NormalStands, ChangeStands, ShelfStands, HeldStand}
-use Rattle.mb_standing.proofs.Together.{Stays, stays, stand_lags}
+use Rattle.mb_history_laws.specs.Speaks.{is_stamp, speaks_of_log, speaks_of_positions, speaks_of_stable, speaks_of_executed, speaks_of_state, speaks_of_snapshots, speaks_of_parts, is_nudge}
+use Rattle.mb_history_laws.proofs.Framing.{low_stays}
+use Rattle.mb_history_laws.proofs.Sound.{accepted_adds}
+use Rattle.mb_refinement.specs.Tables.{Tables}
+use Rattle.mb_refinement.specs.Stands.{LogStands, NormalStands, ChangeStands, ShelfStands, HeldStand}
+use Rattle.mb_refinement.proofs.Together.{Stays, stays, stand_lags}
 use Rattle.mb_replica.specs.declared.state.ReplicaState.{ReplicaState}
 use Rattle.mb_replica.specs.Represents.{Represents, IsHost, tables_of}
 use Rattle.mb_replica.specs.Between.{IsSame, WritesChange, RestStands, AwaitsGate}
@@ -41,10 +41,10 @@ module _ {V : Type 0} where
   still_host me old new same who = record { shape = who.shape ∙ sym same.shape; host = who.host ∙ sym same.host; secret = who.secret ∙ sym same.secret }
 
   -- The table of view changes is of the same system and host.
-  pub same_table : (old new : ReplicaState V) → IsSame old new → SameHost old.agreement.change new.agreement.change
+  pub same_table : (old new : ReplicaState V) → IsSame old new → SameHost old.protocol.change new.protocol.change
   same_table old new same = record {
-    shape_is = new.agreement.change_is.0 ∙ same.shape ∙ sym old.agreement.change_is.0;
-    host_is = new.agreement.change_is.1 ∙ same.host ∙ sym old.agreement.change_is.1;
+    shape_is = new.protocol.change_is.0 ∙ same.shape ∙ sym old.protocol.change_is.0;
+    host_is = new.protocol.change_is.1 ∙ same.host ∙ sym old.protocol.change_is.1;
   }
 
   module _ (me : Identity V) (old new : ReplicaState V) (m : StampedMessage) (d : History) (rep : Represents me old d) (passed : stamped_refusal me d m ≡ None) (leaves : LeavesOthers (Accepted (as_message m))) where
@@ -75,7 +75,7 @@ module _ {V : Type 0} where
 
     -- It wrote that of view changes alone.
     pub awaits_change : speaks_of_positions (Accepted (as_message m)) ≡ false → speaks_of_stable (Accepted (as_message m)) ≡ false → speaks_of_snapshots (Accepted (as_message m)) ≡ false → speaks_of_parts (Accepted (as_message m)) ≡ false
-        → WritesChange old new → ChangeStands me new.agreement.change (Accepted (as_message m) ∷ d) → AwaitsGate me old new m d
+        → WritesChange old new → ChangeStands me new.protocol.change (Accepted (as_message m) ∷ d) → AwaitsGate me old new m d
     awaits_change positions stable snapshots parts writes changes =
         let kept : KeptStands me old d rep (Accepted (as_message m)) old.keeper = kept_stay me old d rep (Accepted (as_message m)) snapshots parts (low_stays me (Accepted (as_message m)) d stable) in
-        awaits old.agreement.normal new.agreement.change old.agreement.stable old.keeper.snapshots old.keeper.fetched writes.same writes.tables (left.normal positions) changes (left.stable stable) kept.shelf kept.parts
+        awaits old.protocol.normal new.protocol.change old.protocol.stable old.keeper.snapshots old.keeper.fetched writes.same writes.tables (left.normal positions) changes (left.stable stable) kept.shelf kept.parts

@@ -25,22 +25,22 @@ use Rattle.mb_model.specs.KindChecks.{stamped_refusal}
 use Rattle.mb_model.specs.Given.{Answer, answer, accept, closing, give_stamped}
 use Rattle.mb_host_laws.specs.Rests.{compared_by}
 use Rattle.mb_host_laws.proofs.RestsGiven.{convicts}
-use Rattle.mb_fitting.specs.Fitting.{AreFit}
-use Rattle.mb_fitting.proofs.Fit.{unstamped_fit}
-use Rattle.mb_searches.specs.Speaks.{is_served, speaks_of_log, speaks_of_change, speaks_of_stable, speaks_of_executed, speaks_of_state, speaks_of_snapshots, speaks_of_parts, is_nudge}
-use Rattle.mb_searches.proofs.Executing.{served_ends}
-use Rattle.mb_searches.proofs.Framing.{low_stays}
-use Rattle.mb_searches.proofs.Gates.{illegal_is_of_others}
-use Rattle.mb_searches.proofs.Sound.{accepted_adds}
-use Rattle.mb_standing.specs.Tables.{Tables}
-use Rattle.mb_standing.specs.Stands.{GatesStand, NormalStands, LogStands}
-use Rattle.mb_standing.specs.GateCalls.{Marks}
-use Rattle.mb_standing.proofs.Gates.{mark_says, gate_taken, gate_closed}
-use Rattle.mb_standing.proofs.Snapshots.{shelf_stays}
-use Rattle.mb_standing.proofs.FetchedParts.{held_stays}
-use Rattle.mb_standing.proofs.Together.{EachStands, stands_behind, stand_lags, stays}
+use Rattle.mb_encodable.specs.Fitting.{AreFit}
+use Rattle.mb_encodable.proofs.Fit.{unstamped_fit}
+use Rattle.mb_history_laws.specs.Speaks.{is_served, speaks_of_log, speaks_of_change, speaks_of_stable, speaks_of_executed, speaks_of_state, speaks_of_snapshots, speaks_of_parts, is_nudge}
+use Rattle.mb_history_laws.proofs.Executing.{served_ends}
+use Rattle.mb_history_laws.proofs.Framing.{low_stays}
+use Rattle.mb_history_laws.proofs.Gates.{illegal_is_of_others}
+use Rattle.mb_history_laws.proofs.Sound.{accepted_adds}
+use Rattle.mb_refinement.specs.Tables.{Tables}
+use Rattle.mb_refinement.specs.Stands.{GatesStand, NormalStands, LogStands}
+use Rattle.mb_refinement.specs.GateCalls.{Marks}
+use Rattle.mb_refinement.proofs.Gates.{mark_says, gate_taken, gate_closed}
+use Rattle.mb_refinement.proofs.Snapshots.{shelf_stays}
+use Rattle.mb_refinement.proofs.FetchedParts.{held_stays}
+use Rattle.mb_refinement.proofs.Together.{EachStands, stands_behind, stand_lags, stays}
 use Rattle.mb_replica.specs.declared.state.ReplicaState.{ReplicaState}
-use Rattle.mb_replica.specs.declared.sending.Done.{Done}
+use Rattle.mb_replica.specs.declared.sending.StepOutput.{StepOutput}
 use Rattle.mb_replica.specs.Represents.{IsHost, Represents, StandsAt, tables_of}
 use Rattle.mb_replica.specs.Between.{IsNoCommit, WritesNormal, GateFollows, GateCloses, RestStands, AwaitsGate}
 use Rattle.mb_replica.proofs.Accepted.{still_host}
@@ -78,16 +78,16 @@ module _ {V : Type 0} (me : Identity V) where
 
   module _ (r : ReplicaState V) (who : IsHost me r) where
     pub there : me.host < host_count me.shape
-    there = subst (λ (h : ℕ). h < host_count me.shape) (sym who.host) (subst (λ (s : Shape). r.agreement.host < host_count s) (sym who.shape) r.agreement.host_in)
+    there = subst (λ (h : ℕ). h < host_count me.shape) (sym who.host) (subst (λ (s : Shape). r.protocol.host < host_count s) (sym who.shape) r.protocol.host_in)
 
-    pub fits_here : (m : StampedMessage) → FitsStamped r.agreement.shape m → FitsStamped me.shape m
+    pub fits_here : (m : StampedMessage) → FitsStamped r.protocol.shape m → FitsStamped me.shape m
     fits_here m fits = subst (λ (s : Shape). FitsStamped s m) (sym who.shape) fits
 
   -- ---- all tables but the gate
 
   -- Slots and votes were written for an entry that speaks of no more.
   pub votes_await : (old new : ReplicaState V) (m : StampedMessage) (d : History) → Represents me old d → stamped_refusal me d m ≡ None → SpeaksOfVotes (Accepted (as_message m)) → WritesNormal old new
-      → NormalStands me new.agreement.normal (Accepted (as_message m) ∷ d) → AwaitsGate me old new m d
+      → NormalStands me new.protocol.normal (Accepted (as_message m) ∷ d) → AwaitsGate me old new m d
   votes_await old new m d r none s w normal =
       let e : Entry = Accepted (as_message m) in
       let t = r.tables in
@@ -112,18 +112,18 @@ module _ {V : Type 0} (me : Identity V) where
 
   -- ---- the gate follows
 
-  pub accepted_fit : (r : ReplicaState V) (m : StampedMessage) (d : History) → Represents me r d → FitsStamped r.agreement.shape m → stamped_refusal me d m ≡ None → AreFit me (Accepted (as_message m) ∷ d)
+  pub accepted_fit : (r : ReplicaState V) (m : StampedMessage) (d : History) → Represents me r d → FitsStamped r.protocol.shape m → stamped_refusal me d m ≡ None → AreFit me (Accepted (as_message m) ∷ d)
   accepted_fit r m d rep fits none =
       unstamped_fit me (there r rep.who) (Accepted (as_message m)) d refl (accepted_adds me m d none)
       ((as_message m, as_message_fits me.shape m (fits_here r rep.who m fits), inl refl), any_of (compared_by me d (as_message m))) rep.tables.sound rep.fit
 
-  pub accepted_stands : (old mid new : ReplicaState V) (m : StampedMessage) (d : History) (mark : Mark) → Represents me old d → FitsStamped old.agreement.shape m → stamped_refusal me d m ≡ None
+  pub accepted_stands : (old mid new : ReplicaState V) (m : StampedMessage) (d : History) (mark : Mark) → Represents me old d → FitsStamped old.protocol.shape m → stamped_refusal me d m ≡ None
       → AwaitsGate me old mid m d → mark ≡ mark_of m → GateFollows (ui_of m).host mark mid new → Represents me new (Accepted (as_message m) ∷ d)
   accepted_stands old mid new m d mark r fits none a is g =
       let e : Entry = Accepted (as_message m) in
-      let gates : GatesStand me mid.agreement.gates.items d = subst (λ (x : List Gate). GatesStand me x d) (sym a.gates) r.tables.gates in
-      let taken = gate_taken me mid.agreement.gates.items d m mark g.before g.behind none (marked mark m is) g.there g.law gates in
-      let each : EachStands me (record (tables_of mid) { gates = new.agreement.gates.items }) (e ∷ d) = record {
+      let gates : GatesStand me mid.protocol.gates.items d = subst (λ (x : List Gate). GatesStand me x d) (sym a.gates) r.tables.gates in
+      let taken = gate_taken me mid.protocol.gates.items d m mark g.before g.behind none (marked mark m is) g.there g.law gates in
+      let each : EachStands me (record (tables_of mid) { gates = new.protocol.gates.items }) (e ∷ d) = record {
         counter = a.rest.counter;
         gates = subst (λ (x : List Gate). GatesStand me x (e ∷ d)) (sym g.now) taken;
         log = a.log;
@@ -144,7 +144,7 @@ module _ {V : Type 0} (me : Identity V) where
 
   -- ---- a gate is closed
 
-  pub illegal_stands : (old new : ReplicaState V) (m : StampedMessage) (d : History) (rule : ℕ) → Represents me old d → FitsStamped old.agreement.shape m → stamped_refusal me d m ≡ Some (outcome.Illegal rule)
+  pub illegal_stands : (old new : ReplicaState V) (m : StampedMessage) (d : History) (rule : ℕ) → Represents me old d → FitsStamped old.protocol.shape m → stamped_refusal me d m ≡ Some (outcome.Illegal rule)
       → GateCloses (ui_of m).host (ui_of m).counter old new → Represents me new (Closed (ui_of m).host (ui_of m).counter ∷ d)
   illegal_stands old new m d rule r fits some g =
       let h : ℕ = (ui_of m).host in
@@ -153,8 +153,8 @@ module _ {V : Type 0} (me : Identity V) where
       let t = r.tables in
       let left = stays me (low_of me d) (tables_of old) e d (stand_lags me (tables_of old) d t) tt in
       let low = low_stays me e d refl in
-      let closed = gate_closed me old.agreement.gates.items d h c g.before g.behind g.there g.law t.gates in
-      let each : EachStands me (record (tables_of old) { gates = new.agreement.gates.items }) (e ∷ d) = record {
+      let closed = gate_closed me old.protocol.gates.items d h c g.before g.behind g.there g.law t.gates in
+      let each : EachStands me (record (tables_of old) { gates = new.protocol.gates.items }) (e ∷ d) = record {
         counter = left.counter refl;
         gates = subst (λ (x : List Gate). GatesStand me x (e ∷ d)) (sym g.now) closed;
         log = left.log refl;
@@ -176,11 +176,11 @@ module _ {V : Type 0} (me : Identity V) where
   -- ---- within a step
 
   -- One entry was added that nothing was sent for.
-  pub entry_added : (old new : ReplicaState V) (done : Done) (e : Entry) (x : Progress) → StandsAt me old done x → is_served e ≡ false → Represents me new (e ∷ x.history) → StandsAt me new done (write e x)
+  pub entry_added : (old new : ReplicaState V) (done : StepOutput) (e : Entry) (x : Progress) → StandsAt me old done x → is_served e ≡ false → Represents me new (e ∷ x.history) → StandsAt me new done (write e x)
   entry_added old new done e x s plain r = record { represents = r; serving = served_ends e x.history plain; sent = s.sent; executed = s.executed; installed = s.installed }
 
   -- A message that may not stand there closed its sender's gate.
-  pub illegal_closes : (old new : ReplicaState V) (done : Done) (ui : Ui) (m : StampedMessage) (x : Progress) (o : Outcome) (rule : ℕ) → StandsAt me old done x → FitsStamped old.agreement.shape m → ui ≡ ui_of m
+  pub illegal_closes : (old new : ReplicaState V) (done : StepOutput) (ui : Ui) (m : StampedMessage) (x : Progress) (o : Outcome) (rule : ℕ) → StandsAt me old done x → FitsStamped old.protocol.shape m → ui ≡ ui_of m
       → stamped_refusal me x.history m ≡ Some o → o ≡ outcome.Illegal rule → GateCloses ui.host ui.counter old new → StandsAt me new done (closing o ui x)
   illegal_closes old new done ui m x o rule s fits same some is g =
       subst (λ (y : Outcome). StandsAt me new done (closing y ui x)) (sym is) (subst (λ (u : Ui). StandsAt me new done (closing (outcome.Illegal rule) u x)) (sym same)
@@ -195,7 +195,7 @@ module _ {V : Type 0} (me : Identity V) where
   -- ---- a given message
 
   -- What is noted as hashed is no table of the host.
-  pub noted : (r : ReplicaState V) (done : Done) (strings : List Bytes) (x : Progress) → StandsAt me r done x → StandsAt me r done (note strings x)
+  pub noted : (r : ReplicaState V) (done : StepOutput) (strings : List Bytes) (x : Progress) → StandsAt me r done x → StandsAt me r done (note strings x)
   noted r done strings x s = record { represents = s.represents; serving = s.serving; sent = s.sent; executed = s.executed; installed = s.installed }
 
   pub given_accepted : (m : StampedMessage) (x : Progress) → stamped_refusal me x.history m ≡ None → give_stamped me m x ≡ answer outcome.Took (accept me m (note (compared_in me x.history m) x))
@@ -207,12 +207,12 @@ module _ {V : Type 0} (me : Identity V) where
   given_refused m o x some = rw some refl
 
   -- So it is with a given message, as it came.
-  pub given_took : (new : ReplicaState V) (done : Done) (m given : StampedMessage) (x : Progress) → m ≡ given → stamped_refusal me x.history m ≡ None → StandsAt me new done (accept me m (note (compared_in me x.history m) x))
+  pub given_took : (new : ReplicaState V) (done : StepOutput) (m given : StampedMessage) (x : Progress) → m ≡ given → stamped_refusal me x.history m ≡ None → StandsAt me new done (accept me m (note (compared_in me x.history m) x))
       → (outcome.Took ≡ (give_stamped me given x).outcome) × StandsAt me new done (give_stamped me given x).left
   given_took new done m given x same none s = subst (λ (y : StampedMessage). (outcome.Took ≡ (give_stamped me y x).outcome) × StandsAt me new done (give_stamped me y x).left) same
       (subst (λ (a : Answer). (outcome.Took ≡ a.outcome) × StandsAt me new done a.left) (sym (given_accepted m x none)) (refl, s))
 
-  pub given_closed : (new : ReplicaState V) (done : Done) (m given : StampedMessage) (ui : Ui) (o : Outcome) (x : Progress) → m ≡ given → ui ≡ ui_of m → stamped_refusal me x.history m ≡ Some o
+  pub given_closed : (new : ReplicaState V) (done : StepOutput) (m given : StampedMessage) (ui : Ui) (o : Outcome) (x : Progress) → m ≡ given → ui ≡ ui_of m → stamped_refusal me x.history m ≡ Some o
       → StandsAt me new done (closing o ui (note (compared_in me x.history m) x)) → (o ≡ (give_stamped me given x).outcome) × StandsAt me new done (give_stamped me given x).left
   given_closed new done m given ui o x same by some s = subst (λ (y : StampedMessage). (o ≡ (give_stamped me y x).outcome) × StandsAt me new done (give_stamped me y x).left) same
       (subst (λ (a : Answer). (o ≡ a.outcome) × StandsAt me new done a.left) (sym (given_refused m o x some))

@@ -22,7 +22,7 @@ use Rattle.mb_model.specs.Histories.{Identity}
 use Rattle.mb_model.specs.Given.{Answer, answer, give, give_stamped}
 use Rattle.mb_model.specs.HostStep.{rules_follow, asks_on}
 use Rattle.mb_model.specs.HostStep as host
-use Rattle.mb_replica.specs.declared.given.Answer.{Answer as GivenAnswer}
+use Rattle.mb_replica.specs.declared.given.Reaction.{Reaction as GivenAnswer}
 use Rattle.mb_replica.specs.Answers.{is_taken}
 use Rattle.mb_replica.specs.Represents.{Answers, IsOther}
 

@@ -25,19 +25,19 @@ use Rattle.mb_model.specs.PlainChecks.{last_seq, is_behind_pending, number_refus
 use Rattle.mb_model.specs.Given.{answer, answer_unless, answer_request, stored_reply, give_request, give_resend, give_fetch}
 use Rattle.mb_steps.specs.Arises.{Adds}
 use Rattle.mb_steps.proofs.StepPassed.{passes_request, passes_resend, passes_fetch}
-use Rattle.mb_searches.proofs.Framing.{low_stays}
+use Rattle.mb_history_laws.proofs.Framing.{low_stays}
 use Rattle.mb_fetch.specs.Snapshots.{parts_at}
-use Rattle.mb_keeper.specs.Sent.{kept_at}
+use Rattle.mb_executor.specs.Sent.{kept_at}
 use Rattle.mb_normal.specs.Tables.{Becomes}
 use Rattle.mb_normal.specs.Searches.{with_pending}
-use Rattle.mb_standing.specs.Tables.{Tables}
-use Rattle.mb_standing.proofs.Values.{clients_kept}
-use Rattle.mb_standing.proofs.Positions.{request_pended}
-use Rattle.mb_standing.proofs.Snapshots.{shelf_stays}
-use Rattle.mb_standing.proofs.FetchedParts.{held_stays}
-use Rattle.mb_standing.proofs.Together.{EachStands, stand_lags, stays, resend_leaves, fetch_leaves}
+use Rattle.mb_refinement.specs.Tables.{Tables}
+use Rattle.mb_refinement.proofs.Values.{clients_kept}
+use Rattle.mb_refinement.proofs.Positions.{request_pended}
+use Rattle.mb_refinement.proofs.Snapshots.{shelf_stays}
+use Rattle.mb_refinement.proofs.FetchedParts.{held_stays}
+use Rattle.mb_refinement.proofs.Together.{EachStands, stand_lags, stays, resend_leaves, fetch_leaves}
 use Rattle.mb_replica.specs.declared.state.ReplicaState.{ReplicaState}
-use Rattle.mb_replica.specs.declared.sending.Done.{Done}
+use Rattle.mb_replica.specs.declared.sending.StepOutput.{StepOutput}
 use Rattle.mb_replica.specs.Represents.{tables_of, Represents, StandsAt}
 use Rattle.mb_replica.specs.Between.{WritesNormal}
 use Rattle.mb_replica.proofs.Entries.{one_more, one_left, written}
@@ -96,7 +96,7 @@ again_number me d r is some =
 module _ {V : Type 0} (me : Identity V) where
   -- ---- a RESEND or a FETCH that is taken
 
-  pub resend_written : (r : ReplicaState V) (done : Done) (m : Resend) (x : Progress) → FitsResend r.agreement.shape m → None ≡ resend_refusal me x.history m → StandsAt me r done x → StandsAt me r done (write (Accepted (message.Resend m)) x)
+  pub resend_written : (r : ReplicaState V) (done : StepOutput) (m : Resend) (x : Progress) → FitsResend r.protocol.shape m → None ≡ resend_refusal me x.history m → StandsAt me r done x → StandsAt me r done (write (Accepted (message.Resend m)) x)
   resend_written r done m x fits is s =
       let rep = s.represents in
       let e = Accepted (message.Resend m) in
@@ -104,7 +104,7 @@ module _ {V : Type 0} (me : Identity V) where
       let here : FitsResend me.shape m = subst (λ (z : Shape). FitsResend z m) (sym rep.who.shape) fits in
       written me r r done e x refl (one_left me r e x.history rep refl taken ((message.Resend m, here, inl refl), tt) (resend_leaves me (tables_of r) m x.history rep.tables taken)) s
 
-  pub fetch_written : (r : ReplicaState V) (done : Done) (m : Fetch) (x : Progress) → FitsFetch r.agreement.shape m → None ≡ fetch_refusal me x.history m → StandsAt me r done x → StandsAt me r done (write (Accepted (message.Fetch m)) x)
+  pub fetch_written : (r : ReplicaState V) (done : StepOutput) (m : Fetch) (x : Progress) → FitsFetch r.protocol.shape m → None ≡ fetch_refusal me x.history m → StandsAt me r done x → StandsAt me r done (write (Accepted (message.Fetch m)) x)
   fetch_written r done m x fits is s =
       let rep = s.represents in
       let e = Accepted (message.Fetch m) in
@@ -133,13 +133,13 @@ module _ {V : Type 0} (me : Identity V) where
 
   -- ---- clients
 
-  pub clients_known : (r : ReplicaState V) (d : History) → Represents me r d → length r.keeper.served.table ≡ client_count r.agreement.shape
+  pub clients_known : (r : ReplicaState V) (d : History) → Represents me r d → length r.keeper.served.table ≡ client_count r.protocol.shape
   clients_known r d rep = ap (λ (y : Served V). length y.table) rep.tables.service ∙ (clients_kept me d ∙ ap client_count rep.who.shape)
 
   -- ---- a request that is taken
 
-  pub request_written : (old new : ReplicaState V) (done : Done) (r : Request) (x : Progress) → WritesNormal old new → Becomes old.agreement.normal new.agreement.normal (λ y. with_pending y r)
-      → FitsRequest old.agreement.shape r → request_refusal me x.history r ≡ None → StandsAt me old done x → StandsAt me new done (write (Accepted (message.Request r)) x)
+  pub request_written : (old new : ReplicaState V) (done : StepOutput) (r : Request) (x : Progress) → WritesNormal old new → Becomes old.protocol.normal new.protocol.normal (λ y. with_pending y r)
+      → FitsRequest old.protocol.shape r → request_refusal me x.history r ≡ None → StandsAt me old done x → StandsAt me new done (write (Accepted (message.Request r)) x)
   request_written old new done r x writes pends fits is s =
       let d : History = x.history in
       let rep = s.represents in
@@ -149,11 +149,11 @@ module _ {V : Type 0} (me : Identity V) where
       let here : FitsRequest me.shape r = subst (λ (z : Shape). FitsRequest z r) (sym rep.who.shape) fits in
       let left = stays me (low_of me d) t e d (stand_lags me t d rep.tables) adds in
       let low = low_stays me e d refl in
-      let each : EachStands me (record t { normal = new.agreement.normal }) (e ∷ d) = record {
+      let each : EachStands me (record t { normal = new.protocol.normal }) (e ∷ d) = record {
         counter = left.counter refl;
         gates = left.gates (λ h. refl);
         log = left.log refl;
-        normal = request_pended me r d t.normal new.agreement.normal (adds, rep.tables.sound.arises) pends rep.tables.normal;
+        normal = request_pended me r d t.normal new.protocol.normal (adds, rep.tables.sound.arises) pends rep.tables.normal;
         change = left.change refl;
         stable = left.stable refl;
         exec = left.exec refl;

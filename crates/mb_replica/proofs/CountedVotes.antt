@@ -30,14 +30,14 @@ use Rattle.mb_model.specs.Sending.{Progress, write}
 use Rattle.mb_model.specs.Given.{named_prepare, offer_prepare, closing}
 use Rattle.mb_steps.specs.Arises.{Arises}
 use Rattle.mb_steps.proofs.StepPassed.{passes_stamped}
-use Rattle.mb_searches.specs.Gates.{refusal_of}
-use Rattle.mb_searches.proofs.Named.{named_refusal}
-use Rattle.mb_searches.proofs.Sound.{accepted_adds}
-use Rattle.mb_standing.specs.Tables.{Tables}
-use Rattle.mb_standing.specs.GateCalls.{Judges}
-use Rattle.mb_standing.specs.Positions.{CountsVote, PutsSlot}
-use Rattle.mb_standing.proofs.Gates.{gate_refuses}
-use Rattle.mb_standing.proofs.PositionsVoted.{prepare_counts, prepare_does_not_count, commit_counts, commit_does_not_count}
+use Rattle.mb_history_laws.specs.Gates.{refusal_of}
+use Rattle.mb_history_laws.proofs.Named.{named_refusal}
+use Rattle.mb_history_laws.proofs.Sound.{accepted_adds}
+use Rattle.mb_refinement.specs.Tables.{Tables}
+use Rattle.mb_refinement.specs.GateCalls.{Judges}
+use Rattle.mb_refinement.specs.Positions.{CountsVote, PutsSlot}
+use Rattle.mb_refinement.proofs.Gates.{gate_refuses}
+use Rattle.mb_refinement.proofs.PositionsVoted.{prepare_counts, prepare_does_not_count, commit_counts, commit_does_not_count}
 use Rattle.mb_replica.specs.declared.state.ReplicaState.{ReplicaState}
 use Rattle.mb_replica.specs.Represents.{Represents}
 use Rattle.mb_replica.specs.Between.{WritesNormal, AwaitsGate, BehindCommit}
@@ -74,7 +74,7 @@ module _ {V : Type 0} where
   pub normal_again : (a b c : ReplicaState V) → WritesNormal a b → WritesNormal b c → WritesNormal a c
   normal_again a b c first second = record {
     same = same_again a b c first.same second.same;
-    tables = second.tables ∙ ap (λ (t : Tables V). record t { normal = c.agreement.normal }) first.tables;
+    tables = second.tables ∙ ap (λ (t : Tables V). record t { normal = c.protocol.normal }) first.tables;
   }
 
   module _ (me : Identity V) (old : ReplicaState V) (d : History) (r : Represents me old d) where
@@ -82,35 +82,35 @@ module _ {V : Type 0} where
 
     module _ (m : Prepare) (none : stamped_refusal me d (stamped.Prepare m) ≡ None) where
       pub prepare_counted : (voted new : ReplicaState V) (digest : Bytes) (batch : Option Batch) → counts_at me d m.view m.pos ≡ true → digest ≡ stamped_digest (stamped.Prepare m) → batch ≡ whole_body m.body
-          → CountsVote old.agreement.normal voted.agreement.normal m.pos m.ui.host (vote_of m.ui.counter digest) → WritesNormal old voted
-          → PutsSlot voted.agreement.normal new.agreement.normal m.pos (slot_of m.ui digest batch) → WritesNormal voted new → AwaitsGate me old new (stamped.Prepare m) d
+          → CountsVote old.protocol.normal voted.protocol.normal m.pos m.ui.host (vote_of m.ui.counter digest) → WritesNormal old voted
+          → PutsSlot voted.protocol.normal new.protocol.normal m.pos (slot_of m.ui digest batch) → WritesNormal voted new → AwaitsGate me old new (stamped.Prepare m) d
       prepare_counted voted new digest batch counts is whole votes first puts second =
           votes_await me old new (stamped.Prepare m) d r none (prepare_speaks m) (normal_again old voted new first second)
-          (prepare_counts me m d old.agreement.normal voted.agreement.normal new.agreement.normal (accepted_adds me (stamped.Prepare m) d none, r.tables.sound.arises) counts
-          (subst (λ (b : Bytes). CountsVote old.agreement.normal voted.agreement.normal m.pos m.ui.host (vote_of m.ui.counter b)) is votes)
-          (subst (λ (b : Bytes). PutsSlot voted.agreement.normal new.agreement.normal m.pos (slot_of m.ui b (whole_body m.body))) is
-          (subst (λ (o : Option Batch). PutsSlot voted.agreement.normal new.agreement.normal m.pos (slot_of m.ui digest o)) whole puts))
+          (prepare_counts me m d old.protocol.normal voted.protocol.normal new.protocol.normal (accepted_adds me (stamped.Prepare m) d none, r.tables.sound.arises) counts
+          (subst (λ (b : Bytes). CountsVote old.protocol.normal voted.protocol.normal m.pos m.ui.host (vote_of m.ui.counter b)) is votes)
+          (subst (λ (b : Bytes). PutsSlot voted.protocol.normal new.protocol.normal m.pos (slot_of m.ui b (whole_body m.body))) is
+          (subst (λ (o : Option Batch). PutsSlot voted.protocol.normal new.protocol.normal m.pos (slot_of m.ui digest o)) whole puts))
           r.tables.normal)
 
       pub prepare_passed_over : counts_at me d m.view m.pos ≡ false → AwaitsGate me old old (stamped.Prepare m) d
       prepare_passed_over not_so =
           votes_await me old old (stamped.Prepare m) d r none (prepare_speaks m) (nothing_written old)
-          (prepare_does_not_count me m d old.agreement.normal (accepted_adds me (stamped.Prepare m) d none, r.tables.sound.arises) not_so r.tables.normal)
+          (prepare_does_not_count me m d old.protocol.normal (accepted_adds me (stamped.Prepare m) d none, r.tables.sound.arises) not_so r.tables.normal)
 
     -- ---- COMMIT
 
     module _ (m : Commit) (none : stamped_refusal me d (stamped.Commit m) ≡ None) where
       pub commit_counted : (new : ReplicaState V) (digest : Bytes) → counts_at me d m.view m.pos ≡ true → digest ≡ stamped_digest (stamped.Commit m)
-          → CountsVote old.agreement.normal new.agreement.normal m.pos m.ui.host (vote_of m.counter digest) → WritesNormal old new → AwaitsGate me old new (stamped.Commit m) d
+          → CountsVote old.protocol.normal new.protocol.normal m.pos m.ui.host (vote_of m.counter digest) → WritesNormal old new → AwaitsGate me old new (stamped.Commit m) d
       commit_counted new digest counts is votes w =
           votes_await me old new (stamped.Commit m) d r none (commit_speaks m) w
-          (commit_counts me m d old.agreement.normal new.agreement.normal (accepted_adds me (stamped.Commit m) d none, r.tables.sound.arises) counts
-          (subst (λ (b : Bytes). CountsVote old.agreement.normal new.agreement.normal m.pos m.ui.host (vote_of m.counter b)) is votes) r.tables.normal)
+          (commit_counts me m d old.protocol.normal new.protocol.normal (accepted_adds me (stamped.Commit m) d none, r.tables.sound.arises) counts
+          (subst (λ (b : Bytes). CountsVote old.protocol.normal new.protocol.normal m.pos m.ui.host (vote_of m.counter b)) is votes) r.tables.normal)
 
       pub commit_passed_over : counts_at me d m.view m.pos ≡ false → AwaitsGate me old old (stamped.Commit m) d
       commit_passed_over not_so =
           votes_await me old old (stamped.Commit m) d r none (commit_speaks m) (nothing_written old)
-          (commit_does_not_count me m d old.agreement.normal (accepted_adds me (stamped.Commit m) d none, r.tables.sound.arises) not_so r.tables.normal)
+          (commit_does_not_count me m d old.protocol.normal (accepted_adds me (stamped.Commit m) d none, r.tables.sound.arises) not_so r.tables.normal)
 
     -- ---- the PREPARE that it names
 
@@ -126,13 +126,13 @@ module _ {V : Type 0} where
       pub future_refused : (p : Prepare) → p ≡ named_prepare me m → is_own_future me d p.ui ≡ true → Some outcome.Idle ≡ stamped_refusal me d (stamped.Prepare p)
       future_refused p is future = subst (λ (x : Prepare). (is_own_future me d x.ui ≡ true) → Some outcome.Idle ≡ stamped_refusal me d (stamped.Prepare x)) (sym is) (λ f. sym (named_refused ∙ rw f refl)) future
 
-      pub gate_answers : (p : Prepare) (mark : Mark) → p ≡ named_prepare me m → is_own_future me d p.ui ≡ false → FitsPrepare old.agreement.shape p → mark ≡ mark_of (stamped.Prepare p) → (at : ℕ) (gate : Gate) (o : Offer) → at ≡ p.ui.host
-          → gate ≡ get_or old.agreement.gates.items at gate → Judges gate mark true o → refusal_of o ≡ stamped_refusal me d (stamped.Prepare p)
+      pub gate_answers : (p : Prepare) (mark : Mark) → p ≡ named_prepare me m → is_own_future me d p.ui ≡ false → FitsPrepare old.protocol.shape p → mark ≡ mark_of (stamped.Prepare p) → (at : ℕ) (gate : Gate) (o : Offer) → at ≡ p.ui.host
+          → gate ≡ get_or old.protocol.gates.items at gate → Judges gate mark true o → refusal_of o ≡ stamped_refusal me d (stamped.Prepare p)
       gate_answers p mark is not_future fits mark_is at gate o same read judges =
-          let count = old.agreement.gates_len in
+          let count = old.protocol.gates_len in
           let host = fits.ui.host in
-          let lt : p.ui.host < length old.agreement.gates.items = omega (arith, count, host) in
-          let stands = r.tables.gates.each p.ui.host gate (stored old.agreement.gates.items p.ui.host at gate same lt read) in
+          let lt : p.ui.host < length old.protocol.gates.items = omega (arith, count, host) in
+          let stands = r.tables.gates.each p.ui.host gate (stored old.protocol.gates.items p.ui.host at gate same lt read) in
           let refuses : gate_refusal me d (stamped.Prepare p) ≡ refusal_of o = gate_refuses me d (stamped.Prepare p) mark gate o stands (marked mark (stamped.Prepare p) mark_is)
           (subst (λ (b : Bool). Judges gate mark b o) (sym (inner_of_prepare me p)) judges) in
           let named : stamped_refusal me d (stamped.Prepare p) ≡ option_or (then_some (is_own_future me d p.ui) outcome.Idle) (gate_refusal me d (stamped.Prepare p)) =

@@ -7,15 +7,15 @@ use Rattle.mb_model.specs.Histories.{Entry, History, Identity}
 use Rattle.mb_model.specs.Sending.{Progress, write}
 use Rattle.mb_model.specs.Given.{Answer}
 use Rattle.mb_steps.specs.Arises.{Adds}
-use Rattle.mb_searches.specs.Gates.{MovesGate}
-use Rattle.mb_searches.specs.Speaks.{is_stamp, is_served}
-use Rattle.mb_searches.proofs.Executing.{served_ends}
-use Rattle.mb_fitting.specs.Fitting.{ComesOfRead}
-use Rattle.mb_fitting.proofs.Fit.{unstamped_fit}
-use Rattle.mb_standing.specs.Stands.{Stand}
-use Rattle.mb_standing.proofs.Together.{EachStands, stands_behind}
+use Rattle.mb_history_laws.specs.Gates.{MovesGate}
+use Rattle.mb_history_laws.specs.Speaks.{is_stamp, is_served}
+use Rattle.mb_history_laws.proofs.Executing.{served_ends}
+use Rattle.mb_encodable.specs.Fitting.{ComesOfRead}
+use Rattle.mb_encodable.proofs.Fit.{unstamped_fit}
+use Rattle.mb_refinement.specs.Stands.{Stand}
+use Rattle.mb_refinement.proofs.Together.{EachStands, stands_behind}
 use Rattle.mb_replica.specs.declared.state.ReplicaState.{ReplicaState}
-use Rattle.mb_replica.specs.declared.sending.Done.{Done}
+use Rattle.mb_replica.specs.declared.sending.StepOutput.{StepOutput}
 use Rattle.mb_replica.specs.Represents.{tables_of, IsHost, Represents, StandsAt}
 use Rattle.mb_replica.specs.Between.{IsSame}
 
@@ -31,7 +31,7 @@ module _ {V : Type 0} (me : Identity V) where
 
   pub is_there : (r : ReplicaState V) → IsHost me r → me.host < host_count me.shape
   is_there r who =
-      let here : me.host < host_count r.agreement.shape = subst (λ (h : ℕ). h < host_count r.agreement.shape) (sym who.host) r.agreement.host_in in
+      let here : me.host < host_count r.protocol.shape = subst (λ (h : ℕ). h < host_count r.protocol.shape) (sym who.host) r.protocol.host_in in
       subst (λ (s : Shape). me.host < host_count s) (sym who.shape) here
 
   -- ---- one entry more
@@ -54,7 +54,7 @@ module _ {V : Type 0} (me : Identity V) where
 
   -- ---- in a step
 
-  pub written : (old new : ReplicaState V) (done : Done) (e : Entry) (x : Progress) → is_served e ≡ false → Represents me new (e ∷ x.history) → StandsAt me old done x → StandsAt me new done (write e x)
+  pub written : (old new : ReplicaState V) (done : StepOutput) (e : Entry) (x : Progress) → is_served e ≡ false → Represents me new (e ∷ x.history) → StandsAt me old done x → StandsAt me new done (write e x)
   written old new done e x none rep s = record {
     represents = rep;
     serving = served_ends e x.history none;
@@ -64,8 +64,8 @@ module _ {V : Type 0} (me : Identity V) where
   }
 
   -- the outcome of a message, and where the step stands then
-  abbrev pub Gives : ReplicaState V → Done → Outcome → Answer → Type 0
+  abbrev pub Gives : ReplicaState V → StepOutput → Outcome → Answer → Type 0
   Gives r done o a = (o ≡ a.outcome) × StandsAt me r done a.left
 
-  pub gives_as : (r : ReplicaState V) (done : Done) (o : Outcome) (a b : Answer) → a ≡ b → Gives r done o a → Gives r done o b
+  pub gives_as : (r : ReplicaState V) (done : StepOutput) (o : Outcome) (a b : Answer) → a ≡ b → Gives r done o a → Gives r done o b
   gives_as r done o a b same g = subst (Gives r done o) same g

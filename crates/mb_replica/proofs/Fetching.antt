@@ -26,16 +26,16 @@ use Rattle.mb_model.specs.PlainChecks.{wrong_part, wrong_digest, is_wanted, are_
 use Rattle.mb_model.specs.Sending.{Progress, write}
 use Rattle.mb_model.specs.HostStep.{is_taken as step_taken}
 use Rattle.mb_model.specs.Given.{Answer, answer, answer_state, install, install_where_all, give_state}
-use Rattle.mb_searches.proofs.Executing.{parts_held_more}
+use Rattle.mb_history_laws.proofs.Executing.{parts_held_more}
 use Rattle.mb_fetch.specs.Fetched.{Fetched}
 use Rattle.mb_fetch.specs.Checks.{HasParts, list_digest, first_wrong}
 use Rattle.mb_fetch.specs.Parts.{joined, first_missing, all_found}
-use Rattle.mb_keeper.specs.Keeping.{found, AreOf}
-use Rattle.mb_keeper.specs.Taking.{are_held}
-use Rattle.mb_keeper.specs.Taking as keeper
-use Rattle.mb_standing.specs.Stands.{HeldStand}
+use Rattle.mb_executor.specs.Keeping.{found, AreOf}
+use Rattle.mb_executor.specs.Taking.{are_held}
+use Rattle.mb_executor.specs.Taking as keeper
+use Rattle.mb_refinement.specs.Stands.{HeldStand}
 use Rattle.mb_replica.specs.declared.state.ReplicaState.{ReplicaState}
-use Rattle.mb_replica.specs.declared.given.Answer.{Answer as GivenAnswer}
+use Rattle.mb_replica.specs.declared.given.Reaction.{Reaction as GivenAnswer}
 use Rattle.mb_replica.specs.Answers.{is_taken}
 use Rattle.mb_replica.specs.Represents.{Represents, Answers}
 use Rattle.mb_replica.proofs.Asking.{clients_known}
@@ -79,16 +79,16 @@ module _ {V : Type 0} (me : Identity V) where
     by_test true same w = (eqb-true pos (low_of me d) same, w)
     by_test false other w = absurd cc
 
-  pub wanted_is : (r : ReplicaState V) (d : History) (pos : ℕ) → Represents me r d → pos ≡ r.agreement.stable.pos → r.agreement.exec < r.agreement.stable.pos → is_wanted me d pos ≡ true
+  pub wanted_is : (r : ReplicaState V) (d : History) (pos : ℕ) → Represents me r d → pos ≡ r.protocol.stable.pos → r.protocol.exec < r.protocol.stable.pos → is_wanted me d pos ≡ true
   wanted_is r d pos rep at behind =
       let low : pos ≡ low_of me d = at ∙ ap (λ (c : StableCert). c.pos) rep.tables.stable in
       rw (eq-eqb pos (low_of me d) low) (behind_is me r d rep behind)
 
   -- So the tables say it.
-  pub wanted_stable : (r : ReplicaState V) (d : History) (pos : ℕ) → Represents me r d → is_wanted me d pos ≡ true → pos ≡ r.agreement.stable.pos
+  pub wanted_stable : (r : ReplicaState V) (d : History) (pos : ℕ) → Represents me r d → is_wanted me d pos ≡ true → pos ≡ r.protocol.stable.pos
   wanted_stable r d pos rep wanted = (wanted_here pos d wanted).0 ∙ sym (ap (λ (c : StableCert). c.pos) rep.tables.stable)
 
-  pub wanted_behind : (r : ReplicaState V) (d : History) (pos : ℕ) → Represents me r d → is_wanted me d pos ≡ true → r.agreement.exec < r.agreement.stable.pos
+  pub wanted_behind : (r : ReplicaState V) (d : History) (pos : ℕ) → Represents me r d → is_wanted me d pos ≡ true → r.protocol.exec < r.protocol.stable.pos
   wanted_behind r d pos rep wanted = behind_here me r d rep (wanted_here pos d wanted).1
 
   -- ---- what follows a STATE
@@ -116,7 +116,7 @@ module _ {V : Type 0} (me : Identity V) where
     pub at_low : m.pos ≡ low_of me x.history
     at_low = (wanted_here m.pos x.history wanted).0
 
-    pub digest_is : r.agreement.stable.state ≡ (stable_of me x.history).state
+    pub digest_is : r.protocol.stable.state ≡ (stable_of me x.history).state
     digest_is = ap (λ (c : StableCert). c.state) rep.tables.stable
 
     search_is : found r.keeper.fetched ≡ part_held me x.history
@@ -137,23 +137,23 @@ module _ {V : Type 0} (me : Identity V) where
 
     -- ---- what it is refused for
 
-    refused : state_refusal me x.history m ≡ option_or (wrong_digest (first_wrong r.agreement.stable.state m)) (option_or (then_some (are_held search m) outcome.Idle) (bad_state me (taken_now ∷ x.history)))
+    refused : state_refusal me x.history m ≡ option_or (wrong_digest (first_wrong r.protocol.stable.state m)) (option_or (then_some (are_held search m) outcome.Idle) (bad_state me (taken_now ∷ x.history)))
     unfolding state_refusal
     refused =
         let more : Option Outcome = option_or (then_some (are_all_held me x.history m) outcome.Idle) (bad_state me (taken_now ∷ x.history)) in
         let idle : are_all_held me x.history m ≡ are_held search m = ap (λ (f : ℕ → Option Bytes). list_all (λ i. is_some (f i)) (range_with_len m.first (length m.parts))) (sym search_is) in
         rw wanted (ap (λ (digest : Bytes). option_or (then_some (not (same_bytes (list_digest m) digest)) (outcome.WrongDigest part_count)) (option_or (wrong_digest (wrong_part m.digests m.first m.parts)) more)) (sym digest_is)
-        ∙ (list_first (same_bytes (list_digest m) r.agreement.stable.state) (wrong_part m.digests m.first m.parts) more
-        ∙ ap (λ (b : Bool). option_or (wrong_digest (first_wrong r.agreement.stable.state m)) (option_or (then_some b outcome.Idle) (bad_state me (taken_now ∷ x.history)))) idle))
+        ∙ (list_first (same_bytes (list_digest m) r.protocol.stable.state) (wrong_part m.digests m.first m.parts) more
+        ∙ ap (λ (b : Bool). option_or (wrong_digest (first_wrong r.protocol.stable.state m)) (option_or (then_some b outcome.Idle) (bad_state me (taken_now ∷ x.history)))) idle))
 
     given_by : (o : Option Outcome) → state_refusal me x.history m ≡ o → answer_state me o m x ≡ give_state me m x
     unfolding give_state
     given_by o is = ap (λ (p : Option Outcome). answer_state me p m x) (sym is)
 
-    pub wrong_given : (part : ℕ) → first_wrong r.agreement.stable.state m ≡ Some part → answer (outcome.WrongDigest part) x ≡ give_state me m x
+    pub wrong_given : (part : ℕ) → first_wrong r.protocol.stable.state m ≡ Some part → answer (outcome.WrongDigest part) x ≡ give_state me m x
     wrong_given part wrong = given_by (Some (outcome.WrongDigest part)) (refused ∙ rw wrong refl)
 
-    module _ (right : first_wrong r.agreement.stable.state m ≡ None) where
+    module _ (right : first_wrong r.protocol.stable.state m ≡ None) where
       pub held_given : are_held search m ≡ true → answer outcome.Idle x ≡ give_state me m x
       held_given all = given_by (Some outcome.Idle) (refused ∙ rw (right, all) refl)
 

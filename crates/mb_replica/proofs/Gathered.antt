@@ -22,5 +22,5 @@ module _ {V : Type 0} {A : Type 0} (r : ReplicaState V) (f : Identity V → Hist
       ap (λ (k : List A). k ++ x ∷ []) (so_far me d rep) ∙ (ap (λ (y : A). map (f me d) (range_with_len 0 n) ++ y ∷ []) (is me d rep) ∙ sym (map-range_with_len_more (f me d) 0 n n place))
 
   -- those of all hosts
-  pub all_gathered : (l : List A) (n : ℕ) → n ≡ host_count r.agreement.shape → Gathered l n → (me : Identity V) (d : History) → Represents me r d → l ≡ map (f me d) (range_with_len 0 (host_count me.shape))
+  pub all_gathered : (l : List A) (n : ℕ) → n ≡ host_count r.protocol.shape → Gathered l n → (me : Identity V) (d : History) → Represents me r d → l ≡ map (f me d) (range_with_len 0 (host_count me.shape))
   all_gathered l n all so_far me d rep = so_far me d rep ∙ ap (λ (k : ℕ). map (f me d) (range_with_len 0 k)) (all ∙ ap (λ (s : Shape). host_count s) (sym rep.who.shape))

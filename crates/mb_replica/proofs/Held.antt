@@ -30,17 +30,17 @@ use Rattle.mb_change.specs.Written.{with_planned, with_announced, with_shown, br
 use Rattle.mb_normal.specs.Searches.{searches_in, above_low}
 use Rattle.mb_normal.specs.Tables.{Represents as NormalRepresents}
 use Rattle.mb_normal.specs.declared.normal.Normal.{Normal}
-use Rattle.mb_searches.specs.Speaks.{changes_view, speaks_of_snapshots, speaks_of_parts}
-use Rattle.mb_searches.proofs.Certified.{stable_shown, stable_of_plan, stable_of_opened}
-use Rattle.mb_searches.proofs.Sound.{accepted_adds}
-use Rattle.mb_searches.proofs.Standing.{view_stays}
-use Rattle.mb_standing.specs.Tables.{Tables}
-use Rattle.mb_standing.specs.Stands.{NormalStands, ChangeStands}
-use Rattle.mb_standing.specs.Positions.{Learns, AreOpens, above_raise, hosts_below}
-use Rattle.mb_standing.proofs.Changes.{change_stands, open_gives_none}
-use Rattle.mb_standing.proofs.Positions.{raised_where_above}
-use Rattle.mb_standing.proofs.PositionsOpens.{new_view_counted, open_counted, opens_stay, opens_more}
-use Rattle.mb_standing.proofs.PositionsVoted.{join_learnt}
+use Rattle.mb_history_laws.specs.Speaks.{changes_view, speaks_of_snapshots, speaks_of_parts}
+use Rattle.mb_history_laws.proofs.Certified.{stable_shown, stable_of_plan, stable_of_opened}
+use Rattle.mb_history_laws.proofs.Sound.{accepted_adds}
+use Rattle.mb_history_laws.proofs.Standing.{view_stays}
+use Rattle.mb_refinement.specs.Tables.{Tables}
+use Rattle.mb_refinement.specs.Stands.{NormalStands, ChangeStands}
+use Rattle.mb_refinement.specs.Positions.{Learns, AreOpens, above_raise, hosts_below}
+use Rattle.mb_refinement.proofs.Changes.{change_stands, open_gives_none}
+use Rattle.mb_refinement.proofs.Positions.{raised_where_above}
+use Rattle.mb_refinement.proofs.PositionsOpens.{new_view_counted, open_counted, opens_stay, opens_more}
+use Rattle.mb_refinement.proofs.PositionsVoted.{join_learnt}
 use Rattle.mb_replica.specs.declared.state.ReplicaState.{ReplicaState}
 use Rattle.mb_replica.specs.Represents.{Represents, tables_of}
 use Rattle.mb_replica.specs.Between.{WritesNormal, WritesChange, WritesLearnt, AwaitsGate}
@@ -59,39 +59,39 @@ module _ {V : Type 0} where
   pub wrote_again : (a b c : ReplicaState V) → WritesChange a b → WritesChange b c → WritesChange a c
   wrote_again a b c first second = record {
     same = same_again a b c first.same second.same;
-    tables = second.tables ∙ ap (λ (t : Tables V). record t { change = c.agreement.change }) first.tables;
+    tables = second.tables ∙ ap (λ (t : Tables V). record t { change = c.protocol.change }) first.tables;
   }
 
   -- Where the table of view changes alone was written, the keeper is as it was.
   keeper_left : (old new : ReplicaState V) → WritesChange old new → new.keeper ≡ old.keeper
   keeper_left old new writes = ap (λ (t : Tables V). record { served = t.service; snapshots = t.shelf; fetched = t.parts }) writes.tables
 
-  stable_left : (old new : ReplicaState V) → WritesChange old new → new.agreement.stable ≡ old.agreement.stable
+  stable_left : (old new : ReplicaState V) → WritesChange old new → new.protocol.stable ≡ old.protocol.stable
   stable_left old new writes = ap (λ (t : Tables V). t.stable) writes.tables
 
-  normal_left : (old new : ReplicaState V) → WritesChange old new → new.agreement.normal ≡ old.agreement.normal
+  normal_left : (old new : ReplicaState V) → WritesChange old new → new.protocol.normal ≡ old.protocol.normal
   normal_left old new writes = ap (λ (t : Tables V). t.normal) writes.tables
 
   -- No certificate was learnt.
-  pub wrote_alone : (old new : ReplicaState V) (f : ChangeSearches → ChangeSearches) → WritesChange old new → StandsWith old.agreement.change f new.agreement.change → Holds f None old new
+  pub wrote_alone : (old new : ReplicaState V) (f : ChangeSearches → ChangeSearches) → WritesChange old new → StandsWith old.protocol.change f new.protocol.change → Holds f None old new
   wrote_alone old new f writes stands = record {
     same = writes.same;
     stands = stands;
     learns = normal_left old new writes;
     keeper = keeper_left old new writes;
-    tables = writes.tables ∙ sym (ap (λ (t : Tables V). record (tables_of old) { normal = t.normal; change = new.agreement.change; shelf = t.shelf; parts = t.parts }) writes.tables);
+    tables = writes.tables ∙ sym (ap (λ (t : Tables V). record (tables_of old) { normal = t.normal; change = new.protocol.change; shelf = t.shelf; parts = t.parts }) writes.tables);
   }
 
   -- Then something is held.
-  pub wrote_then_held : (old mid new : ReplicaState V) (f g : ChangeSearches → ChangeSearches) (c : Option StableCert) → WritesChange old mid → StandsWith old.agreement.change f mid.agreement.change → Holds g c mid new → Holds (λ s. g (f s)) c old new
+  pub wrote_then_held : (old mid new : ReplicaState V) (f g : ChangeSearches → ChangeSearches) (c : Option StableCert) → WritesChange old mid → StandsWith old.protocol.change f mid.protocol.change → Holds g c mid new → Holds (λ s. g (f s)) c old new
   wrote_then_held old mid new f g c writes stands holds = record {
     same = same_again old mid new writes.same holds.same;
     stands = λ s r. holds.stands (f s) (stands s r);
-    learns = subst (λ (n : Normal). Learns old.agreement.stable c n new.agreement.normal) (normal_left old mid writes) (subst (λ (s : StableCert). Learns s c mid.agreement.normal new.agreement.normal) (stable_left old mid writes) holds.learns);
-    keeper = holds.keeper ∙ ap (λ (s : StableCert). kept_behind s c mid.keeper) (stable_left old mid writes) ∙ ap (kept_behind old.agreement.stable c) (keeper_left old mid writes);
+    learns = subst (λ (n : Normal). Learns old.protocol.stable c n new.protocol.normal) (normal_left old mid writes) (subst (λ (s : StableCert). Learns s c mid.protocol.normal new.protocol.normal) (stable_left old mid writes) holds.learns);
+    keeper = holds.keeper ∙ ap (λ (s : StableCert). kept_behind s c mid.keeper) (stable_left old mid writes) ∙ ap (kept_behind old.protocol.stable c) (keeper_left old mid writes);
     tables = holds.tables
-        ∙ ap (λ (s : StableCert). record (tables_of mid) { normal = new.agreement.normal; change = new.agreement.change; stable = further s c; shelf = new.keeper.snapshots; parts = new.keeper.fetched }) (stable_left old mid writes)
-        ∙ ap (λ (t : Tables V). record t { normal = new.agreement.normal; change = new.agreement.change; stable = further old.agreement.stable c; shelf = new.keeper.snapshots; parts = new.keeper.fetched }) writes.tables;
+        ∙ ap (λ (s : StableCert). record (tables_of mid) { normal = new.protocol.normal; change = new.protocol.change; stable = further s c; shelf = new.keeper.snapshots; parts = new.keeper.fetched }) (stable_left old mid writes)
+        ∙ ap (λ (t : Tables V). record t { normal = new.protocol.normal; change = new.protocol.change; stable = further old.protocol.stable c; shelf = new.keeper.snapshots; parts = new.keeper.fetched }) writes.tables;
   }
 
   -- A certificate alone is learnt.
@@ -102,9 +102,9 @@ module _ {V : Type 0} where
     learns = writes.learns;
     keeper = writes.keeper;
     tables = writes.tables ∙ sym (ap (λ (t : Tables V). record (tables_of old) {
-      normal = new.agreement.normal;
+      normal = new.protocol.normal;
       change = t.change;
-      stable = further old.agreement.stable (Some c);
+      stable = further old.protocol.stable (Some c);
       shelf = new.keeper.snapshots;
       parts = new.keeper.fetched;
     }) writes.tables);
@@ -142,7 +142,7 @@ module _ {V : Type 0} where
 
     -- Else it is, with its plan.
     pub announced_held : (old mid new : ReplicaState V) (m : NewView) (b : NewViewBody) (plan : Plan) → is_current me d m.view ≡ true → m.body ≡ Whole b → plan ≡ plan_from me b.changes → WritesChange old mid
-        → StandsWith old.agreement.change (with_new_view m) mid.agreement.change → Holds (with_plan m.view plan) (Some plan.base) mid new → HoldsEntry me d (Accepted (message.NewView m)) old new
+        → StandsWith old.protocol.change (with_new_view m) mid.protocol.change → Holds (with_plan m.view plan) (Some plan.base) mid new → HoldsEntry me d (Accepted (message.NewView m)) old new
     announced_held old mid new m b plan current whole is writes stands holds =
         let P : Option (ℕ × Plan) → Option NewView → Type 0 = λ x n. Holds (λ s. with_planned x (with_announced n s)) (plan_base x) old new in
         let held : P (Some (m.view, plan)) (Some m) = wrote_then_held old mid new (with_new_view m) (with_plan m.view plan) (Some plan.base) writes stands holds in
@@ -151,8 +151,8 @@ module _ {V : Type 0} where
         subst (λ (x : Option (ℕ × Plan)). P x (new_view_in me d (Accepted (message.NewView m)))) (sym brings) (subst (λ (n : Option NewView). P (Some (m.view, plan)) n) (sym announces) held)
 
     -- An OPEN that is kept, and of which the evidence is held where it is news.
-    module _ (old shown opened : ReplicaState V) (m : Open) (first : WritesChange old shown) (shows : StandsWith old.agreement.change (with_shown me d (Some m.evidence)) shown.agreement.change)
-        (second : WritesChange shown opened) (opens : StandsWith shown.agreement.change (with_opened m.ui.host (opened_in (Some m.evidence))) opened.agreement.change) where
+    module _ (old shown opened : ReplicaState V) (m : Open) (first : WritesChange old shown) (shows : StandsWith old.protocol.change (with_shown me d (Some m.evidence)) shown.protocol.change)
+        (second : WritesChange shown opened) (opens : StandsWith shown.protocol.change (with_opened m.ui.host (opened_in (Some m.evidence))) opened.protocol.change) where
       pub opened_alone : gives_plan me d (plan_held me d) m.evidence ≡ false → HoldsEntry me d (Accepted (message.Open m)) old opened
       opened_alone gives =
           subst (λ (x : Option (ℕ × Plan)). Holds (λ s. with_planned x (with_shown me d (Some m.evidence) (with_opened m.ui.host (opened_in (Some m.evidence)) s))) (plan_base x) old opened) (sym (open_gives_none me m d gives))
@@ -181,33 +181,33 @@ module _ {V : Type 0} (me : Identity V) (old : ReplicaState V) (m : StampedMessa
   -- Behind what was held the tables of the normal case were written: then the gate of the sender is awaited.
   pub awaits_held : (mid new : ReplicaState V) (f : ChangeSearches → ChangeSearches) (c : Option StableCert) → Holds f c old mid → WritesNormal mid new → stable_of me (Accepted (as_message m) ∷ d) ≡ further (stable_of me d) c
       → LeavesOthers (Accepted (as_message m)) → speaks_of_snapshots (Accepted (as_message m)) ≡ false → speaks_of_parts (Accepted (as_message m)) ≡ false
-      → NormalStands me new.agreement.normal (Accepted (as_message m) ∷ d) → ChangeStands me mid.agreement.change (Accepted (as_message m) ∷ d) → AwaitsGate me old new m d
+      → NormalStands me new.protocol.normal (Accepted (as_message m) ∷ d) → ChangeStands me mid.protocol.change (Accepted (as_message m) ∷ d) → AwaitsGate me old new m d
   awaits_held mid new f c holds writes brings leaves snapshots parts normal change =
       let e : Entry = Accepted (as_message m) in
       let kept : KeptStands me old d rep e mid.keeper = subst (KeptStands me old d rep e) (sym holds.keeper) (kept_learnt me old d rep e snapshots parts c brings) in
-      awaits me old new m d rep passed leaves new.agreement.normal mid.agreement.change (further old.agreement.stable c) mid.keeper.snapshots mid.keeper.fetched (same_again old mid new holds.same writes.same)
-      (writes.tables ∙ ap (λ (t : Tables V). record t { normal = new.agreement.normal }) holds.tables) normal change (stable_learnt me old d rep e c brings) kept.shelf kept.parts
+      awaits me old new m d rep passed leaves new.protocol.normal mid.protocol.change (further old.protocol.stable c) mid.keeper.snapshots mid.keeper.fetched (same_again old mid new holds.same writes.same)
+      (writes.tables ∙ ap (λ (t : Tables V). record t { normal = new.protocol.normal }) holds.tables) normal change (stable_learnt me old d rep e c brings) kept.shelf kept.parts
 
   -- the table of view changes behind it
-  changed : (mid : ReplicaState V) → HoldsEntry me d (Accepted (as_message m)) old mid → ChangeStands me mid.agreement.change (Accepted (as_message m) ∷ d)
-  changed mid holds = change_stands me old.agreement.change mid.agreement.change (Accepted (as_message m)) d (same_table old mid holds.same) holds.stands rep.tables.change
+  changed : (mid : ReplicaState V) → HoldsEntry me d (Accepted (as_message m)) old mid → ChangeStands me mid.protocol.change (Accepted (as_message m) ∷ d)
+  changed mid holds = change_stands me old.protocol.change mid.protocol.change (Accepted (as_message m)) d (same_table old mid holds.same) holds.stands rep.tables.change
 
-  raised_behind : (mid : ReplicaState V) (c : Option StableCert) → stable_of me (Accepted (as_message m) ∷ d) ≡ further (stable_of me d) c → Learns old.agreement.stable c old.agreement.normal mid.agreement.normal
-      → NormalRepresents me.shape me.host mid.agreement.normal (above_raise me (Accepted (as_message m)) d)
+  raised_behind : (mid : ReplicaState V) (c : Option StableCert) → stable_of me (Accepted (as_message m) ∷ d) ≡ further (stable_of me d) c → Learns old.protocol.stable c old.protocol.normal mid.protocol.normal
+      → NormalRepresents me.shape me.host mid.protocol.normal (above_raise me (Accepted (as_message m)) d)
   raised_behind mid c brings learns =
-      subst (λ (y : StableCert). NormalRepresents me.shape me.host mid.agreement.normal (above_low (searches_in me d) y.pos)) (sym brings)
-      (raised_where_above me.shape me.host old.agreement.normal (searches_in me d) rep.tables.normal mid.agreement.normal (stable_of me d) c refl
-      (subst (λ (s : StableCert). Learns s c old.agreement.normal mid.agreement.normal) rep.tables.stable learns))
+      subst (λ (y : StableCert). NormalRepresents me.shape me.host mid.protocol.normal (above_low (searches_in me d) y.pos)) (sym brings)
+      (raised_where_above me.shape me.host old.protocol.normal (searches_in me d) rep.tables.normal mid.protocol.normal (stable_of me d) c refl
+      (subst (λ (s : StableCert). Learns s c old.protocol.normal mid.protocol.normal) rep.tables.stable learns))
 
   -- What came with a plan is taken, and the votes of OPENs are counted.
   pub plan_taken : (mid new : ReplicaState V) (here : ℕ) → HoldsEntry me d (Accepted (as_message m)) old mid → WritesNormal mid new → CountsOpens here mid new → here ≡ view_of me d
       → BringsPlan me (Accepted (as_message m)) d → AreOpens me.shape (Accepted (as_message m) ∷ d)
-      → (StandsCounting me (Accepted (as_message m) ∷ d) (above_raise me (Accepted (as_message m)) d) (hosts_below (host_count me.shape)) new → NormalStands me new.agreement.normal (Accepted (as_message m) ∷ d)) → AwaitsGate me old new m d
+      → (StandsCounting me (Accepted (as_message m) ∷ d) (above_raise me (Accepted (as_message m)) d) (hosts_below (host_count me.shape)) new → NormalStands me new.protocol.normal (Accepted (as_message m) ∷ d)) → AwaitsGate me old new m d
   plan_taken mid new here holds writes counts is b opens stands =
       let e : Entry = Accepted (as_message m) in
       let c : Option StableCert = plan_base (brought me d e) in
       let now : Counts me (e ∷ d) (above_raise me e d) here mid = record { change = changed mid holds; view_is = is ∙ sym (view_stays me e d arises b.stays); opens = opens; low = refl } in
-      let shape : mid.agreement.shape ≡ me.shape = holds.same.shape ∙ sym rep.who.shape in
+      let shape : mid.protocol.shape ≡ me.shape = holds.same.shape ∙ sym rep.who.shape in
       let counted : StandsCounting me (e ∷ d) (above_raise me e d) (hosts_below (host_count me.shape)) new =
       subst (λ (s : Shape). StandsCounting me (e ∷ d) (above_raise me e d) (hosts_below (host_count s)) new) shape (counts me (e ∷ d) (above_raise me e d) now (raised_behind mid c b.brings holds.learns)) in
       awaits_held mid new (written me d e) c holds writes b.brings b.leaves b.snapshots b.parts
@@ -222,9 +222,9 @@ module _ {V : Type 0} (me : Identity V) (old : ReplicaState V) (d : History) (re
     snapshots = refl;
     parts = refl;
     brings = stable_of_plan me m d;
-  }) opens (λ st. new_view_counted me m d new.agreement.normal (arises me old (stamped.NewView m) d rep passed) opens st)
+  }) opens (λ st. new_view_counted me m d new.protocol.normal (arises me old (stamped.NewView m) d rep passed) opens st)
 
-  pub open_taken : (m : Open) → FitsOpen old.agreement.shape m → stamped_refusal me d (stamped.Open m) ≡ None → (mid new : ReplicaState V) (here : ℕ) → HoldsEntry me d (Accepted (message.Open m)) old mid → WritesNormal mid new → CountsOpens here mid new
+  pub open_taken : (m : Open) → FitsOpen old.protocol.shape m → stamped_refusal me d (stamped.Open m) ≡ None → (mid new : ReplicaState V) (here : ℕ) → HoldsEntry me d (Accepted (message.Open m)) old mid → WritesNormal mid new → CountsOpens here mid new
       → here ≡ view_of me d → AwaitsGate me old new (stamped.Open m) d
   open_taken m fits passed mid new here holds writes counts is = let opens = opens_more me.shape m d (subst (λ (s : Shape). m.ui.host < host_count s) (sym rep.who.shape) fits.ui.host) fits.evidence.view.0 (opens_are me d rep.fit.values) in plan_taken me old (stamped.Open m) d rep passed mid new here holds writes counts is (record {
     leaves = record { counter = refl; log = refl; executed = refl; state = refl; nudge = refl };
@@ -232,13 +232,13 @@ module _ {V : Type 0} (me : Identity V) (old : ReplicaState V) (d : History) (re
     snapshots = refl;
     parts = refl;
     brings = stable_of_opened me m d;
-  }) opens (λ st. open_counted me m d new.agreement.normal (arises me old (stamped.Open m) d rep passed) opens st)
+  }) opens (λ st. open_counted me m d new.protocol.normal (arises me old (stamped.Open m) d rep passed) opens st)
 
   pub join_taken : (m : Join) → stamped_refusal me d (stamped.Join m) ≡ None → (new : ReplicaState V) → Holds (with_shown me d m.evidence) (Some m.stable) old new → AwaitsGate me old new (stamped.Join m) d
   join_taken m passed new holds =
       let e : Entry = Accepted (message.Join m) in
-      let learns : Learns (stable_of me d) (Some m.stable) old.agreement.normal new.agreement.normal = subst (λ (s : StableCert). Learns s (Some m.stable) old.agreement.normal new.agreement.normal) rep.tables.stable holds.learns in
+      let learns : Learns (stable_of me d) (Some m.stable) old.protocol.normal new.protocol.normal = subst (λ (s : StableCert). Learns s (Some m.stable) old.protocol.normal new.protocol.normal) rep.tables.stable holds.learns in
       awaits_held me old (stamped.Join m) d rep passed new new (with_shown me d m.evidence) (Some m.stable) holds (none_written new) (stable_shown me m d)
       (record { counter = refl; log = refl; executed = refl; state = refl; nudge = refl }) refl refl
-      (join_learnt me m d old.agreement.normal new.agreement.normal (arises me old (stamped.Join m) d rep passed) learns rep.tables.normal)
-      (change_stands me old.agreement.change new.agreement.change e d (same_table old new holds.same) holds.stands rep.tables.change)
+      (join_learnt me m d old.protocol.normal new.protocol.normal (arises me old (stamped.Join m) d rep passed) learns rep.tables.normal)
+      (change_stands me old.protocol.change new.protocol.change e d (same_table old new holds.same) holds.stands rep.tables.change)

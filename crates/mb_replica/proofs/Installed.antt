@@ -18,33 +18,33 @@ use Rattle.mb_model.specs.Sending.{Progress, write}
 use Rattle.mb_model.specs.Given.{install}
 use Rattle.mb_steps.specs.Arises.{Adds}
 use Rattle.mb_steps.proofs.StepPassed.{passes_state}
-use Rattle.mb_searches.specs.Sound.{IsSound}
-use Rattle.mb_searches.proofs.Sound.{stays_sound}
-use Rattle.mb_searches.proofs.Framing.{low_stays, stable_stays, exec_stays}
-use Rattle.mb_searches.proofs.Executing.{served_ends}
-use Rattle.mb_fitting.specs.Fitting.{ComesOfRead, AreFit}
-use Rattle.mb_fitting.proofs.Fit.{unstamped_fit}
+use Rattle.mb_history_laws.specs.Sound.{IsSound}
+use Rattle.mb_history_laws.proofs.Sound.{stays_sound}
+use Rattle.mb_history_laws.proofs.Framing.{low_stays, stable_stays, exec_stays}
+use Rattle.mb_history_laws.proofs.Executing.{served_ends}
+use Rattle.mb_encodable.specs.Fitting.{ComesOfRead, AreFit}
+use Rattle.mb_encodable.proofs.Fit.{unstamped_fit}
 use Rattle.mb_fetch.specs.Fetched.{Fetched}
 use Rattle.mb_fetch.specs.Parts.{joined}
 use Rattle.mb_normal.specs.declared.normal.Normal.{Normal}
 use Rattle.mb_normal.specs.Tables.{Represents as NormalRepresents}
 use Rattle.mb_normal.specs.Searches.{searches_in}
 use Rattle.mb_cache.specs.Tables.{last_of}
-use Rattle.mb_keeper.specs.Keeping.{Keeping, found, with_served, with_fetched}
-use Rattle.mb_keeper.specs.Taking.{HoldsParts, emptied}
-use Rattle.mb_standing.specs.Tables.{Tables}
-use Rattle.mb_standing.specs.Positions.{settled_below, installed_numbers}
-use Rattle.mb_standing.specs.Stands.{Stand, NormalStands, HeldStand}
-use Rattle.mb_standing.proofs.Gates.{gates_stay}
-use Rattle.mb_standing.proofs.OwnLogs.{own_log_stays}
-use Rattle.mb_standing.proofs.Changes.{change_stays}
-use Rattle.mb_standing.proofs.Values.{own_counter_stays, certificate_stays, asked_left, service_installed, installed_position, clients_kept}
-use Rattle.mb_standing.proofs.Positions.{normal_stays, requests_settled}
-use Rattle.mb_standing.proofs.Snapshots.{shelf_stays}
-use Rattle.mb_standing.proofs.FetchedParts.{parts_gone, parts_used}
-use Rattle.mb_standing.proofs.Together.{EachStands, stand_lags, stays}
+use Rattle.mb_executor.specs.Keeping.{Keeping, found, with_served, with_fetched}
+use Rattle.mb_executor.specs.Taking.{HoldsParts, emptied}
+use Rattle.mb_refinement.specs.Tables.{Tables}
+use Rattle.mb_refinement.specs.Positions.{settled_below, installed_numbers}
+use Rattle.mb_refinement.specs.Stands.{Stand, NormalStands, HeldStand}
+use Rattle.mb_refinement.proofs.Gates.{gates_stay}
+use Rattle.mb_refinement.proofs.OwnLogs.{own_log_stays}
+use Rattle.mb_refinement.proofs.Changes.{change_stays}
+use Rattle.mb_refinement.proofs.Values.{own_counter_stays, certificate_stays, asked_left, service_installed, installed_position, clients_kept}
+use Rattle.mb_refinement.proofs.Positions.{normal_stays, requests_settled}
+use Rattle.mb_refinement.proofs.Snapshots.{shelf_stays}
+use Rattle.mb_refinement.proofs.FetchedParts.{parts_gone, parts_used}
+use Rattle.mb_refinement.proofs.Together.{EachStands, stand_lags, stays}
 use Rattle.mb_replica.specs.declared.state.ReplicaState.{ReplicaState}
-use Rattle.mb_replica.specs.declared.sending.Done.{Done}
+use Rattle.mb_replica.specs.declared.sending.StepOutput.{StepOutput}
 use Rattle.mb_replica.specs.Represents.{tables_of, Represents, StandsAt}
 use Rattle.mb_replica.specs.Between.{IsSame}
 use Rattle.mb_replica.specs.Installing.{Settles, WritesInstalled, DoesInstall}
@@ -68,12 +68,12 @@ module _ {V : Type 0} (me : Identity V) where
   parts_emptied r k is = parts_written r k (is ∙ ap (λ (f : Option Fetched). with_fetched r.keeper f) (sym (ap (λ (y : Keeping V). y.fetched) is)))
 
   pub state_written : (r new : ReplicaState V) (k : Keeping V) → k ≡ emptied (with_served r.keeper k.served) → WritesInstalled (record r { keeper = k }) new
-      → tables_of new ≡ record (tables_of r) { normal = new.agreement.normal; exec = r.agreement.stable.pos; service = k.served; parts = None }
+      → tables_of new ≡ record (tables_of r) { normal = new.protocol.normal; exec = r.protocol.stable.pos; service = k.served; parts = None }
   state_written r new k is writes =
-      writes.tables ∙ ap (λ (y : Keeping V). record (tables_of r) { normal = new.agreement.normal; exec = r.agreement.stable.pos; service = y.served; shelf = y.snapshots; parts = y.fetched }) is
+      writes.tables ∙ ap (λ (y : Keeping V). record (tables_of r) { normal = new.protocol.normal; exec = r.protocol.stable.pos; service = y.served; shelf = y.snapshots; parts = y.fetched }) is
 
   -- A state that parts give has as many clients.
-  pub installed_clients : (r : ReplicaState V) (d first : History) (pos : ℕ) (parts : List Bytes) (y : ServedState V) → Represents me r d → state_from me parts ≡ Ok y → length y.table ≡ client_count r.agreement.shape
+  pub installed_clients : (r : ReplicaState V) (d first : History) (pos : ℕ) (parts : List Bytes) (y : ServedState V) → Represents me r d → state_from me parts ≡ Ok y → length y.table ≡ client_count r.protocol.shape
   installed_clients r d first pos parts y rep gives =
       ap (λ (z : ServedState V). length z.table) (service_installed me y pos parts first gives) ∙ (clients_kept me (Installed pos parts ∷ first) ∙ ap client_count rep.who.shape)
 
@@ -95,16 +95,16 @@ module _ {V : Type 0} (me : Identity V) where
     asked = s.asked;
   }
 
-  module _ (old new : ReplicaState V) (done : Done) (x : Progress) (s : StandsAt me old done x) (m : StateMsg) (at : m.pos ≡ low_of me x.history) where
+  module _ (old new : ReplicaState V) (done : StepOutput) (x : Progress) (s : StandsAt me old done x) (m : StateMsg) (at : m.pos ≡ low_of me x.history) where
     rep : Represents me old x.history
     rep = s.represents
 
-    digest : old.agreement.stable.state ≡ (stable_of me x.history).state
+    digest : old.protocol.stable.state ≡ (stable_of me x.history).state
     digest = ap (λ (c : StableCert). c.state) rep.tables.stable
 
-    pub held_again : WritesParts old new → HoldsParts m.pos old.agreement.stable.state (found old.keeper.fetched) old.keeper new.keeper → StandsAt me new done x
+    pub held_again : WritesParts old new → HoldsParts m.pos old.protocol.stable.state (found old.keeper.fetched) old.keeper new.keeper → StandsAt me new done x
     held_again writes holds =
-        let parts : HeldStand me new.keeper.fetched x.history = held_stand me new.keeper.fetched x.history m.pos old.agreement.stable.state holds.parts_of at digest
+        let parts : HeldStand me new.keeper.fetched x.history = held_stand me new.keeper.fetched x.history m.pos old.protocol.stable.state holds.parts_of at digest
         (λ i. holds.finds i ∙ ap (λ f. f i) (held_search me old.keeper.fetched x.history rep.tables.parts)) in
         record {
           represents = record {
@@ -143,7 +143,7 @@ module _ {V : Type 0} (me : Identity V) where
 
     -- ---- parts are held, too
 
-    module _ (fits : FitsState old.agreement.shape m) (passed : state_refusal me x.history m ≡ None) (held_now : (i : ℕ) → joined (found old.keeper.fetched) m i ≡ part_held me (Accepted (message.State m) ∷ x.history) i) where
+    module _ (fits : FitsState old.protocol.shape m) (passed : state_refusal me x.history m ≡ None) (held_now : (i : ℕ) → joined (found old.keeper.fetched) m i ≡ part_held me (Accepted (message.State m) ∷ x.history) i) where
       abbrev taken_now : Entry
       taken_now = Accepted (message.State m)
 
@@ -153,14 +153,14 @@ module _ {V : Type 0} (me : Identity V) where
       comes_on : ComesOfRead me taken_now x.history
       comes_on = let here : FitsState me.shape m = subst (λ (z : Shape). FitsState z m) (sym rep.who.shape) fits in ((message.State m, here, inl refl), tt)
 
-      pub parts_taken : WritesParts old new → HoldsParts m.pos old.agreement.stable.state (joined (found old.keeper.fetched) m) old.keeper new.keeper → StandsAt me new done (write taken_now x)
+      pub parts_taken : WritesParts old new → HoldsParts m.pos old.protocol.stable.state (joined (found old.keeper.fetched) m) old.keeper new.keeper → StandsAt me new done (write taken_now x)
       parts_taken writes holds =
           let d : History = x.history in
           let t : Tables V = tables_of old in
           let left = stays me (low_of me d) t taken_now d (stand_lags me t d rep.tables) adds_on in
           let low = low_stays me taken_now d refl in
           let same : stable_of me (taken_now ∷ d) ≡ stable_of me d = stable_stays me taken_now d refl in
-          let parts : HeldStand me new.keeper.fetched (taken_now ∷ d) = held_stand me new.keeper.fetched (taken_now ∷ d) m.pos old.agreement.stable.state holds.parts_of (at ∙ sym low) (digest ∙ ap (λ (c : StableCert). c.state) (sym same))
+          let parts : HeldStand me new.keeper.fetched (taken_now ∷ d) = held_stand me new.keeper.fetched (taken_now ∷ d) m.pos old.protocol.stable.state holds.parts_of (at ∙ sym low) (digest ∙ ap (λ (c : StableCert). c.state) (sym same))
           (λ i. holds.finds i ∙ held_now i) in
           let each : EachStands me (record t { parts = new.keeper.fetched }) (taken_now ∷ d) = record {
             counter = left.counter refl;
@@ -206,27 +206,27 @@ module _ {V : Type 0} (me : Identity V) where
         installed_sound : IsSound me behind_it
         installed_sound = stays_sound me installed_now (taken_now ∷ x.history) installs tt taken_sound
 
-        low_is : old.agreement.stable.pos ≡ low_now
+        low_is : old.protocol.stable.pos ≡ low_now
         low_is = ap (λ (c : StableCert). c.pos) rep.tables.stable ∙ sym (low_stays me taken_now x.history refl)
 
         -- ---- the pending requests
 
-        requests : (normal : Normal) → Settles old.agreement.normal normal (λ c. (last_of y.table c).seq) (client_count old.agreement.shape) → NormalStands me normal behind_it
+        requests : (normal : Normal) → Settles old.protocol.normal normal (λ c. (last_of y.table c).seq) (client_count old.protocol.shape) → NormalStands me normal behind_it
         requests normal settles =
             let first : History = taken_now ∷ x.history in
             let parts : List Bytes = parts_held me first in
             let service : y ≡ state_of me behind_it = service_installed me y low_now parts first gives in
             let numbers : (λ c. (last_of y.table c).seq) ≡ installed_numbers me low_now parts first = fun_ext (λ (c : ℕ). ap (λ (z : ServedState V). (reply_of z c).seq) service) in
-            let before : NormalStands me old.agreement.normal first = normal_stays me taken_now x.history old.agreement.normal taken_sound.arises refl rep.tables.normal in
-            let done : NormalRepresents me.shape me.host normal (settled_below (searches_in me first) (λ c. (last_of y.table c).seq) (client_count old.agreement.shape)) = settles me.shape me.host (searches_in me first) before in
+            let before : NormalStands me old.protocol.normal first = normal_stays me taken_now x.history old.protocol.normal taken_sound.arises refl rep.tables.normal in
+            let done : NormalRepresents me.shape me.host normal (settled_below (searches_in me first) (λ c. (last_of y.table c).seq) (client_count old.protocol.shape)) = settles me.shape me.host (searches_in me first) before in
             let counted : NormalRepresents me.shape me.host normal (settled_below (searches_in me first) (λ c. (last_of y.table c).seq) (client_count me.shape)) =
             subst (λ (z : Shape). NormalRepresents me.shape me.host normal (settled_below (searches_in me first) (λ c. (last_of y.table c).seq) (client_count z))) (sym rep.who.shape) done in
             requests_settled me low_now parts first normal installed_sound.arises (subst (λ (f : ℕ → ℕ). NormalRepresents me.shape me.host normal (settled_below (searches_in me first) f (client_count me.shape))) numbers counted)
 
         -- ---- all tables
 
-        installed_tables : (normal : Normal) → Settles old.agreement.normal normal (λ c. (last_of y.table c).seq) (client_count old.agreement.shape)
-            → Stand me (record (tables_of old) { normal = normal; exec = old.agreement.stable.pos; service = y; parts = None }) behind_it
+        installed_tables : (normal : Normal) → Settles old.protocol.normal normal (λ c. (last_of y.table c).seq) (client_count old.protocol.shape)
+            → Stand me (record (tables_of old) { normal = normal; exec = old.protocol.stable.pos; service = y; parts = None }) behind_it
         installed_tables normal settles =
             let t : Tables V = tables_of old in
             let first : History = taken_now ∷ x.history in
@@ -246,8 +246,8 @@ module _ {V : Type 0} (me : Identity V) where
               asked = asked_left me t.asked installed_now first refl (asked_left me t.asked taken_now x.history refl rep.tables.asked);
             }
 
-        pub state_installed : (after : Done) → IsSame old new → tables_of new ≡ record (tables_of old) { normal = new.agreement.normal; exec = old.agreement.stable.pos; service = y; parts = None }
-            → Settles old.agreement.normal new.agreement.normal (λ c. (last_of y.table c).seq) (client_count old.agreement.shape) → DoesInstall old.agreement.stable.pos done after
+        pub state_installed : (after : StepOutput) → IsSame old new → tables_of new ≡ record (tables_of old) { normal = new.protocol.normal; exec = old.protocol.stable.pos; service = y; parts = None }
+            → Settles old.protocol.normal new.protocol.normal (λ c. (last_of y.table c).seq) (client_count old.protocol.shape) → DoesInstall old.protocol.stable.pos done after
             → StandsAt me new after (install me (write taken_now x))
         state_installed after same is settles does =
             let first : History = taken_now ∷ x.history in
@@ -255,7 +255,7 @@ module _ {V : Type 0} (me : Identity V) where
             record {
               represents = record {
                 who = hosted me old new same rep.who;
-                tables = subst (λ (u : Tables V). Stand me u behind_it) (sym is) (installed_tables new.agreement.normal settles);
+                tables = subst (λ (u : Tables V). Stand me u behind_it) (sym is) (installed_tables new.protocol.normal settles);
                 fit = unstamped_fit me (is_there me old rep.who) installed_now first refl installs comes taken_sound taken_fit;
               };
               serving = served_ends installed_now first refl;

@@ -23,29 +23,29 @@ use Rattle.mb_steps.specs.Arises.{Arises}
 use Rattle.mb_steps.proofs.StepPotential.{not_above}
 use Rattle.mb_fetch.specs.Snapshots.{Snapshot}
 use Rattle.mb_fetch.specs.Fetched.{Fetched}
-use Rattle.mb_keeper.specs.Keeping.{Keeping, raised}
-use Rattle.mb_kept.specs.Kept.{IsKeptPlace, low_of as kept_low}
-use Rattle.mb_kept.specs.Certificates.{stable_of_these, found_at, agreed_at, agreed_above, floor_from}
-use Rattle.mb_kept.proofs.InHistories.{cuts}
+use Rattle.mb_executor.specs.Keeping.{Keeping, raised}
+use Rattle.mb_checkpoints.specs.Kept.{IsKeptPlace, low_of as kept_low}
+use Rattle.mb_checkpoints.specs.Certificates.{stable_of_these, found_at, agreed_at, agreed_above, floor_from}
+use Rattle.mb_checkpoints.proofs.InHistories.{cuts}
 use Rattle.mb_host_laws.proofs.Cases.{some_is}
 use Rattle.mb_log.specs.Logs.{Log, start, counter_in, floor_counter}
-use Rattle.mb_fitting.proofs.Found.{stable_fits}
+use Rattle.mb_encodable.proofs.Found.{stable_fits}
 use Rattle.mb_normal.specs.declared.normal.Normal.{Normal}
 use Rattle.mb_normal.specs.Searches.{searches_in, with_checkpoint}
 use Rattle.mb_normal.specs.Tables.{Becomes}
-use Rattle.mb_searches.specs.Speaks.{speaks_of_snapshots, speaks_of_parts}
-use Rattle.mb_searches.proofs.Sound.{accepted_adds, stays_sound}
-use Rattle.mb_standing.specs.Tables.{Tables}
-use Rattle.mb_standing.specs.Stands.{LogStands, NormalStands, ShelfStands, HeldStand}
-use Rattle.mb_standing.specs.LogCalls.{IsUncut, CutsTo}
-use Rattle.mb_standing.specs.Positions.{StandsAt, Learns, AnswersStable, AnswersFloor}
-use Rattle.mb_standing.proofs.FetchedParts.{held_stays}
-use Rattle.mb_standing.proofs.OwnLogs.{not_appended, own_log_uncut, own_log_cut, uncut_starts, may_cut}
-use Rattle.mb_standing.proofs.Positions.{left_by_call, learns_news, learns_no_news}
-use Rattle.mb_standing.proofs.PositionsVoted.{checkpoint_below, checkpoint_kept, own_checkpoint_kept, checkpoint_completes, own_checkpoint_completes, checkpoint_place, own_checkpoint_place}
-use Rattle.mb_standing.proofs.Snapshots.{shelf_stays}
-use Rattle.mb_standing.proofs.Together.{stays, stand_lags}
-use Rattle.mb_standing.proofs.Values.{no_certificate, own_counter_stays}
+use Rattle.mb_history_laws.specs.Speaks.{speaks_of_snapshots, speaks_of_parts}
+use Rattle.mb_history_laws.proofs.Sound.{accepted_adds, stays_sound}
+use Rattle.mb_refinement.specs.Tables.{Tables}
+use Rattle.mb_refinement.specs.Stands.{LogStands, NormalStands, ShelfStands, HeldStand}
+use Rattle.mb_refinement.specs.LogCalls.{IsUncut, CutsTo}
+use Rattle.mb_refinement.specs.Positions.{StandsAt, Learns, AnswersStable, AnswersFloor}
+use Rattle.mb_refinement.proofs.FetchedParts.{held_stays}
+use Rattle.mb_refinement.proofs.OwnLogs.{not_appended, own_log_uncut, own_log_cut, uncut_starts, may_cut}
+use Rattle.mb_refinement.proofs.Positions.{left_by_call, learns_news, learns_no_news}
+use Rattle.mb_refinement.proofs.PositionsVoted.{checkpoint_below, checkpoint_kept, own_checkpoint_kept, checkpoint_completes, own_checkpoint_completes, checkpoint_place, own_checkpoint_place}
+use Rattle.mb_refinement.proofs.Snapshots.{shelf_stays}
+use Rattle.mb_refinement.proofs.Together.{stays, stand_lags}
+use Rattle.mb_refinement.proofs.Values.{no_certificate, own_counter_stays}
 use Rattle.mb_replica.specs.declared.state.ReplicaState.{ReplicaState}
 use Rattle.mb_replica.specs.Represents.{Represents, tables_of}
 use Rattle.mb_replica.specs.Between.{RestStands, RisesTo, WritesNormal, WritesLearnt, WritesLog, WritesKept, KeepingStands, AwaitsKeeping, AwaitsCut, Learnt, LearntAgreed, CutsFound, goes_forward, IsWithin, AwaitsGate}
@@ -82,22 +82,22 @@ agreed_place s all p c e = of_list (first_agreed (same_state s) (quorum s) all a
 
 -- A certificate was learnt, or is no news.
 module _ {V : Type 0} (old new : ReplicaState V) (c : StableCert) where
-  pub learnt_writes : old.agreement.stable.pos < c.pos → RisesTo c old.agreement new.agreement → new.keeper ≡ raised c.pos old.keeper → WritesLearnt c old new
+  pub learnt_writes : old.protocol.stable.pos < c.pos → RisesTo c old.protocol new.protocol → new.keeper ≡ raised c.pos old.keeper → WritesLearnt c old new
   learnt_writes above r keeper =
-      let news : nat_lt old.agreement.stable.pos c.pos ≡ true = lt-ltb old.agreement.stable.pos c.pos above in
+      let news : nat_lt old.protocol.stable.pos c.pos ≡ true = lt-ltb old.protocol.stable.pos c.pos above in
       record {
         same = record { shape = r.shape; host = r.host; secret = ap (λ u. u.secret) r.usig };
-        learns = learns_news old.agreement.normal new.agreement.normal old.agreement.stable c above r.normal;
+        learns = learns_news old.protocol.normal new.protocol.normal old.protocol.stable c above r.normal;
         keeper = keeper ∙ sym (ap (λ (b : Bool). if b then raised c.pos old.keeper else old.keeper) news);
         tables = rw (news, r.usig, r.gates, r.log, r.change, r.stable, r.exec, r.asked, ap (λ (k : Keeping V). k.served) keeper) refl;
       }
 
-pub no_news_written : {V : Type 0} (old : ReplicaState V) (c : StableCert) → c.pos ≤ old.agreement.stable.pos → WritesLearnt c old old
+pub no_news_written : {V : Type 0} (old : ReplicaState V) (c : StableCert) → c.pos ≤ old.protocol.stable.pos → WritesLearnt c old old
 no_news_written old c below =
-    let same : nat_lt old.agreement.stable.pos c.pos ≡ false = not_above old.agreement.stable.pos c.pos below in
+    let same : nat_lt old.protocol.stable.pos c.pos ≡ false = not_above old.protocol.stable.pos c.pos below in
     record {
       same = record { shape = refl; host = refl; secret = refl };
-      learns = learns_no_news old.agreement.normal old.agreement.stable c below;
+      learns = learns_no_news old.protocol.normal old.protocol.stable c below;
       keeper = sym (ap (λ (b : Bool). if b then raised c.pos old.keeper else old.keeper) same);
       tables = rw same refl;
     }
@@ -111,12 +111,12 @@ module _ {V : Type 0} where
   by_cert_writes : (old mid new : ReplicaState V) → WritesNormal old mid → (c : Option StableCert) → Learnt c mid new → WritesKept old new
   by_cert_writes old mid new w None same = subst (λ (r : ReplicaState V). WritesKept old r) (sym same) (record {
     same = w.same;
-    tables = kept_form (tables_of old) (tables_of mid) mid.agreement.normal old.agreement.stable old.keeper.snapshots old.keeper.fetched w.tables;
+    tables = kept_form (tables_of old) (tables_of mid) mid.protocol.normal old.protocol.stable old.keeper.snapshots old.keeper.fetched w.tables;
   })
   by_cert_writes old mid new w (Some x) l = record {
     same = same_again old mid new w.same l.same;
-    tables = kept_form (tables_of old) (tables_of new) new.agreement.normal (further mid.agreement.stable (Some x)) new.keeper.snapshots new.keeper.fetched
-        (l.tables ∙ ap (λ (t : Tables V). record t { normal = new.agreement.normal; stable = further mid.agreement.stable (Some x); shelf = new.keeper.snapshots; parts = new.keeper.fetched }) w.tables);
+    tables = kept_form (tables_of old) (tables_of new) new.protocol.normal (further mid.protocol.stable (Some x)) new.keeper.snapshots new.keeper.fetched
+        (l.tables ∙ ap (λ (t : Tables V). record t { normal = new.protocol.normal; stable = further mid.protocol.stable (Some x); shelf = new.keeper.snapshots; parts = new.keeper.fetched }) w.tables);
   }
 
   pub keeping_writes : {E : Type 0} (result : Result (Unit {0}) E) (old mid new : ReplicaState V) → OnOk result (LearntAgreed mid new) → WritesNormal old mid → OnOk result (WritesKept old new)
@@ -179,19 +179,19 @@ module _ {V : Type 0} (me : Identity V) where
   -- ---- the whole of it
 
   module _ (old : ReplicaState V) (m : Checkpoint) (e : Entry) (d : History) (w : AwaitsKeeping me old m e d) where
-    pub place_there : IsKeptPlace old.agreement.normal.checkpoints m.pos
-    place_there = place_for e m d w.now.arises w.brings w.kept old.agreement.normal w.tables.normal
+    pub place_there : IsKeptPlace old.protocol.normal.checkpoints m.pos
+    place_there = place_for e m d w.now.arises w.brings w.kept old.protocol.normal w.tables.normal
 
-    module _ (kept : Normal) (becomes : Becomes old.agreement.normal kept (λ x. with_checkpoint x m)) where
+    module _ (kept : Normal) (becomes : Becomes old.protocol.normal kept (λ x. with_checkpoint x m)) where
       -- What is learnt has the values of the grammar.
-      pub agreed_fits : (x : StableCert) → AnswersStable kept (Some x) → FitsStable old.agreement.shape x
+      pub agreed_fits : (x : StableCert) → AnswersStable kept (Some x) → FitsStable old.protocol.shape x
       agreed_fits x answers =
-          subst (λ (s : Shape). FitsStable s x) w.who.shape (subst (FitsStable me.shape) (agreed_now e m d w.now.arises w.brings w.kept old.agreement.normal w.tables.normal kept becomes (Some x) answers x refl)
+          subst (λ (s : Shape). FitsStable s x) w.who.shape (subst (FitsStable me.shape) (agreed_now e m d w.now.arises w.brings w.kept old.protocol.normal w.tables.normal kept becomes (Some x) answers x refl)
           (stable_fits me (there me old w.who) (e ∷ d) w.now w.fit))
 
       -- The tables were written so.
-      module _ (mid new : ReplicaState V) (normal : mid.agreement.normal ≡ kept) (stable : mid.agreement.stable ≡ old.agreement.stable) (keeper : mid.keeper ≡ old.keeper) where
-        was : mid.agreement.stable ≡ stable_of me d
+      module _ (mid new : ReplicaState V) (normal : mid.protocol.normal ≡ kept) (stable : mid.protocol.stable ≡ old.protocol.stable) (keeper : mid.keeper ≡ old.keeper) where
+        was : mid.protocol.stable ≡ stable_of me d
         was = stable ∙ w.tables.stable
 
         snapshots : ShelfStands me mid.keeper.snapshots d
@@ -200,59 +200,59 @@ module _ {V : Type 0} (me : Identity V) where
         held : HeldStand me mid.keeper.fetched d
         held = subst (λ (k : Keeping V). HeldStand me k.fetched d) (sym keeper) w.tables.parts
 
-        kept_stand : (c : Option StableCert) → AnswersStable kept c → Learns mid.agreement.stable c mid.agreement.normal new.agreement.normal → new.agreement.stable ≡ further mid.agreement.stable c
+        kept_stand : (c : Option StableCert) → AnswersStable kept c → Learns mid.protocol.stable c mid.protocol.normal new.protocol.normal → new.protocol.stable ≡ further mid.protocol.stable c
             → (ShelfStands me new.keeper.snapshots (e ∷ d) × HeldStand me new.keeper.fetched (e ∷ d)) → KeepingStands me new (e ∷ d)
         kept_stand c answers learns is follow = record {
-          normal = normal_kept e m d w.now.arises w.brings w.kept old.agreement.normal w.tables.normal kept becomes c answers new.agreement.normal
-              (subst (λ (n : Normal). Learns (stable_of me d) c n new.agreement.normal) normal (subst (λ (s : StableCert). Learns s c mid.agreement.normal new.agreement.normal) was learns));
+          normal = normal_kept e m d w.now.arises w.brings w.kept old.protocol.normal w.tables.normal kept becomes c answers new.protocol.normal
+              (subst (λ (n : Normal). Learns (stable_of me d) c n new.protocol.normal) normal (subst (λ (s : StableCert). Learns s c mid.protocol.normal new.protocol.normal) was learns));
           stable = is ∙ ap (λ (s : StableCert). further s c) was ∙ sym (now_is c answers);
           shelf = follow.0;
           parts = follow.1;
         } where
           now_is : (c : Option StableCert) → AnswersStable kept c → stable_of me (e ∷ d) ≡ further (stable_of me d) c
-          now_is c answers = completes e m d w.now.arises w.brings w.kept old.agreement.normal w.tables.normal kept becomes c answers
+          now_is c answers = completes e m d w.now.arises w.brings w.kept old.protocol.normal w.tables.normal kept becomes c answers
 
         by_cert : (c : Option StableCert) → AnswersStable kept c → Learnt c mid new → KeepingStands me new (e ∷ d)
         by_cert None answers same =
-            let now = completes e m d w.now.arises w.brings w.kept old.agreement.normal w.tables.normal kept becomes None answers in
+            let now = completes e m d w.now.arises w.brings w.kept old.protocol.normal w.tables.normal kept becomes None answers in
             let left = keeper_stays me mid.keeper d w.sound snapshots held e (brings_snapshots e m w.brings) (brings_parts e m w.brings) (ap (λ (s : StableCert). s.pos) now) in
-            kept_stand None answers (ap (λ (r : ReplicaState V). r.agreement.normal) same) (ap (λ (r : ReplicaState V). r.agreement.stable) same)
+            kept_stand None answers (ap (λ (r : ReplicaState V). r.protocol.normal) same) (ap (λ (r : ReplicaState V). r.protocol.stable) same)
             (subst (λ (k : Keeping V). ShelfStands me k.snapshots (e ∷ d) × HeldStand me k.fetched (e ∷ d)) (ap (λ (r : ReplicaState V). r.keeper) (sym same)) left)
         by_cert (Some x) answers l =
-            let now = completes e m d w.now.arises w.brings w.kept old.agreement.normal w.tables.normal kept becomes (Some x) answers in
-            let left = keeper_learns me mid.keeper d w.sound snapshots held e (brings_snapshots e m w.brings) (brings_parts e m w.brings) mid.agreement.stable x was now in
+            let now = completes e m d w.now.arises w.brings w.kept old.protocol.normal w.tables.normal kept becomes (Some x) answers in
+            let left = keeper_learns me mid.keeper d w.sound snapshots held e (brings_snapshots e m w.brings) (brings_parts e m w.brings) mid.protocol.stable x was now in
             kept_stand (Some x) answers l.learns (ap (λ (t : Tables V). t.stable) l.tables)
             (subst (λ (k : Keeping V). ShelfStands me k.snapshots (e ∷ d) × HeldStand me k.fetched (e ∷ d)) (sym l.keeper) left)
 
         kept_learns : LearntAgreed mid new → KeepingStands me new (e ∷ d)
         kept_learns l = by_cert l.cert (subst (λ (n : Normal). AnswersStable n l.cert) normal l.answers) l.learnt
 
-      pub keeping_ends : {E : Type 0} (result : Result (Unit {0}) E) (mid new : ReplicaState V) → OnOk result (LearntAgreed mid new) → mid.agreement.normal ≡ kept → mid.agreement.stable ≡ old.agreement.stable → mid.keeper ≡ old.keeper
+      pub keeping_ends : {E : Type 0} (result : Result (Unit {0}) E) (mid new : ReplicaState V) → OnOk result (LearntAgreed mid new) → mid.protocol.normal ≡ kept → mid.protocol.stable ≡ old.protocol.stable → mid.keeper ≡ old.keeper
           → OnOk result (KeepingStands me new (e ∷ d))
       keeping_ends result mid new l normal stable keeper = on_ok_weaker result (kept_learns mid new normal stable keeper) l
 
   -- ---- the cut
 
   module _ (old : ReplicaState V) (e : Entry) (d : History) (w : AwaitsCut me old e d) where
-    counter_here : (c : FloorCert) → floor_counter old.agreement.host (Some c) ≡ history.floor_counter me (Some c)
+    counter_here : (c : FloorCert) → floor_counter old.protocol.host (Some c) ≡ history.floor_counter me (Some c)
     counter_here c = ap (λ (h : ℕ). floor_counter h (Some c)) (sym w.who.host) ∙ counter_same me (first_floor me.host c.members)
 
     forward_here : (c : FloorCert) → goes_forward old c ≡ (nat_lt (history.floor_counter me (log_floor me d)) (history.floor_counter me (Some c)) && nat_le (history.floor_counter me (Some c)) (counter_of (e ∷ d)))
-    forward_here c = rw (counter_here c, uncut_starts me old.agreement.log e d w.log, w.counter) refl
+    forward_here c = rw (counter_here c, uncut_starts me old.protocol.log e d w.log, w.counter) refl
 
     -- Where the cut goes forward, the log holds so much.
     pub within : (c : FloorCert) → goes_forward old c ≡ true → IsWithin old c
-    within c forward = subst (λ (h : ℕ). floor_counter h (Some c) ≤ start old.agreement.log + length old.agreement.log.entries) old.agreement.log_is.1
-        (may_cut me old.agreement.log e d c w.log (sym (forward_here c) ∙ forward)).1
+    within c forward = subst (λ (h : ℕ). floor_counter h (Some c) ≤ start old.protocol.log + length old.protocol.log.entries) old.protocol.log_is.1
+        (may_cut me old.protocol.log e d c w.log (sym (forward_here c) ∙ forward)).1
 
-    pub cut_stands : (new : ReplicaState V) (c : Option FloorCert) → AnswersFloor old.agreement.normal old.agreement.host c → CutsFound old new c → LogStands me new.agreement.log (e ∷ d)
-    cut_stands new c answers cut = own_log_cut me old.agreement.log new.agreement.log e d w.kept w.log (subst (λ (o : Option FloorCert). CutsTo me (counter_of (e ∷ d)) old.agreement.log (log_floor me d) o new.agreement.log) found (by_cert c cut)) where
+    pub cut_stands : (new : ReplicaState V) (c : Option FloorCert) → AnswersFloor old.protocol.normal old.protocol.host c → CutsFound old new c → LogStands me new.protocol.log (e ∷ d)
+    cut_stands new c answers cut = own_log_cut me old.protocol.log new.protocol.log e d w.kept w.log (subst (λ (o : Option FloorCert). CutsTo me (counter_of (e ∷ d)) old.protocol.log (log_floor me d) o new.protocol.log) found (by_cert c cut)) where
       found : c ≡ history.floor_from me.shape (e ∷ d) me.host (low_of me (e ∷ d))
       found = answers me.shape me.host (searches_in me (e ∷ d)) w.normal ∙ ap (λ (h : ℕ). floor_from me.shape (searches_in me (e ∷ d)).checkpoints h (low_of me (e ∷ d))) (sym w.who.host)
           ∙ cuts me.shape (e ∷ d) me.host (low_of me (e ∷ d))
 
-      by_cert : (o : Option FloorCert) → CutsFound old new o → CutsTo me (counter_of (e ∷ d)) old.agreement.log (log_floor me d) o new.agreement.log
-      by_cert None same = ap (λ (r : ReplicaState V). r.agreement.log) same
+      by_cert : (o : Option FloorCert) → CutsFound old new o → CutsTo me (counter_of (e ∷ d)) old.protocol.log (log_floor me d) o new.protocol.log
+      by_cert None same = ap (λ (r : ReplicaState V). r.protocol.log) same
       by_cert (Some x) by = ((λ is. by.forward (forward_here x ∙ is)), (λ is. by.stays (forward_here x ∙ is)))
 
   -- ---- an accepted one
@@ -269,16 +269,16 @@ module _ {V : Type 0} (me : Identity V) where
     below_awaits below =
         let t = r.tables in
         let left = stays me (low_of me d) (tables_of old) entry d (stand_lags me (tables_of old) d t) adds.0 in
-        let none_learnt : learnt_in me d old.agreement.stable.pos entry ≡ None = rw (ap (λ (s : StableCert). nat_le s.pos m.pos) t.stable ∙ below) refl in
-        let stable = no_certificate me old.agreement.stable entry d t.stable none_learnt in
+        let none_learnt : learnt_in me d old.protocol.stable.pos entry ≡ None = rw (ap (λ (s : StableCert). nat_le s.pos m.pos) t.stable ∙ below) refl in
+        let stable = no_certificate me old.protocol.stable entry d t.stable none_learnt in
         let low : low_of me (entry ∷ d) ≡ low_of me d = ap (λ (s : StableCert). s.pos) (sym stable ∙ t.stable) in
         record {
           who = r.who;
           gates = refl;
-          log = own_log_uncut me old.agreement.log entry d below (not_appended me old.agreement.log entry d refl t.log);
+          log = own_log_uncut me old.protocol.log entry d below (not_appended me old.protocol.log entry d refl t.log);
           rest = record {
             counter = left.counter refl;
-            normal = checkpoint_below me m d old.agreement.normal adds below t.normal;
+            normal = checkpoint_below me m d old.protocol.normal adds below t.normal;
             change = left.change refl;
             stable = stable;
             exec = left.exec refl;
@@ -289,7 +289,7 @@ module _ {V : Type 0} (me : Identity V) where
           };
         }
 
-    module _ (kept : nat_le (low_of me d) m.pos ≡ true) (fits : FitsStamped old.agreement.shape (stamped.Checkpoint m)) where
+    module _ (kept : nat_le (low_of me d) m.pos ≡ true) (fits : FitsStamped old.protocol.shape (stamped.Checkpoint m)) where
       pub awaits_keeping : AwaitsKeeping me old m entry d
       awaits_keeping = record {
         who = r.who;
@@ -305,17 +305,17 @@ module _ {V : Type 0} (me : Identity V) where
       awaits_cut mid w stands = record {
         who = still_host me old mid w.same r.who;
         kept = kept;
-        log = subst (λ (l : Log). IsUncut me l entry d) (sym (ap (λ (t : Tables V). t.log) w.tables)) (not_appended me old.agreement.log entry d refl r.tables.log);
-        counter = ap (λ (t : Tables V). t.counter) w.tables ∙ own_counter_stays old.agreement.usig.counter entry d refl r.tables.counter;
+        log = subst (λ (l : Log). IsUncut me l entry d) (sym (ap (λ (t : Tables V). t.log) w.tables)) (not_appended me old.protocol.log entry d refl r.tables.log);
+        counter = ap (λ (t : Tables V). t.counter) w.tables ∙ own_counter_stays old.protocol.usig.counter entry d refl r.tables.counter;
         normal = stands.normal;
       }
 
-      kept_awaits : (mid new : ReplicaState V) → WritesKept old mid → KeepingStands me mid (entry ∷ d) → WritesLog mid new → LogStands me new.agreement.log (entry ∷ d) → AwaitsGate me old new (stamped.Checkpoint m) d
+      kept_awaits : (mid new : ReplicaState V) → WritesKept old mid → KeepingStands me mid (entry ∷ d) → WritesLog mid new → LogStands me new.protocol.log (entry ∷ d) → AwaitsGate me old new (stamped.Checkpoint m) d
       kept_awaits mid new w stands l log =
           let t = r.tables in
           let left = stays me (low_of me d) (tables_of old) entry d (stand_lags me (tables_of old) d t) adds.0 in
-          let written : tables_of new ≡ record (tables_of old) { log = new.agreement.log; normal = mid.agreement.normal; stable = mid.agreement.stable; shelf = mid.keeper.snapshots; parts = mid.keeper.fetched } =
-          l.tables ∙ ap (λ (x : Tables V). record x { log = new.agreement.log }) w.tables in
+          let written : tables_of new ≡ record (tables_of old) { log = new.protocol.log; normal = mid.protocol.normal; stable = mid.protocol.stable; shelf = mid.keeper.snapshots; parts = mid.keeper.fetched } =
+          l.tables ∙ ap (λ (x : Tables V). record x { log = new.protocol.log }) w.tables in
           record {
             who = still_host me mid new l.same (still_host me old mid w.same r.who);
             gates = ap (λ (x : Tables V). x.gates) written;
@@ -333,7 +333,7 @@ module _ {V : Type 0} (me : Identity V) where
             });
           }
 
-      pub kept_awaits_where : {E : Type 0} (result : Result (Unit {0}) E) (mid new : ReplicaState V) → WritesKept old mid → KeepingStands me mid (entry ∷ d) → OnOk result (WritesLog mid new) → OnOk result (LogStands me new.agreement.log (entry ∷ d))
+      pub kept_awaits_where : {E : Type 0} (result : Result (Unit {0}) E) (mid new : ReplicaState V) → WritesKept old mid → KeepingStands me mid (entry ∷ d) → OnOk result (WritesLog mid new) → OnOk result (LogStands me new.protocol.log (entry ∷ d))
           → OnOk result (AwaitsGate me old new (stamped.Checkpoint m) d)
       kept_awaits_where (Ok u) mid new w stands l log = kept_awaits mid new w stands l log
       kept_awaits_where (Err x) mid new w stands l log = tt

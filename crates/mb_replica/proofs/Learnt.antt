@@ -7,13 +7,13 @@ use Rattle.mb_model.specs.Stable.{stable_of, low_of, further}
 use Rattle.mb_fetch.specs.Snapshots.{StandsFrom}
 use Rattle.mb_fetch.specs.Fetched.{Fetched}
 use Rattle.mb_fetch.proofs.Snapshots.{fewer_stands}
-use Rattle.mb_searches.specs.Speaks.{speaks_of_snapshots, speaks_of_parts}
-use Rattle.mb_searches.specs.Sound.{IsSound}
-use Rattle.mb_keeper.specs.Keeping.{Keeping, raised, fetched_from}
-use Rattle.mb_standing.specs.Stands.{ShelfStands, HeldStand}
-use Rattle.mb_standing.specs.Lagging.{dropped_below}
-use Rattle.mb_standing.proofs.Snapshots.{shelf_stays, shelf_raised}
-use Rattle.mb_standing.proofs.FetchedParts.{held_stays, held_lags, held_lags_on, held_follow}
+use Rattle.mb_history_laws.specs.Speaks.{speaks_of_snapshots, speaks_of_parts}
+use Rattle.mb_history_laws.specs.Sound.{IsSound}
+use Rattle.mb_executor.specs.Keeping.{Keeping, raised, fetched_from}
+use Rattle.mb_refinement.specs.Stands.{ShelfStands, HeldStand}
+use Rattle.mb_refinement.specs.Lagging.{dropped_below}
+use Rattle.mb_refinement.proofs.Snapshots.{shelf_stays, shelf_raised}
+use Rattle.mb_refinement.proofs.FetchedParts.{held_stays, held_lags, held_lags_on, held_follow}
 use Rattle.mb_replica.specs.declared.state.ReplicaState.{ReplicaState}
 use Rattle.mb_replica.specs.Represents.{Represents}
 use Rattle.mb_replica.specs.Holding.{kept_behind}
@@ -58,12 +58,12 @@ module _ {V : Type 0} (me : Identity V) (old : ReplicaState V) (d : History) (re
     pub kept_stay : low_of me (e ∷ d) ≡ low_of me d → KeptStands old.keeper
     kept_stay low = let follow = keeper_stays me old.keeper d rep.tables.sound rep.tables.shelf rep.tables.parts e snapshots parts low in record { shelf = follow.0; parts = follow.1 }
 
-    pub kept_learnt : (c : Option StableCert) → stable_of me (e ∷ d) ≡ further (stable_of me d) c → KeptStands (kept_behind old.agreement.stable c old.keeper)
+    pub kept_learnt : (c : Option StableCert) → stable_of me (e ∷ d) ≡ further (stable_of me d) c → KeptStands (kept_behind old.protocol.stable c old.keeper)
     kept_learnt None brings = kept_stay (ap (λ (s : StableCert). s.pos) brings)
     kept_learnt (Some c) brings =
-        let follow = keeper_learns me old.keeper d rep.tables.sound rep.tables.shelf rep.tables.parts e snapshots parts old.agreement.stable c rep.tables.stable brings in
+        let follow = keeper_learns me old.keeper d rep.tables.sound rep.tables.shelf rep.tables.parts e snapshots parts old.protocol.stable c rep.tables.stable brings in
         record { shelf = follow.0; parts = follow.1 }
 
   -- the stable certificate behind it
-  pub stable_learnt : (c : Option StableCert) → stable_of me (e ∷ d) ≡ further (stable_of me d) c → further old.agreement.stable c ≡ stable_of me (e ∷ d)
+  pub stable_learnt : (c : Option StableCert) → stable_of me (e ∷ d) ≡ further (stable_of me d) c → further old.protocol.stable c ≡ stable_of me (e ∷ d)
   stable_learnt c brings = ap (λ (s : StableCert). further s c) rep.tables.stable ∙ sym brings

@@ -15,11 +15,11 @@ use Rattle.mb_change.specs.Tables.{empty_table}
 use Rattle.mb_fetch.specs.Snapshots.{Snapshot, Represents as ShelfRepresents}
 use Rattle.mb_model.specs.Service.{start}
 use Rattle.mb_model.specs.Histories.{Identity}
-use Rattle.mb_standing.specs.Beginning.{IsNew as AreNew}
-use Rattle.mb_standing.proofs.Beginning.{stands_begin}
-use Rattle.mb_fitting.proofs.Fit.{begins_fit}
+use Rattle.mb_refinement.specs.Beginning.{IsNew as AreNew}
+use Rattle.mb_refinement.proofs.Beginning.{stands_begin}
+use Rattle.mb_encodable.proofs.Fit.{begins_fit}
 use Rattle.mb_cache.specs.Represents.{machine_of, snapshots_of}
-use Rattle.mb_keeper.specs.Keeping.{Keeping}
+use Rattle.mb_executor.specs.Keeping.{Keeping}
 use Rattle.mb_replica.specs.declared.state.ReplicaState.{ReplicaState}
 use Rattle.mb_replica.specs.Beginning.{IsNew}
 use Rattle.mb_replica.specs.Represents.{Represents, Serves, IsHost, IsAtRest, tables_of}
@@ -32,7 +32,7 @@ module _ {V : Type 0} (machine : ServiceMachine V) where
   abbrev pub HasNothing : Shape → V → Keeping V → Type 0
   HasNothing s service k = k ≡ record { served = start (machine_of machine) service (client_count s); snapshots = []; fetched = None }
 
-  module _ (s : Shape) (host : ℕ) (secret : Bytes) (service : V) (r : ReplicaState V) (new : IsNew s host secret r.agreement) (nothing : HasNothing s service r.keeper) where
+  module _ (s : Shape) (host : ℕ) (secret : Bytes) (service : V) (r : ReplicaState V) (new : IsNew s host secret r.protocol) (nothing : HasNothing s service r.keeper) where
     module _ (me : Identity V) (who : IsHost me r) where
       same_shape : s ≡ me.shape
       same_shape = sym (who.shape ∙ new.shape)
@@ -43,9 +43,9 @@ module _ {V : Type 0} (machine : ServiceMachine V) where
       gates_new : (h : ℕ) (gate : Gate) → GateRepresents gate (log_from s h initial_floor) → GateRepresents gate (log_from me.shape h initial_floor)
       gates_new h gate g = subst (λ (x : Shape). GateRepresents gate (log_from x h initial_floor)) same_shape g
 
-      normal_new : NormalRepresents me.shape me.host r.agreement.normal (nothing_above 0)
-      normal_new = subst (λ (x : Shape). NormalRepresents x me.host r.agreement.normal (nothing_above 0)) same_shape
-          (subst (λ (h : ℕ). NormalRepresents s h r.agreement.normal (nothing_above 0)) same_host new.normal)
+      normal_new : NormalRepresents me.shape me.host r.protocol.normal (nothing_above 0)
+      normal_new = subst (λ (x : Shape). NormalRepresents x me.host r.protocol.normal (nothing_above 0)) same_shape
+          (subst (λ (h : ℕ). NormalRepresents s h r.protocol.normal (nothing_above 0)) same_host new.normal)
 
       pub are_new : Serves machine me → me.initial ≡ service → AreNew me (tables_of r)
       are_new serves first = record {
@@ -69,7 +69,7 @@ module _ {V : Type 0} (machine : ServiceMachine V) where
 
     -- the host that it is
     its_self : Identity V
-    its_self = record { shape = r.agreement.shape; host = r.agreement.host; secret = r.agreement.usig.secret; machine = machine_of machine; snapshots = snapshots_of machine; initial = service }
+    its_self = record { shape = r.protocol.shape; host = r.protocol.host; secret = r.protocol.usig.secret; machine = machine_of machine; snapshots = snapshots_of machine; initial = service }
 
     pub at_rest : machine.is_state service → IsAtRest machine r
     unfolding its_self

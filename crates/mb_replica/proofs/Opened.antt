@@ -3,9 +3,9 @@ use Rattle.std.proofs.Common.{[], ◌∷◌, refl}
 use Rattle.mb_msg.specs.declared.message.Message.TheVariants as message
 use Rattle.mb_model.specs.Histories.{Accepted, History, Identity}
 use Rattle.mb_host_laws.specs.Rests.{Each}
-use Rattle.mb_fitting.specs.Fitting.{HasValues}
-use Rattle.mb_standing.specs.Positions.{AreOpens}
-use Rattle.mb_standing.proofs.PositionsOpens.{opens_begin, opens_stay, opens_more}
+use Rattle.mb_encodable.specs.Fitting.{HasValues}
+use Rattle.mb_refinement.specs.Positions.{AreOpens}
+use Rattle.mb_refinement.proofs.PositionsOpens.{opens_begin, opens_stay, opens_more}
 
 pub opens_are : {S : Type 0} (me : Identity S) (d : History) → Each (HasValues me) d → AreOpens me.shape d
 opens_are me [] a = opens_begin me.shape

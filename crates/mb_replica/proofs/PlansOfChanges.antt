@@ -11,7 +11,7 @@ use Rattle.mb_model.specs.Histories.{Identity}
 use Rattle.mb_model.specs.Held.{logs_of}
 use Rattle.mb_model.specs.Plans.{plan_of, by_host}
 use Rattle.mb_plan.proofs.PlanFits.{plan_fits, by_host_fit}
-use Rattle.mb_fitting.proofs.Changes.{plan_from_fits}
+use Rattle.mb_encodable.proofs.Changes.{plan_from_fits}
 
 -- some host of a system, whatever it executes
 any_host : Shape → Identity (Unit {0})

@@ -19,9 +19,9 @@ use Rattle.mb_gate.specs.Represents.{Represents as GateRepresents}
 use Rattle.mb_model.specs.Histories.{History, Identity, floor_below}
 use Rattle.mb_model.specs.Making.{if_covered}
 use Rattle.mb_model.specs.GateChecks.{valid, gate_refusal}
-use Rattle.mb_searches.specs.Gates.{log_of, refusal_of}
-use Rattle.mb_standing.specs.GateCalls.{Marks, Judges, HasFloor}
-use Rattle.mb_standing.proofs.Gates.{mark_says, gate_refuses, gate_refuses_early, gate_floor}
+use Rattle.mb_history_laws.specs.Gates.{log_of, refusal_of}
+use Rattle.mb_refinement.specs.GateCalls.{Marks, Judges, HasFloor}
+use Rattle.mb_refinement.proofs.Gates.{mark_says, gate_refuses, gate_refuses_early, gate_floor}
 use Rattle.mb_replica.specs.declared.arrival.Arrival.{Arrival}
 use Rattle.mb_replica.specs.declared.state.ReplicaState.{ReplicaState}
 use Rattle.mb_replica.specs.Arrivals.{IsArrival}
@@ -39,18 +39,18 @@ sender_fits s (stamped.Enter m) f = f.ui.host
 sender_fits s (stamped.Open m) f = f.ui.host
 sender_fits s (stamped.Join m) f = f.ui.host
 
-module _ {V : Type 0} (me : Identity V) (r : ReplicaState V) (d : History) (rep : Represents me r d) (a : Arrival) (is : IsArrival r.agreement.shape a) where
+module _ {V : Type 0} (me : Identity V) (r : ReplicaState V) (d : History) (rep : Represents me r d) (a : Arrival) (is : IsArrival r.protocol.shape a) where
   marked : Marks a.mark a.message
   marked = subst (λ (k : Mark). Marks k a.message) (sym is.mark) (mark_says a.message)
 
-  module _ (at : ℕ) (gate : Gate) (same : at ≡ a.ui.host) (read : gate ≡ get_or r.agreement.gates.items at gate) where
+  module _ (at : ℕ) (gate : Gate) (same : at ≡ a.ui.host) (read : gate ≡ get_or r.protocol.gates.items at gate) where
     -- The gate that is asked is that of the sender.
     stands : GateRepresents gate (log_of me d (ui_of a.message).host)
     stands =
-        let fits = sender_fits r.agreement.shape a.message is.fits in
-        let count = r.agreement.gates_len in
-        let lt : (ui_of a.message).host < length r.agreement.gates.items = omega (arith, count, fits) in
-        rep.tables.gates.each (ui_of a.message).host gate (stored r.agreement.gates.items (ui_of a.message).host at gate (same ∙ ap (λ (u : Ui). u.host) is.ui) lt read)
+        let fits = sender_fits r.protocol.shape a.message is.fits in
+        let count = r.protocol.gates_len in
+        let lt : (ui_of a.message).host < length r.protocol.gates.items = omega (arith, count, fits) in
+        rep.tables.gates.each (ui_of a.message).host gate (stored r.protocol.gates.items (ui_of a.message).host at gate (same ∙ ap (λ (u : Ui). u.host) is.ui) lt read)
 
     pub refuses : (inner : Bool) (o : Offer) → inner ≡ inner_valid me.shape (valid me) (bare_of a.message) → Judges gate a.mark inner o → refusal_of o ≡ gate_refusal me d a.message
     refuses inner o verified judges =
@@ -71,9 +71,9 @@ uncovered pos f not_so = elim (cases_Bool (nat_le f.top pos)) [
   | inr above ↦ rw above refl
 ]
 
-pub floor_told : {V : Type 0} (me : Identity V) (r : ReplicaState V) (d : History) → Represents me r d → (host pos at : ℕ) (gate : Gate) → at ≡ host → host < host_count r.agreement.shape
-    → gate ≡ get_or r.agreement.gates.items at gate → (found : Option Floor) → HasFloor gate pos found → found ≡ floor_below d host pos
+pub floor_told : {V : Type 0} (me : Identity V) (r : ReplicaState V) (d : History) → Represents me r d → (host pos at : ℕ) (gate : Gate) → at ≡ host → host < host_count r.protocol.shape
+    → gate ≡ get_or r.protocol.gates.items at gate → (found : Option Floor) → HasFloor gate pos found → found ≡ floor_below d host pos
 floor_told me r d rep host pos at gate same fits read found has =
-    let count = r.agreement.gates_len in
-    let lt : host < length r.agreement.gates.items = omega (arith, count, fits) in
-    gate_floor me d host pos gate found rep.tables.sound (rep.tables.gates.each host gate (stored r.agreement.gates.items host at gate same lt read)) has
+    let count = r.protocol.gates_len in
+    let lt : host < length r.protocol.gates.items = omega (arith, count, fits) in
+    gate_floor me d host pos gate found rep.tables.sound (rep.tables.gates.each host gate (stored r.protocol.gates.items host at gate same lt read)) has

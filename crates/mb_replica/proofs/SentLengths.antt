@@ -14,7 +14,7 @@ use Rattle.mb_msg.specs.Fits.{Fits, FitsFields, FitsStamped}
 use Rattle.mb_msg.specs.Spelling.{spelling, kind_of, behind_kind}
 use Rattle.mb_msg.specs.Stamps.{as_message}
 use Rattle.mb_msg.specs.declared.event.Sent.{Sent}
-use Rattle.mb_fitting.proofs.Sizes.{length8}
+use Rattle.mb_encodable.proofs.Sizes.{length8}
 use Rattle.mb_replica.specs.declared.told.Outgoing.{Outgoing}
 use Rattle.mb_replica.specs.Lengths.{IsMessageLong, AreMessageLong, AreOutgoingLong}
 use Rattle.mb_replica.specs.Told.{plain}

@@ -18,19 +18,19 @@ use Rattle.mb_model.specs.Stable.{stable_of, low_of}
 use Rattle.mb_steps.proofs.StepPassed.{passes_log}
 use Rattle.mb_change.specs.Written.{with_shown}
 use Rattle.mb_gate.specs.declared.gate.Gate.{Gate}
-use Rattle.mb_searches.proofs.Certified.{stable_in_log}
-use Rattle.mb_searches.proofs.Framing.{low_stays}
-use Rattle.mb_fitting.specs.Fitting.{ComesOfRead}
-use Rattle.mb_standing.specs.GateCalls.{Jumps}
-use Rattle.mb_standing.specs.Stands.{GatesStand, Stand}
-use Rattle.mb_standing.specs.Tables.{Tables}
-use Rattle.mb_standing.specs.Positions.{Learns}
-use Rattle.mb_standing.proofs.Changes.{log_taken}
-use Rattle.mb_standing.proofs.Gates.{gate_jumps}
-use Rattle.mb_standing.proofs.PositionsVoted.{log_learnt}
-use Rattle.mb_standing.proofs.Together.{EachStands, Stays}
+use Rattle.mb_history_laws.proofs.Certified.{stable_in_log}
+use Rattle.mb_history_laws.proofs.Framing.{low_stays}
+use Rattle.mb_encodable.specs.Fitting.{ComesOfRead}
+use Rattle.mb_refinement.specs.GateCalls.{Jumps}
+use Rattle.mb_refinement.specs.Stands.{GatesStand, Stand}
+use Rattle.mb_refinement.specs.Tables.{Tables}
+use Rattle.mb_refinement.specs.Positions.{Learns}
+use Rattle.mb_refinement.proofs.Changes.{log_taken}
+use Rattle.mb_refinement.proofs.Gates.{gate_jumps}
+use Rattle.mb_refinement.proofs.PositionsVoted.{log_learnt}
+use Rattle.mb_refinement.proofs.Together.{EachStands, Stays}
 use Rattle.mb_replica.specs.declared.state.ReplicaState.{ReplicaState}
-use Rattle.mb_replica.specs.declared.sending.Done.{Done}
+use Rattle.mb_replica.specs.declared.sending.StepOutput.{StepOutput}
 use Rattle.mb_replica.specs.Represents.{Represents, StandsAt, tables_of}
 use Rattle.mb_replica.specs.Between.{WritesGates}
 use Rattle.mb_replica.specs.Holding.{Holds}
@@ -46,15 +46,15 @@ module _ {V : Type 0} (me : Identity V) where
       let e : Entry = Accepted (message.Log m) in
       let adds = passes_log me m passed in
       let left : Stays me (low_of me d) (tables_of old) e d = left_by me old e d rep adds in
-      let learns : Learns (stable_of me d) (Some m.stable) old.agreement.normal new.agreement.normal = subst (λ (s : StableCert). Learns s (Some m.stable) old.agreement.normal new.agreement.normal) rep.tables.stable holds.learns in
+      let learns : Learns (stable_of me d) (Some m.stable) old.protocol.normal new.protocol.normal = subst (λ (s : StableCert). Learns s (Some m.stable) old.protocol.normal new.protocol.normal) rep.tables.stable holds.learns in
       let kept : KeptStands me old d rep e new.keeper = subst (KeptStands me old d rep e) (sym holds.keeper) (kept_learnt me old d rep e refl refl (Some m.stable) (stable_in_log me m d)) in
       represents_more me old new e d rep holds.same adds tt ((message.Log m, fits, inl refl), tt) refl
       (subst (λ (t : Tables V). EachStands me t (e ∷ d)) (sym holds.tables) (record {
         counter = left.counter refl;
         gates = left.gates (λ h. refl);
         log = left.log refl;
-        normal = log_learnt me m d old.agreement.normal new.agreement.normal (adds, rep.tables.sound.arises) learns rep.tables.normal;
-        change = log_taken me old.agreement.change new.agreement.change d (same_table old new holds.same) rep.tables.change m holds.stands;
+        normal = log_learnt me m d old.protocol.normal new.protocol.normal (adds, rep.tables.sound.arises) learns rep.tables.normal;
+        change = log_taken me old.protocol.change new.protocol.change d (same_table old new holds.same) rep.tables.change m holds.stands;
         stable = stable_learnt me old d rep e (Some m.stable) (stable_in_log me m d);
         exec = left.exec refl;
         service = left.service refl;
@@ -84,8 +84,8 @@ module _ {V : Type 0} (me : Identity V) where
     by_floor (Some c) at is = (m, c, fits, own, at, sym is)
 
   -- Where it goes forward, and the gate isn't closed, the gate goes on from there; else it stays.
-  module _ (old new : ReplicaState V) (done : Done) (x : Progress) (stands : StandsAt me old done x) (writes : WritesGates old new) (h : ℕ) (f : Floor) (other : (h == me.host) ≡ false) (comes : ComesOfRead me (Jumped h f) x.history) where
-    jumped : GatesStand me new.agreement.gates.items (Jumped h f ∷ x.history) → nat_lt (gate x.history h).counter f.counter ≡ true → StandsAt me new done (write (Jumped h f) x)
+  module _ (old new : ReplicaState V) (done : StepOutput) (x : Progress) (stands : StandsAt me old done x) (writes : WritesGates old new) (h : ℕ) (f : Floor) (other : (h == me.host) ≡ false) (comes : ComesOfRead me (Jumped h f) x.history) where
+    jumped : GatesStand me new.protocol.gates.items (Jumped h f ∷ x.history) → nat_lt (gate x.history h).counter f.counter ≡ true → StandsAt me new done (write (Jumped h f) x)
     jumped gates above =
         let d : History = x.history in
         let e : Entry = Jumped h f in
@@ -107,7 +107,7 @@ module _ {V : Type 0} (me : Identity V) where
           asked = left.asked refl;
         })))
 
-    stayed : GatesStand me new.agreement.gates.items x.history → StandsAt me new done x
+    stayed : GatesStand me new.protocol.gates.items x.history → StandsAt me new done x
     stayed gates = let t : Stand me (tables_of old) x.history = stands.represents.tables in record {
       represents = record {
         who = still_host me old new writes.same stands.represents.who;
@@ -133,18 +133,18 @@ module _ {V : Type 0} (me : Identity V) where
       installed = stands.installed;
     }
 
-    pub jump_taken : (before behind : Gate) → slice_get old.agreement.gates.items h ≡ Some before → Jumps before f behind → new.agreement.gates.items ≡ set old.agreement.gates.items h behind → StandsAt me new done (jump me h (Some f) x)
+    pub jump_taken : (before behind : Gate) → slice_get old.protocol.gates.items h ≡ Some before → Jumps before f behind → new.protocol.gates.items ≡ set old.protocol.gates.items h behind → StandsAt me new done (jump me h (Some f) x)
     jump_taken before behind there jumps is =
         by_test (is_none (closed_at x.history h) && nat_lt (gate x.history h).counter f.counter) refl
-        (subst (λ (g : List Gate). GatesStand me g (jump me h (Some f) x).history) (sym is) (gate_jumps me old.agreement.gates.items x h f before behind there jumps stands.represents.tables.gates)) where
-          by_test : (b : Bool) → (is_none (closed_at x.history h) && nat_lt (gate x.history h).counter f.counter) ≡ b → GatesStand me new.agreement.gates.items (if b then write (Jumped h f) x else x).history
+        (subst (λ (g : List Gate). GatesStand me g (jump me h (Some f) x).history) (sym is) (gate_jumps me old.protocol.gates.items x h f before behind there jumps stands.represents.tables.gates)) where
+          by_test : (b : Bool) → (is_none (closed_at x.history h) && nat_lt (gate x.history h).counter f.counter) ≡ b → GatesStand me new.protocol.gates.items (if b then write (Jumped h f) x else x).history
               → StandsAt me new done (if b then write (Jumped h f) x else x)
           by_test true is gates = jumped gates (and_parts (is_none (closed_at x.history h)) (nat_lt (gate x.history h).counter f.counter) is).1
           by_test false is gates = stayed gates
 
   -- Where there is no floor nothing jumps.
-  pub jump_of : (old new : ReplicaState V) (done : Done) (x : Progress) (m : Log) → StandsAt me old done x → WritesGates old new → FitsLog me.shape m → (h : ℕ) → h ≡ m.host → (h == me.host) ≡ false → (floor : Option Floor) (f : Floor) → floor ≡ Some f → floor ≡ floor_shown me m.host m.floor
-      → (before behind : Gate) → slice_get old.agreement.gates.items h ≡ Some before → Jumps before f behind → new.agreement.gates.items ≡ set old.agreement.gates.items h behind → StandsAt me new done (jump me h floor x)
+  pub jump_of : (old new : ReplicaState V) (done : StepOutput) (x : Progress) (m : Log) → StandsAt me old done x → WritesGates old new → FitsLog me.shape m → (h : ℕ) → h ≡ m.host → (h == me.host) ≡ false → (floor : Option Floor) (f : Floor) → floor ≡ Some f → floor ≡ floor_shown me m.host m.floor
+      → (before behind : Gate) → slice_get old.protocol.gates.items h ≡ Some before → Jumps before f behind → new.protocol.gates.items ≡ set old.protocol.gates.items h behind → StandsAt me new done (jump me h floor x)
   jump_of old new done x m stands writes fits h own other floor f there_is is before behind there jumps now =
       subst (λ (o : Option Floor). StandsAt me new done (jump me h o x)) (sym there_is)
       (jump_taken old new done x stands writes h f other (comes_of h f m x.history fits (sym own) (sym there_is ∙ is ∙ ap (λ (n : ℕ). floor_shown me n m.floor) (sym own))) before behind there jumps now)

@@ -8,7 +8,7 @@ use Rattle.mb_parts.specs.Certificates.{is_stable}
 use Rattle.mb_msg.specs.declared.message.Message.TheVariants as message
 use Rattle.mb_model.specs.GateChecks.{valid}
 use Rattle.mb_model.specs.PlainChecks.{log_refusal, is_certified_floor, is_certified_evidence}
-use Rattle.mb_replica.specs.declared.given.Answer.{Answer as GivenAnswer}
+use Rattle.mb_replica.specs.declared.given.Reaction.{Reaction as GivenAnswer}
 use Rattle.std.specs.List.{AllByRecursion}
 use Rattle.mb_msg.specs.declared.event.Outcome.{Outcome}
 use Rattle.mb_msg.specs.declared.event.Outcome.TheVariants as outcome
@@ -18,7 +18,7 @@ use Rattle.mb_model.specs.Histories.{Accepted, Identity}
 use Rattle.mb_model.specs.Given.{Answer, answer, go_on, give_stamped, give_entries, give_log, jump, floor_shown}
 use Rattle.mb_model.specs.Sending.{Progress, write}
 use Rattle.mb_replica.specs.declared.state.ReplicaState.{ReplicaState}
-use Rattle.mb_replica.specs.declared.sending.Done.{Done}
+use Rattle.mb_replica.specs.declared.sending.StepOutput.{StepOutput}
 use Rattle.mb_replica.specs.Represents.{StandsAt, HasHistory, Answers}
 use Rattle.mb_replica.specs.Holding.{IsStepping}
 use Rattle.mb_replica.specs.Answers.{goes_on, is_taken}
@@ -61,24 +61,24 @@ module _ {S : Type 0} (me : Identity S) where
 
 module _ {V : Type 0} where
   -- The entries before this one were given: what the others do is left.
-  pub record EntriesGiven (me : Identity V) (entries : List StampedMessage) (x : Progress) (done : Done) (n : ℕ) (r : ReplicaState V) : Type 0 where
+  pub record EntriesGiven (me : Identity V) (entries : List StampedMessage) (x : Progress) (done : StepOutput) (n : ℕ) (r : ReplicaState V) : Type 0 where
     pub left : Progress
     pub stands : StandsAt me r done left
     pub rest : give_entries me entries x ≡ give_entries me (drop n entries) left
 
   -- So it is whatever the history was.
   abbrev pub GivenSoFar : ReplicaState V → List StampedMessage → ℕ → ReplicaState V → Type 0
-  GivenSoFar first entries n now = (me : Identity V) (x : Progress) (done : Done) → StandsAt me first done x → EntriesGiven me entries x done n now
+  GivenSoFar first entries n now = (me : Identity V) (x : Progress) (done : StepOutput) → StandsAt me first done x → EntriesGiven me entries x done n now
 
   pub none_given : (r : ReplicaState V) (entries : List StampedMessage) → GivenSoFar r entries 0 r
   none_given r entries me x done st = record { left = x; stands = st; rest = refl }
 
   -- what giving a stamped message says
   abbrev pub Gives : StampedMessage → Outcome → ReplicaState V → ReplicaState V → Type 0
-  Gives m o old new = (me : Identity V) (x : Progress) (done : Done) → StandsAt me old done x → (o ≡ (give_stamped me m x).outcome) × StandsAt me new done (give_stamped me m x).left
+  Gives m o old new = (me : Identity V) (x : Progress) (done : StepOutput) → StandsAt me old done x → (o ≡ (give_stamped me m x).outcome) × StandsAt me new done (give_stamped me m x).left
 
   module _ (first old new : ReplicaState V) (entries : List StampedMessage) (n : ℕ) (m : StampedMessage) (o : Outcome) (lt : n < length entries) (is : m ≡ get_or entries n m) (so_far : GivenSoFar first entries n old) (gives : Gives m o old new) where
-    next_given : (me : Identity V) (x : Progress) (done : Done) (st : StandsAt me first done x) (e : EntriesGiven me entries x done n old)
+    next_given : (me : Identity V) (x : Progress) (done : StepOutput) (st : StandsAt me first done x) (e : EntriesGiven me entries x done n old)
         → give_entries me entries x ≡ go_on me o (give_stamped me m e.left).left (λ y. give_entries me (drop (n + 1) entries) y)
     next_given me x done st e =
         e.rest ∙ ap (λ (l : List StampedMessage). give_entries me l e.left) (dropped_one entries n m lt is) ∙ one_given me m (drop (n + 1) entries) e.left
@@ -95,14 +95,14 @@ module _ {V : Type 0} where
         }
 
     -- Another outcome than those that go on ends it.
-    pub given_ends : goes_on o ≡ false → (me : Identity V) (x : Progress) (done : Done) → StandsAt me first done x → (o ≡ (give_entries me entries x).outcome) × StandsAt me new done (give_entries me entries x).left
+    pub given_ends : goes_on o ≡ false → (me : Identity V) (x : Progress) (done : StepOutput) → StandsAt me first done x → (o ≡ (give_entries me entries x).outcome) × StandsAt me new done (give_entries me entries x).left
     given_ends stop me x done st =
         let e : EntriesGiven me entries x done n old = so_far me x done st in
         subst (λ (a : Answer). (o ≡ a.outcome) × StandsAt me new done a.left) (sym (next_given me x done st e ∙ ends me o (give_stamped me m e.left).left (λ y. give_entries me (drop (n + 1) entries) y) stop)) (refl, (gives me e.left done e.stands).1)
 
   -- Behind the last it is taken.
   pub given_all : (first now : ReplicaState V) (entries : List StampedMessage) (n : ℕ) → length entries ≤ n → GivenSoFar first entries n now
-      → (me : Identity V) (x : Progress) (done : Done) → StandsAt me first done x → (outcome.Took ≡ (give_entries me entries x).outcome) × StandsAt me now done (give_entries me entries x).left
+      → (me : Identity V) (x : Progress) (done : StepOutput) → StandsAt me first done x → (outcome.Took ≡ (give_entries me entries x).outcome) × StandsAt me now done (give_entries me entries x).left
   given_all first now entries n most so_far me x done st =
       let e : EntriesGiven me entries x done n now = so_far me x done st in
       subst (λ (a : Answer). (outcome.Took ≡ a.outcome) × StandsAt me now done a.left) (sym (e.rest ∙ ap (λ (l : List StampedMessage). give_entries me l e.left) (dropped_all entries n most) ∙ none_left me e.left)) (refl, e.stands)
@@ -116,7 +116,7 @@ module _ {V : Type 0} where
   has_history r s = record { me = s.me; history = s.left.history; represents = s.stands.represents }
 
   -- The shape is the same.
-  pub shape_on : (first now : ReplicaState V) (entries : List StampedMessage) (n : ℕ) → IsStepping first → GivenSoFar first entries n now → first.agreement.shape ≡ now.agreement.shape
+  pub shape_on : (first now : ReplicaState V) (entries : List StampedMessage) (n : ℕ) → IsStepping first → GivenSoFar first entries n now → first.protocol.shape ≡ now.protocol.shape
   shape_on first now entries n s so_far =
       let e : EntriesGiven s.me entries s.left s.done n now = so_far s.me s.left s.done s.stands in
       sym s.stands.represents.who.shape ∙ e.stands.represents.who.shape
@@ -145,7 +145,7 @@ module _ {S : Type 0} (me : Identity S) (m : Log) where
   unfolding give_log
   log_given x is = rw (sym is) refl
 
-module _ {V : Type 0} (me : Identity V) (m : Log) (x : Progress) (done : Done) where
+module _ {V : Type 0} (me : Identity V) (m : Log) (x : Progress) (done : StepOutput) where
   pub refusal_answered : (old : ReplicaState V) (o : Outcome) (a : GivenAnswer) → StandsAt me old done x → Some o ≡ log_refusal me m → a ≡ record { outcome = o; rules_follow = is_taken o; asks = false }
       → Answers me (message.Log m) a (give_log me m x) × StandsAt me old done (give_log me m x).left
   refusal_answered old o a st is of =

@@ -17,10 +17,10 @@ use Rattle.mb_model.proofs.ShapesFit.{shape_fits}
 use Rattle.mb_steps.proofs.StepPassed.{passes_wish}
 use Rattle.mb_change.specs.Searches.{with_wish}
 use Rattle.mb_change.specs.Represents.{StandsWith}
-use Rattle.mb_fitting.proofs.Answers.{patience_sent}
-use Rattle.mb_standing.proofs.Changes.{wish_taken, patience_lost}
+use Rattle.mb_encodable.proofs.Answers.{patience_sent}
+use Rattle.mb_refinement.proofs.Changes.{wish_taken, patience_lost}
 use Rattle.mb_replica.specs.declared.state.ReplicaState.{ReplicaState}
-use Rattle.mb_replica.specs.declared.sending.Done.{Done}
+use Rattle.mb_replica.specs.declared.sending.StepOutput.{StepOutput}
 use Rattle.mb_replica.specs.Represents.{Represents, StandsAt}
 use Rattle.mb_replica.specs.Between.{WritesChange}
 use Rattle.mb_replica.specs.Wishing.{Wishes}
@@ -46,7 +46,7 @@ module _ {S : Type 0} (me : Identity S) (x : Progress) where
   unfolding on_patience
   patience_goes more = rw more refl
 
-module _ {V : Type 0} (me : Identity V) (old new : ReplicaState V) (done : Done) (x : Progress) (st : StandsAt me old done x) where
+module _ {V : Type 0} (me : Identity V) (old new : ReplicaState V) (done : StepOutput) (x : Progress) (st : StandsAt me old done x) where
   -- A wish is taken where the replica represents the history with it.
   pub wish_answered : (m : ReqViewChange) → None ≡ wish_refusal me x.history m → Represents me new (Accepted (message.ReqViewChange m) ∷ x.history) → (outcome.Took ≡ (give_wish me m x).outcome) × StandsAt me new done (give_wish me m x).left
   wish_answered m is now =
@@ -56,24 +56,24 @@ module _ {V : Type 0} (me : Identity V) (old new : ReplicaState V) (done : Done)
 
 module _ {V : Type 0} (me : Identity V) (old new : ReplicaState V) (d : History) (rep : Represents me old d) (writes : WritesChange old new) where
   -- A wish that asks for more is kept.
-  pub wish_kept : (m : ReqViewChange) → FitsWish old.agreement.shape m → wish_refusal me d m ≡ None → StandsWith old.agreement.change (with_wish m.host m.view) new.agreement.change
+  pub wish_kept : (m : ReqViewChange) → FitsWish old.protocol.shape m → wish_refusal me d m ≡ None → StandsWith old.protocol.change (with_wish m.host m.view) new.protocol.change
       → Represents me new (Accepted (message.ReqViewChange m) ∷ d)
   wish_kept m fits passed stands =
       let e : Entry = Accepted (message.ReqViewChange m) in
       let adds = passes_wish me d m passed in
       let alone : SpeaksToChange e = record { gates = λ h. refl; counter = refl; log = refl; positions = refl; stable = refl; executed = refl; state = refl; snapshots = refl; parts = refl; nudge = refl } in
       represents_more me old new e d rep writes.same adds tt ((message.ReqViewChange m, subst (λ (s : Shape). FitsWish s m) (sym rep.who.shape) fits, inl refl), tt) refl
-      (change_written me old new e d rep adds alone writes (wish_taken me old.agreement.change new.agreement.change d (same_table old new writes.same) rep.tables.change m stands))
+      (change_written me old new e d rep adds alone writes (wish_taken me old.protocol.change new.protocol.change d (same_table old new writes.same) rep.tables.change m stands))
 
   -- The host wishes for the view behind its own.
   module _ (more : (view_of me d == view_limit) ≡ false) where
-    pub wished_onward : (host next : ℕ) → host ≡ me.host → next ≡ view_of me d + 1 → StandsWith old.agreement.change (with_wish host next) new.agreement.change → Represents me new (LostPatience ∷ d)
+    pub wished_onward : (host next : ℕ) → host ≡ me.host → next ≡ view_of me d + 1 → StandsWith old.protocol.change (with_wish host next) new.protocol.change → Represents me new (LostPatience ∷ d)
     wished_onward host next own is stands =
         let alone : SpeaksToChange LostPatience = record { gates = λ h. refl; counter = refl; log = refl; positions = refl; stable = refl; executed = refl; state = refl; snapshots = refl; parts = refl; nudge = refl } in
-        let written : StandsWith old.agreement.change (with_wish me.host (view_of me d + 1)) new.agreement.change =
-        subst (λ (h : ℕ). StandsWith old.agreement.change (with_wish h (view_of me d + 1)) new.agreement.change) own (subst (λ (v : ℕ). StandsWith old.agreement.change (with_wish host v) new.agreement.change) is stands) in
+        let written : StandsWith old.protocol.change (with_wish me.host (view_of me d + 1)) new.protocol.change =
+        subst (λ (h : ℕ). StandsWith old.protocol.change (with_wish h (view_of me d + 1)) new.protocol.change) own (subst (λ (v : ℕ). StandsWith old.protocol.change (with_wish host v) new.protocol.change) is stands) in
         represents_more me old new LostPatience d rep writes.same tt tt more refl
-        (change_written me old new LostPatience d rep tt alone writes (patience_lost me old.agreement.change new.agreement.change d (same_table old new writes.same) rep.tables.change written))
+        (change_written me old new LostPatience d rep tt alone writes (patience_lost me old.protocol.change new.protocol.change d (same_table old new writes.same) rep.tables.change written))
 
     -- It can be told.
     pub onward_told : Represents me new (LostPatience ∷ d) → Wishes new

@@ -11,14 +11,14 @@ use Rattle.mb_log.specs.Logs.{empty_log}
 use Rattle.mb_change.specs.Tables.{empty_table}
 use Rattle.mb_normal.specs.Searches.{nothing_above}
 use Rattle.mb_normal.specs.Tables.{Represents as NormalRepresents}
-use Rattle.mb_replica.specs.declared.agreement.Agreement.{Agreement}
+use Rattle.mb_replica.specs.declared.protocol.Protocol.{Protocol}
 
 -- one for each of so many hosts, in their order
 pub record AreNewGates (s : Shape) (gates : List Gate) (hosts : ℕ) : Type 0 where
   pub count : length gates ≡ hosts
   pub each : (h : ℕ) (gate : Gate) → slice_get gates h ≡ Some gate → GateRepresents gate (log_from s h initial_floor)
 
-pub record IsNew (s : Shape) (host : ℕ) (secret : Bytes) (a : Agreement) : Type 0 where
+pub record IsNew (s : Shape) (host : ℕ) (secret : Bytes) (a : Protocol) : Type 0 where
   pub shape : a.shape ≡ s
   pub host_is : a.host ≡ host
   pub usig : a.usig ≡ record { shape = s; host = host; secret = secret; counter = 0 }

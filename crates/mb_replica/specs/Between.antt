@@ -21,21 +21,21 @@ use Rattle.mb_model.specs.Sending.{Progress}
 use Rattle.mb_model.specs.KindChecks.{stamped_refusal}
 use Rattle.mb_model.specs.Given.{casts_vote}
 use Rattle.mb_steps.specs.Arises.{JustExecuted}
-use Rattle.mb_searches.specs.Sound.{IsSound}
+use Rattle.mb_history_laws.specs.Sound.{IsSound}
 use Rattle.mb_log.specs.Logs.{start, floor_counter, cut_at}
-use Rattle.mb_fitting.specs.Fitting.{AreFit}
+use Rattle.mb_encodable.specs.Fitting.{AreFit}
 use Rattle.mb_gate.specs.declared.gate.Gate.{Gate}
-use Rattle.mb_standing.specs.Tables.{Tables}
-use Rattle.mb_standing.specs.GateCalls.{Follows, Closes}
-use Rattle.mb_standing.specs.Stands.{GatesStand, LogStands, NormalStands, ChangeStands, ShelfStands, HeldStand}
-use Rattle.mb_standing.specs.Positions.{Learns, AnswersStable}
-use Rattle.mb_standing.specs.LogCalls.{IsUncut}
-use Rattle.mb_keeper.specs.Keeping.{raised}
+use Rattle.mb_refinement.specs.Tables.{Tables}
+use Rattle.mb_refinement.specs.GateCalls.{Follows, Closes}
+use Rattle.mb_refinement.specs.Stands.{GatesStand, LogStands, NormalStands, ChangeStands, ShelfStands, HeldStand}
+use Rattle.mb_refinement.specs.Positions.{Learns, AnswersStable}
+use Rattle.mb_refinement.specs.LogCalls.{IsUncut}
+use Rattle.mb_executor.specs.Keeping.{raised}
 use Rattle.mb_normal.specs.Searches.{above_low}
 use Rattle.mb_normal.specs.Tables.{Becomes}
-use Rattle.mb_replica.specs.declared.agreement.Agreement.{Agreement}
+use Rattle.mb_replica.specs.declared.protocol.Protocol.{Protocol}
 use Rattle.mb_replica.specs.declared.state.ReplicaState.{ReplicaState}
-use Rattle.mb_replica.specs.declared.sending.Done.{Done}
+use Rattle.mb_replica.specs.declared.sending.StepOutput.{StepOutput}
 use Rattle.mb_replica.specs.Represents.{IsHost, Represents, StandsAt, tables_of}
 
 -- a message of a kind other than COMMIT
@@ -44,7 +44,7 @@ IsNoCommit (stamped.Commit m) = ⊥
 IsNoCommit m = Unit {0}
 
 -- What a host agrees on was raised to a certificate.
-pub record RisesTo (cert : StableCert) (old new : Agreement) : Type 0 where
+pub record RisesTo (cert : StableCert) (old new : Protocol) : Type 0 where
   pub shape : new.shape ≡ old.shape
   pub host : new.host ≡ old.host
   pub usig : new.usig ≡ old.usig
@@ -61,43 +61,43 @@ module _ {V : Type 0} where
 
   -- the same host of the same system
   pub record IsSame (old new : ReplicaState V) : Type 0 where
-    pub shape : new.agreement.shape ≡ old.agreement.shape
-    pub host : new.agreement.host ≡ old.agreement.host
-    pub secret : new.agreement.usig.secret ≡ old.agreement.usig.secret
+    pub shape : new.protocol.shape ≡ old.protocol.shape
+    pub host : new.protocol.host ≡ old.protocol.host
+    pub secret : new.protocol.usig.secret ≡ old.protocol.usig.secret
 
   -- Nothing but tables of these kinds was written.
   pub record WritesGates (old new : ReplicaState V) : Type 0 where
     pub same : IsSame old new
-    pub tables : tables_of new ≡ record (tables_of old) { gates = new.agreement.gates.items }
+    pub tables : tables_of new ≡ record (tables_of old) { gates = new.protocol.gates.items }
 
   pub record WritesNormal (old new : ReplicaState V) : Type 0 where
     pub same : IsSame old new
-    pub tables : tables_of new ≡ record (tables_of old) { normal = new.agreement.normal }
+    pub tables : tables_of new ≡ record (tables_of old) { normal = new.protocol.normal }
 
   pub record WritesChange (old new : ReplicaState V) : Type 0 where
     pub same : IsSame old new
-    pub tables : tables_of new ≡ record (tables_of old) { change = new.agreement.change }
+    pub tables : tables_of new ≡ record (tables_of old) { change = new.protocol.change }
 
   pub record WritesLog (old new : ReplicaState V) : Type 0 where
     pub same : IsSame old new
-    pub tables : tables_of new ≡ record (tables_of old) { log = new.agreement.log }
+    pub tables : tables_of new ≡ record (tables_of old) { log = new.protocol.log }
 
   pub record WritesCounter (old new : ReplicaState V) : Type 0 where
     pub same : IsSame old new
-    pub tables : tables_of new ≡ record (tables_of old) { counter = old.agreement.usig.counter + 1 }
+    pub tables : tables_of new ≡ record (tables_of old) { counter = old.protocol.usig.counter + 1 }
 
   pub record WritesStamp (old new : ReplicaState V) : Type 0 where
     pub same : IsSame old new
-    pub tables : tables_of new ≡ record (tables_of old) { gates = new.agreement.gates.items; log = new.agreement.log }
+    pub tables : tables_of new ≡ record (tables_of old) { gates = new.protocol.gates.items; log = new.protocol.log }
 
   -- A certificate was learnt: the tables of the normal case are raised, and snapshots and parts below it are gone.
   pub record WritesLearnt (cert : StableCert) (old new : ReplicaState V) : Type 0 where
     pub same : IsSame old new
-    pub learns : Learns old.agreement.stable (Some cert) old.agreement.normal new.agreement.normal
-    pub keeper : new.keeper ≡ (if nat_lt old.agreement.stable.pos cert.pos then raised cert.pos old.keeper else old.keeper)
+    pub learns : Learns old.protocol.stable (Some cert) old.protocol.normal new.protocol.normal
+    pub keeper : new.keeper ≡ (if nat_lt old.protocol.stable.pos cert.pos then raised cert.pos old.keeper else old.keeper)
     pub tables : tables_of new ≡ record (tables_of old) {
-      normal = new.agreement.normal;
-      stable = further old.agreement.stable (Some cert);
+      normal = new.protocol.normal;
+      stable = further old.protocol.stable (Some cert);
       shelf = new.keeper.snapshots;
       parts = new.keeper.fetched;
     }
@@ -106,9 +106,9 @@ module _ {V : Type 0} where
   pub record WritesGate (h : ℕ) (Law : Gate → Gate → Type 0) (old new : ReplicaState V) : Type 0 where
     pub before : Gate
     pub behind : Gate
-    pub there : slice_get old.agreement.gates.items h ≡ Some before
+    pub there : slice_get old.protocol.gates.items h ≡ Some before
     pub law : Law before behind
-    pub now : new.agreement.gates.items ≡ slice_set old.agreement.gates.items h behind
+    pub now : new.protocol.gates.items ≡ slice_set old.protocol.gates.items h behind
     pub writes : WritesGates old new
 
   -- It took the message of a mark, or was closed.
@@ -135,15 +135,15 @@ module _ {V : Type 0} where
   -- An accepted message was taken by all tables but its sender's gate, which follows last.
   pub record AwaitsGate (me : Identity V) (old new : ReplicaState V) (m : StampedMessage) (d : History) : Type 0 where
     pub who : IsHost me new
-    pub gates : new.agreement.gates.items ≡ old.agreement.gates.items
-    pub log : LogStands me new.agreement.log (Accepted (as_message m) ∷ d)
+    pub gates : new.protocol.gates.items ≡ old.protocol.gates.items
+    pub log : LogStands me new.protocol.log (Accepted (as_message m) ∷ d)
     pub rest : RestStands me (tables_of new) (Accepted (as_message m) ∷ d)
 
   -- A message was stamped and taken by all tables but the own gate and the own log, which follow when it is sent.
   pub record AwaitsPublish (me : Identity V) (r : ReplicaState V) (m : StampedMessage) (d : History) : Type 0 where
     pub who : IsHost me r
-    pub gates : GatesStand me r.agreement.gates.items d
-    pub log : LogStands me r.agreement.log d
+    pub gates : GatesStand me r.protocol.gates.items d
+    pub log : LogStands me r.protocol.log d
     pub rest : RestStands me (tables_of r) (Stamped m ∷ d)
 
   -- ---- a message that passes
@@ -167,12 +167,12 @@ module _ {V : Type 0} where
   -- the tables that it writes: those of the normal case, the certificate, snapshots and parts
   pub record WritesKept (old new : ReplicaState V) : Type 0 where
     pub same : IsSame old new
-    pub tables : tables_of new ≡ record (tables_of old) { normal = new.agreement.normal; stable = new.agreement.stable; shelf = new.keeper.snapshots; parts = new.keeper.fetched }
+    pub tables : tables_of new ≡ record (tables_of old) { normal = new.protocol.normal; stable = new.protocol.stable; shelf = new.keeper.snapshots; parts = new.keeper.fetched }
 
   -- these tables
   pub record KeepingStands (me : Identity V) (r : ReplicaState V) (d : History) : Type 0 where
-    pub normal : NormalStands me r.agreement.normal d
-    pub stable : r.agreement.stable ≡ stable_of me d
+    pub normal : NormalStands me r.protocol.normal d
+    pub stable : r.protocol.stable ≡ stable_of me d
     pub shelf : ShelfStands me r.keeper.snapshots d
     pub parts : HeldStand me r.keeper.fetched d
 
@@ -190,9 +190,9 @@ module _ {V : Type 0} where
   pub record AwaitsCut (me : Identity V) (r : ReplicaState V) (e : Entry) (d : History) : Type 0 where
     pub who : IsHost me r
     pub kept : is_kept (low_of me d) (checkpoint_in e) ≡ true
-    pub log : IsUncut me r.agreement.log e d
-    pub counter : r.agreement.usig.counter ≡ counter_of (e ∷ d)
-    pub normal : NormalStands me r.agreement.normal (e ∷ d)
+    pub log : IsUncut me r.protocol.log e d
+    pub counter : r.protocol.usig.counter ≡ counter_of (e ∷ d)
+    pub normal : NormalStands me r.protocol.normal (e ∷ d)
 
   -- There is a history so.
   pub record BringsKept (r : ReplicaState V) (m : Checkpoint) : Type 0 where
@@ -214,21 +214,21 @@ module _ {V : Type 0} where
 
   pub record LearntAgreed (old new : ReplicaState V) : Type 0 where
     pub cert : Option StableCert
-    pub answers : AnswersStable old.agreement.normal cert
+    pub answers : AnswersStable old.protocol.normal cert
     pub learnt : Learnt cert old new
 
   -- ---- the own log is cut by a certificate, where this goes forward and not beyond the counter
 
   abbrev pub goes_forward : ReplicaState V → FloorCert → Bool
-  goes_forward r c = nat_lt (start r.agreement.log) (floor_counter r.agreement.host (Some c)) && nat_le (floor_counter r.agreement.host (Some c)) r.agreement.usig.counter
+  goes_forward r c = nat_lt (start r.protocol.log) (floor_counter r.protocol.host (Some c)) && nat_le (floor_counter r.protocol.host (Some c)) r.protocol.usig.counter
 
   -- The log holds so much.
   abbrev pub IsWithin : ReplicaState V → FloorCert → Type 0
-  IsWithin r c = floor_counter r.agreement.host (Some c) ≤ start r.agreement.log + length r.agreement.log.entries
+  IsWithin r c = floor_counter r.protocol.host (Some c) ≤ start r.protocol.log + length r.protocol.log.entries
 
   pub record CutsBy (c : FloorCert) (old new : ReplicaState V) : Type 0 where
-    pub forward : goes_forward old c ≡ true → new.agreement.log ≡ cut_at c old.agreement.log
-    pub stays : goes_forward old c ≡ false → new.agreement.log ≡ old.agreement.log
+    pub forward : goes_forward old c ≡ true → new.protocol.log ≡ cut_at c old.protocol.log
+    pub stays : goes_forward old c ≡ false → new.protocol.log ≡ old.protocol.log
 
   -- The certificate for this host's log that kept CHECKPOINTs make, if any, cut it.
   abbrev pub CutsFound : ReplicaState V → ReplicaState V → Option FloorCert → Type 0
@@ -238,7 +238,7 @@ module _ {V : Type 0} where
   -- ---- the CHECKPOINT of this host
 
   -- A batch was just executed at a multiple of the interval. There is room for the CHECKPOINT of this state digest.
-  pub record AwaitsCheckpoint (me : Identity V) (r : ReplicaState V) (done : Done) (pos : ℕ) (state : Bytes) (x : Progress) : Type 0 where
+  pub record AwaitsCheckpoint (me : Identity V) (r : ReplicaState V) (done : StepOutput) (pos : ℕ) (state : Bytes) (x : Progress) : Type 0 where
     pub stands : StandsAt me r done x
     pub executed : JustExecuted me x.history pos
     pub whole : (pos % interval me.shape == 0) ≡ true
@@ -246,7 +246,7 @@ module _ {V : Type 0} where
     pub digest : state ≡ state_digest (present_parts me x.history) pos
 
   -- There is a step so.
-  pub record BringsCheckpoint (r : ReplicaState V) (done : Done) (pos : ℕ) (state : Bytes) : Type 0 where
+  pub record BringsCheckpoint (r : ReplicaState V) (done : StepOutput) (pos : ℕ) (state : Bytes) : Type 0 where
     pub me : Identity V
     pub left : Progress
     pub awaits : AwaitsCheckpoint me r done pos state left

@@ -18,13 +18,13 @@ use Rattle.mb_change.specs.declared.opened.Opened.{Opened}
 use Rattle.mb_change.specs.Searches.{Searches as ChangeSearches, opened_in}
 use Rattle.mb_change.specs.Represents.{StandsWith}
 use Rattle.mb_change.specs.Written.{with_planned, brought, written}
-use Rattle.mb_keeper.specs.Keeping.{Keeping, raised}
+use Rattle.mb_executor.specs.Keeping.{Keeping, raised}
 use Rattle.mb_normal.specs.Searches.{Searches}
 use Rattle.mb_normal.specs.Tables.{Represents as NormalRepresents}
-use Rattle.mb_standing.specs.Positions.{Learns, AreOpens, counting, hosts_below, positions_to, open_votes, is_open_of}
-use Rattle.mb_standing.specs.Stands.{ChangeStands}
+use Rattle.mb_refinement.specs.Positions.{Learns, AreOpens, counting, hosts_below, positions_to, open_votes, is_open_of}
+use Rattle.mb_refinement.specs.Stands.{ChangeStands}
 use Rattle.mb_replica.specs.declared.state.ReplicaState.{ReplicaState}
-use Rattle.mb_replica.specs.declared.sending.Done.{Done}
+use Rattle.mb_replica.specs.declared.sending.StepOutput.{StepOutput}
 use Rattle.mb_replica.specs.Represents.{tables_of, StandsAt}
 use Rattle.mb_replica.specs.Between.{IsSame}
 
@@ -37,7 +37,7 @@ module _ {V : Type 0} where
   -- There is a step that it is in.
   pub record IsStepping (r : ReplicaState V) : Type 0 where
     pub me : Identity V
-    pub done : Done
+    pub done : StepOutput
     pub left : Progress
     pub stands : StandsAt me r done left
 
@@ -46,13 +46,13 @@ module _ {V : Type 0} where
   -- The table of view changes was written so, and a certificate learnt, where there was one.
   pub record Holds (f : ChangeSearches → ChangeSearches) (learnt : Option StableCert) (old new : ReplicaState V) : Type 0 where
     pub same : IsSame old new
-    pub stands : StandsWith old.agreement.change f new.agreement.change
-    pub learns : Learns old.agreement.stable learnt old.agreement.normal new.agreement.normal
-    pub keeper : new.keeper ≡ kept_behind old.agreement.stable learnt old.keeper
+    pub stands : StandsWith old.protocol.change f new.protocol.change
+    pub learns : Learns old.protocol.stable learnt old.protocol.normal new.protocol.normal
+    pub keeper : new.keeper ≡ kept_behind old.protocol.stable learnt old.keeper
     pub tables : tables_of new ≡ record (tables_of old) {
-      normal = new.agreement.normal;
-      change = new.agreement.change;
-      stable = further old.agreement.stable learnt;
+      normal = new.protocol.normal;
+      change = new.protocol.change;
+      stable = further old.protocol.stable learnt;
       shelf = new.keeper.snapshots;
       parts = new.keeper.fetched;
     }
@@ -96,14 +96,14 @@ module _ {V : Type 0} where
   -- They are those of this history: the table of view changes stands for it, the host's view in it is this one, and its stable position is that of
   -- what was known before.
   pub record Counts (me : Identity V) (d : History) (x : Searches) (view : ℕ) (r : ReplicaState V) : Type 0 where
-    pub change : ChangeStands me r.agreement.change d
+    pub change : ChangeStands me r.protocol.change d
     pub view_is : view ≡ view_of me d
     pub opens : AreOpens me.shape d
     pub low : x.low ≡ low_of me d
 
   -- The tables stand for what was known before and the votes that were counted.
   abbrev pub StandsCounting : Identity V → History → Searches → (ℕ → ℕ → Bool) → ReplicaState V → Type 0
-  StandsCounting me d x counted r = NormalRepresents me.shape me.host r.agreement.normal (counting x (open_votes me d) counted)
+  StandsCounting me d x counted r = NormalRepresents me.shape me.host r.protocol.normal (counting x (open_votes me d) counted)
 
   -- More of them were counted.
   abbrev pub CountsMore : (ℕ → ℕ → Bool) → (ℕ → ℕ → Bool) → ℕ → ReplicaState V → ReplicaState V → Type 0
@@ -111,11 +111,11 @@ module _ {V : Type 0} where
 
   -- Those of the hosts below a number were counted, of none before.
   abbrev pub CountsBelow : ℕ → ℕ → ReplicaState V → ReplicaState V → Type 0
-  CountsBelow host view old new = (me : Identity V) (d : History) (x : Searches) → Counts me d x view old → NormalRepresents me.shape me.host old.agreement.normal x → StandsCounting me d x (hosts_below host) new
+  CountsBelow host view old new = (me : Identity V) (d : History) (x : Searches) → Counts me d x view old → NormalRepresents me.shape me.host old.protocol.normal x → StandsCounting me d x (hosts_below host) new
 
   -- Those of all hosts were.
   abbrev pub CountsOpens : ℕ → ReplicaState V → ReplicaState V → Type 0
-  CountsOpens view old new = CountsBelow (host_count old.agreement.shape) view old new
+  CountsOpens view old new = CountsBelow (host_count old.protocol.shape) view old new
 
   -- The vote of a host for the position behind this one was counted, where its last OPEN, of this counter, is for the plan.
   abbrev pub CountsVoteOf : Plan → ℕ → ℕ → ℕ → ℕ → ReplicaState V → ReplicaState V → Type 0

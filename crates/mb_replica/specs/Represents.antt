@@ -14,13 +14,13 @@ use Rattle.mb_steps.specs.Arises.{IsWhole}
 use Rattle.mb_msg.specs.declared.message.Message.{Message}
 use Rattle.mb_msg.specs.declared.message.Message.TheVariants as message
 use Rattle.mb_cache.specs.Represents.{machine_of, snapshots_of}
-use Rattle.mb_replica.specs.declared.given.Answer.{Answer as GivenAnswer}
-use Rattle.mb_standing.specs.Tables.{Tables}
-use Rattle.mb_standing.specs.Stands.{Stand}
-use Rattle.mb_fitting.specs.Fitting.{AreFit}
+use Rattle.mb_replica.specs.declared.given.Reaction.{Reaction as GivenAnswer}
+use Rattle.mb_refinement.specs.Tables.{Tables}
+use Rattle.mb_refinement.specs.Stands.{Stand}
+use Rattle.mb_encodable.specs.Fitting.{AreFit}
 use Rattle.mb_replica.specs.declared.state.ReplicaState.{ReplicaState}
-use Rattle.mb_replica.specs.declared.sending.Done.{Done}
-use Rattle.mb_replica.specs.declared.told.Told.{Told}
+use Rattle.mb_replica.specs.declared.sending.StepOutput.{StepOutput}
+use Rattle.mb_replica.specs.declared.told.StepRecord.{StepRecord}
 use Rattle.mb_replica.specs.Told.{as_outgoing}
 
 -- a message that is sent, as its bytes
@@ -35,7 +35,7 @@ pub record IsStep (step : Step) (a : Answer) : Type 0 where
   pub adopted : step.adopted ≡ a.left.installed
 
 -- and so is one that tells what was stamped
-pub record IsTold (told : Told) (a : Answer) : Type 0 where
+pub record IsTold (told : StepRecord) (a : Answer) : Type 0 where
   pub outcome : told.outcome ≡ a.outcome
   pub sent : told.sent ≡ map as_outgoing a.left.sent
   pub executed : told.executed ≡ a.left.executed
@@ -45,24 +45,24 @@ module _ {V : Type 0} where
   -- all that it keeps
   abbrev pub tables_of : ReplicaState V → Tables V
   tables_of r = record {
-    counter = r.agreement.usig.counter;
-    gates = r.agreement.gates.items;
-    log = r.agreement.log;
-    normal = r.agreement.normal;
-    change = r.agreement.change;
-    stable = r.agreement.stable;
-    exec = r.agreement.exec;
+    counter = r.protocol.usig.counter;
+    gates = r.protocol.gates.items;
+    log = r.protocol.log;
+    normal = r.protocol.normal;
+    change = r.protocol.change;
+    stable = r.protocol.stable;
+    exec = r.protocol.exec;
     service = r.keeper.served;
     shelf = r.keeper.snapshots;
     parts = r.keeper.fetched;
-    asked = r.agreement.asked;
+    asked = r.protocol.asked;
   }
 
   -- which host it is
   pub record IsHost (me : Identity V) (r : ReplicaState V) : Type 0 where
-    pub shape : me.shape ≡ r.agreement.shape
-    pub host : me.host ≡ r.agreement.host
-    pub secret : me.secret ≡ r.agreement.usig.secret
+    pub shape : me.shape ≡ r.protocol.shape
+    pub host : me.host ≡ r.protocol.host
+    pub secret : me.secret ≡ r.protocol.usig.secret
 
   -- A replica stands for a history of a host, also in the middle of a batch. All that is in it has the values of the grammar.
   pub record Represents (me : Identity V) (r : ReplicaState V) (d : History) : Type 0 where
@@ -81,7 +81,7 @@ module _ {V : Type 0} where
   -- ---- a step
 
   -- a replica in the middle of a step, and of a batch of which these requests are served, stands where the step stands
-  pub record StandsServing (me : Identity V) (r : ReplicaState V) (done : Done) (served : List Placed) (x : Progress) : Type 0 where
+  pub record StandsServing (me : Identity V) (r : ReplicaState V) (done : StepOutput) (served : List Placed) (x : Progress) : Type 0 where
     pub represents : Represents me r x.history
     pub serving : just_served x.history ≡ served
     pub sent : done.sent ≡ map as_outgoing x.sent
@@ -89,7 +89,7 @@ module _ {V : Type 0} where
     pub installed : done.installed ≡ x.installed
 
   -- between two batches of a step
-  abbrev pub StandsAt : Identity V → ReplicaState V → Done → Progress → Type 0
+  abbrev pub StandsAt : Identity V → ReplicaState V → StepOutput → Progress → Type 0
   StandsAt me r done x = StandsServing me r done [] x
 
   -- ---- what is always so, whatever the history
@@ -101,7 +101,7 @@ module _ {V : Type 0} where
     pub represents : Represents me r history
 
   -- There is a step that it is in, of a host with this service, between two batches.
-  pub record IsInStep (machine : ServiceMachine V) (r : ReplicaState V) (done : Done) : Type 0 where
+  pub record IsInStep (machine : ServiceMachine V) (r : ReplicaState V) (done : StepOutput) : Type 0 where
     pub me : Identity V
     pub left : Progress
     pub serves : Serves machine me

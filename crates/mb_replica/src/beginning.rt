@@ -5,7 +5,7 @@ ghost use Rattle.mb_base.specs.Shapes.{host_count};
 ghost use Rattle.mb_model.specs.Plans.{no_base};
 ghost use Rattle.mb_replica.specs.Beginning.{IsNew, AreNewGates};
 
-use crate::agreement::Agreement;
+use crate::protocol::Protocol;
 use mb_base::{Host, Items, Key, NoMemory, Shape};
 use mb_change::Change;
 use mb_gate::Gate;
@@ -15,18 +15,18 @@ use mb_normal::Normal;
 use mb_usig::Usig;
 use std::alloc::Global;
 
-impl Agreement {
+impl Protocol {
     /// That of a host that nothing has happened to.
     pub(crate) fn make(
         alloc: Global,
         shape: Shape,
         host: Host,
         secret: &Key,
-    ) -> Result<Agreement, NoMemory>
+    ) -> Result<Protocol, NoMemory>
         requires { host < host_count shape }
         ensures { IfOk result (λ a. IsNew shape host secret.now a) }
     {
-        Ok(Agreement {
+        Ok(Protocol {
             shape,
             host,
             usig: Usig::new(shape, host, secret).remembering(alloc),

@@ -23,7 +23,7 @@ impl<V: Service + Drop> ReplicaState<V> {
 
     /// One that is not below the stable position is kept: the certificate that it completes is learnt, and then the own log is cut.
     pub(crate) fn accept_checkpoint(&mut self, alloc: Global, m: Checkpoint) -> Result<(), NoMemory>
-        requires fits { FitsCheckpoint self.old.agreement.shape m }
+        requires fits { FitsCheckpoint self.old.protocol.shape m }
         requires passes { LetsPass self.old (stamped.Checkpoint m) }
         ensures { (me : Identity V) (d : History) → Represents me self.old d → stamped_refusal me d (stamped.Checkpoint m) ≡ None → OnOk result (AwaitsGate me self.old self.new (stamped.Checkpoint m) d) }
     {
@@ -36,12 +36,12 @@ impl<V: Service + Drop> ReplicaState<V> {
 
     /// One is kept, and the certificate that it completes is learnt.
     pub fn keep_checkpoint(&mut self, alloc: Global, m: Checkpoint) -> Result<(), NoMemory>
-        requires fits { FitsCheckpoint self.old.agreement.shape m }
+        requires fits { FitsCheckpoint self.old.protocol.shape m }
         requires brings { BringsKept self.old m }
         ensures stands { (me : Identity V) (e : Entry) (d : History) → AwaitsKeeping me self.old m e d → OnOk result (KeepingStands me self.new (e ∷ d)) }
         ensures writes { OnOk result (WritesKept self.old self.new) }
     {
-        self.agreement.normal.keep(alloc, m)?;
+        self.protocol.normal.keep(alloc, m)?;
         self.learn_agreed(alloc)
     }
 }

@@ -15,9 +15,9 @@ impl<V: Service + Drop> ReplicaState<V> {
 
     /// An ENTER is kept as its sender's.
     pub(crate) fn accept_enter(&mut self, m: Enter)
-        requires { FitsEnter self.old.agreement.shape m }
+        requires { FitsEnter self.old.protocol.shape m }
         ensures { (me : Identity V) (d : History) → Represents me self.old d → stamped_refusal me d (stamped.Enter m) ≡ None → AwaitsGate me self.old self.new (stamped.Enter m) d }
     {
-        self.agreement.change.enter(m);
+        self.protocol.change.enter(m);
     }
 }

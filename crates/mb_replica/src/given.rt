@@ -1,6 +1,6 @@
 //! What a given message does: for each kind its outcome, and what follows.
 
-use crate::sending::Done;
+use crate::sending::StepOutput;
 use crate::state::ReplicaState;
 use mb_base::{Digest, NoMemory};
 use mb_msg::{Message, Outcome};
@@ -9,7 +9,7 @@ use std::alloc::Global;
 
 /// What became of an event, and what follows it.
 #[derive(Clone, Copy)]
-pub struct Answer {
+pub struct Reaction {
     pub outcome: Outcome,
     /// The rules follow what was taken; and each LOG that checks before its entries, also where it ended at a refusal.
     pub rules_follow: bool,
@@ -17,15 +17,15 @@ pub struct Answer {
     pub asks: bool,
 }
 
-impl Answer {
+impl Reaction {
     ghost use Rattle.std.specs.Prelude.{◌≡◌, false};
     ghost use Rattle.mb_replica.specs.Answers.{is_taken};
 
     /// That of a message other than LOG and STATE, or of lost patience.
-    pub fn of(outcome: Outcome) -> Answer
+    pub fn of(outcome: Outcome) -> Reaction
         ensures { result ≡ record { outcome = outcome; rules_follow = is_taken outcome; asks = false } }
     {
-        Answer {
+        Reaction {
             outcome,
             rules_follow: outcome == Outcome::Took,
             asks: false,
@@ -34,7 +34,7 @@ impl Answer {
 }
 
 impl<V: Service + Drop> ReplicaState<V> {
-    ghost use Rattle.mb_replica.specs.declared.sending.Done.{Done};
+    ghost use Rattle.mb_replica.specs.declared.sending.StepOutput.{StepOutput};
     ghost use Rattle.mb_replica.specs.Told.{KnowsMessage};
     ghost use Rattle.mb_replica.specs.Represents.{IsOther, Serves, StandsAt, HasHistory, IsInStep};
     ghost use Rattle.mb_msg.specs.Fits.{FitsFields};
@@ -49,21 +49,21 @@ impl<V: Service + Drop> ReplicaState<V> {
         alloc: Global,
         message: Message,
         known: &Option<Digest>,
-        done: &mut Done,
-    ) -> Result<Answer, NoMemory>
-        requires fits { FitsFields self.old.agreement.shape message }
+        done: &mut StepOutput,
+    ) -> Result<Reaction, NoMemory>
+        requires fits { FitsFields self.old.protocol.shape message }
         requires stepping { IsInStep V.machine self.old done.old }
         requires known { KnowsMessage known.now message }
         ensures { (me : Identity V) (x : Progress) → Serves V.machine me → StandsAt me self.old done.old x → Reacts me message (give me message x) result self.new done.new }
     {
         match message {
-            Message::Request(m) => Ok(Answer::of(self.give_request(alloc, m, done)?)),
-            Message::ReqViewChange(m) => Ok(Answer::of(self.give_wish(&m))),
-            Message::Resend(m) => Ok(Answer::of(self.give_resend(alloc, &m, done)?)),
+            Message::Request(m) => Ok(Reaction::of(self.give_request(alloc, m, done)?)),
+            Message::ReqViewChange(m) => Ok(Reaction::of(self.give_wish(&m))),
+            Message::Resend(m) => Ok(Reaction::of(self.give_resend(alloc, &m, done)?)),
             Message::Log(m) => self.give_log(alloc, m),
-            Message::Fetch(m) => Ok(Answer::of(self.give_fetch(alloc, &m, done)?)),
+            Message::Fetch(m) => Ok(Reaction::of(self.give_fetch(alloc, &m, done)?)),
             Message::State(m) => self.give_state(alloc, &m, done),
-            Message::Stop(m) => Ok(Answer::of(self.stop_answer(&m))),
+            Message::Stop(m) => Ok(Reaction::of(self.stop_answer(&m))),
             other => self.give_other(alloc, other, known),
         }
     }
@@ -74,17 +74,17 @@ impl<V: Service + Drop> ReplicaState<V> {
         alloc: Global,
         message: Message,
         known: &Option<Digest>,
-    ) -> Result<Answer, NoMemory>
-        requires fits { FitsFields self.old.agreement.shape message }
+    ) -> Result<Reaction, NoMemory>
+        requires fits { FitsFields self.old.protocol.shape message }
         requires history { HasHistory self.old }
         requires known { KnowsMessage known.now message }
-        ensures { (me : Identity V) (x : Progress) → (done : Done) → Serves V.machine me → IsOther message → StandsAt me self.old done x → Reacts me message (give me message x) result self.new done }
+        ensures { (me : Identity V) (x : Progress) → (done : StepOutput) → Serves V.machine me → IsOther message → StandsAt me self.old done x → Reacts me message (give me message x) result self.new done }
     {
         match message.into_stamped() {
-            Ok(stamped) => Ok(Answer::of(self.give_stamped(alloc, stamped, known)?)),
+            Ok(stamped) => Ok(Reaction::of(self.give_stamped(alloc, stamped, known)?)),
             Err(reply) => {
                 drop(reply);
-                Ok(Answer::of(Outcome::Idle))
+                Ok(Reaction::of(Outcome::Idle))
             }
         }
     }

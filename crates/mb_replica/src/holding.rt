@@ -25,7 +25,7 @@ impl<V: Service + Drop> ReplicaState<V> {
     fn evidence_view(&self) -> View
         ensures { (me : Identity V) (d : History) → Represents me self.now d → result ≡ evidence_view (evidence_of me d) }
     {
-        match self.agreement.change.evidence() {
+        match self.protocol.change.evidence() {
             Some(evidence) => evidence.view,
             None => 0,
         }
@@ -41,17 +41,17 @@ impl<V: Service + Drop> ReplicaState<V> {
     /// Evidence that is news is held.
     pub(crate) fn hold_news(&mut self, evidence: Evidence)
         ensures writes { WritesChange self.old self.new }
-        ensures holds { (me : Identity V) (d : History) → Represents me self.old d → StandsWith self.old.agreement.change (with_shown me d (Some evidence)) self.new.agreement.change }
+        ensures holds { (me : Identity V) (d : History) → Represents me self.old d → StandsWith self.old.protocol.change (with_shown me d (Some evidence)) self.new.protocol.change }
     {
         if self.is_news(&evidence) {
-            self.agreement.change.hold_evidence(evidence);
+            self.protocol.change.hold_evidence(evidence);
         }
     }
 
     /// What is shown as evidence is held where it is news.
     pub(crate) fn hold_shown(&mut self, evidence: Option<Evidence>)
         ensures writes { WritesChange self.old self.new }
-        ensures holds { (me : Identity V) (d : History) → Represents me self.old d → StandsWith self.old.agreement.change (with_shown me d evidence) self.new.agreement.change }
+        ensures holds { (me : Identity V) (d : History) → Represents me self.old d → StandsWith self.old.protocol.change (with_shown me d evidence) self.new.protocol.change }
     {
         if let Some(evidence) = evidence {
             self.hold_news(evidence);
@@ -71,18 +71,18 @@ impl<V: Service + Drop> ReplicaState<V> {
     {
         self.is_current(view)
             && self.evidence_view() == view
-            && self.agreement.change.plan_at(view).is_none()
+            && self.protocol.change.plan_at(view).is_none()
     }
 
     /// A plan is held, whose batches keep their digests, and the certificate of its base learnt.
     pub fn hold_plan(&mut self, alloc: Global, view: View, plan: Plan) -> Result<(), NoMemory>
         requires hashed { CanHash plan }
-        requires base { FitsStable self.old.agreement.shape plan.base }
+        requires base { FitsStable self.old.protocol.shape plan.base }
         ensures { OnOk result (Holds (with_plan view plan) (Some plan.base) self.old self.new) }
     {
         let base = plan.base.duplicate(alloc)?;
         let kept = digested_plan(plan);
-        self.agreement.change.hold_plan(view, kept);
+        self.protocol.change.hold_plan(view, kept);
         self.learn(base);
         Ok(())
     }

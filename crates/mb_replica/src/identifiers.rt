@@ -1,7 +1,7 @@
 //! Why a stamped message is refused by its certificate, its counter, or the gate of its sender.
 
 ghost use Rattle.std.specs.Prelude.{◌≡◌};
-ghost use Rattle.mb_searches.specs.Gates.{refusal_of};
+ghost use Rattle.mb_history_laws.specs.Gates.{refusal_of};
 
 use crate::arrival::Arrival;
 use crate::state::ReplicaState;
@@ -41,7 +41,7 @@ impl<V: Service + Drop> ReplicaState<V> {
         alloc: Global,
         arrival: &Arrival,
     ) -> Result<Option<Outcome>, NoMemory>
-        requires { IsArrival self.now.agreement.shape arrival.now }
+        requires { IsArrival self.now.protocol.shape arrival.now }
         ensures { (me : Identity V) (d : History) → Represents me self.now d → IfOk result (λ o. o ≡ identifier_refusal me d arrival.now.message) }
     {
         if self.is_bad_ui(alloc, arrival)? {
@@ -55,26 +55,26 @@ impl<V: Service + Drop> ReplicaState<V> {
 
     /// Its certificate is not that of its bare bytes under its counter.
     fn is_bad_ui(&self, alloc: Global, arrival: &Arrival) -> Result<bool, NoMemory>
-        requires { IsArrival self.now.agreement.shape arrival.now }
+        requires { IsArrival self.now.protocol.shape arrival.now }
         ensures { (me : Identity V) (d : History) → Represents me self.now d → IfOk result (λ o. o ≡ is_bad_ui me arrival.now.message) }
     {
-        let bare = arrival.bare(alloc, &self.agreement.shape)?;
-        Ok(!self.agreement.usig.verify_ui(bare.as_slice(), &arrival.ui))
+        let bare = arrival.bare(alloc, &self.protocol.shape)?;
+        Ok(!self.protocol.usig.verify_ui(bare.as_slice(), &arrival.ui))
     }
 
     /// Of this host itself, with a counter that it has not reached.
     pub(crate) fn is_own_future(&self, ui: &Ui) -> bool
         ensures { (me : Identity V) (d : History) → Represents me self.now d → result ≡ is_own_future me d ui.now }
     {
-        ui.host == self.agreement.host && ui.counter > self.agreement.usig.counter()
+        ui.host == self.protocol.host && ui.counter > self.protocol.usig.counter()
     }
 
     /// Why the gate of its sender refuses a message. The certificates in it are checked only where all else permits it.
     fn gate_refusal(&self, alloc: Global, arrival: &Arrival) -> Result<Option<Outcome>, NoMemory>
-        requires { IsArrival self.now.agreement.shape arrival.now }
+        requires { IsArrival self.now.protocol.shape arrival.now }
         ensures { (me : Identity V) (d : History) → Represents me self.now d → IfOk result (λ o. o ≡ gate_refusal me d arrival.now.message) }
     {
-        let gate = &self.agreement.gates[usize::from(arrival.ui.host)];
+        let gate = &self.protocol.gates[usize::from(arrival.ui.host)];
         let offer = gate.judge(&arrival.mark, true);
         if offer != Offer::Next {
             return Ok(refusal_of(offer));
@@ -85,13 +85,13 @@ impl<V: Service + Drop> ReplicaState<V> {
 
     /// The certificates in a message verify.
     fn is_inner_valid(&self, alloc: Global, arrival: &Arrival) -> Result<bool, NoMemory>
-        requires { IsArrival self.now.agreement.shape arrival.now }
+        requires { IsArrival self.now.protocol.shape arrival.now }
         ensures { (me : Identity V) (d : History) → Represents me self.now d → IfOk result (λ o. o ≡ inner_valid me.shape (valid me) (bare_of arrival.now.message)) }
     {
         inner_valid(
             alloc,
-            &self.agreement.shape,
-            &self.agreement.usig,
+            &self.protocol.shape,
+            &self.protocol.usig,
             &arrival.message,
             &arrival.body,
         )

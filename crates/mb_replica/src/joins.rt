@@ -18,7 +18,7 @@ impl<V: Service + Drop> ReplicaState<V> {
 
     /// A JOIN shows evidence and a stable certificate.
     pub(crate) fn accept_join(&mut self, m: Join)
-        requires { FitsJoin self.old.agreement.shape m }
+        requires { FitsJoin self.old.protocol.shape m }
         ensures { (me : Identity V) (d : History) → Represents me self.old d → stamped_refusal me d (stamped.Join m) ≡ None → AwaitsGate me self.old self.new (stamped.Join m) d }
     {
         let Join {
@@ -34,7 +34,7 @@ impl<V: Service + Drop> ReplicaState<V> {
     pub fn evidence_here(&self, alloc: Global) -> Result<Option<Evidence>, NoMemory>
         ensures { (me : Identity V) (d : History) → Represents me self.now d → IfOk result (λ o. o ≡ evidence_in (view_of me d) (evidence_of me d)) }
     {
-        match self.agreement.change.evidence_in(self.view()) {
+        match self.protocol.change.evidence_in(self.view()) {
             Some(evidence) => Ok(Some(evidence.duplicate(alloc)?)),
             None => Ok(None),
         }

@@ -1,6 +1,6 @@
 //! What a host holds, and what each given message does to it.
 //!
-//! A host is an agreement and a keeper. The agreement is all that it knows of the other hosts and of the order of batches: gates, votes, view
+//! A host is a state of the protocol and a keeper. The first is all that it knows of the other hosts and of the order of batches: gates, votes, view
 //! changes, its own log. It knows nothing of the service. The keeper executes what is agreed on. Which rules follow what was taken, and how they
 //! are carried out, is in `mb_core`.
 //!
@@ -11,7 +11,7 @@
 //!
 //! | Files | Have |
 //! |---|---|
-//! | `state`, `agreement`, `beginning` | a host, and where it stands |
+//! | `state`, `protocol`, `beginning` | a host, and where it stands |
 //! | `given`, `stamped`, `arrival`, `identifiers` | a given message; certificate, counter and gate of a stamped one |
 //! | `voting`, `prepares`, `commits`, `checkpoints` | PREPARE, COMMIT, CHECKPOINT |
 //! | `wishes`, `view_changes`, `new_views`, `enters`, `opens`, `joins` | REQ_VIEW_CHANGE, VIEW_CHANGE, NEW_VIEW, ENTER, OPEN, JOIN |
@@ -20,7 +20,6 @@
 //! | `standing`, `sending`, `told` | where a host stands, what a step has sent, and what it tells |
 #![tactic(auto)]
 
-mod agreement;
 mod arrival;
 mod beginning;
 mod checkpoints;
@@ -38,6 +37,7 @@ mod open_votes;
 mod opens;
 mod plan_digests;
 mod prepares;
+mod protocol;
 mod requests;
 mod resends;
 mod sending;
@@ -52,8 +52,8 @@ mod view_changes;
 mod voting;
 mod wishes;
 
-pub use agreement::Agreement;
-pub use given::Answer;
-pub use sending::Done;
+pub use given::Reaction;
+pub use protocol::Protocol;
+pub use sending::StepOutput;
 pub use state::ReplicaState;
-pub use told::{Outgoing, Said, Told};
+pub use told::{Outgoing, Said, StepRecord};

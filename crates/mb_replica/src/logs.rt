@@ -5,7 +5,7 @@ ghost use Rattle.mb_parts.specs.Certificates.{first_floor};
 ghost use Rattle.mb_msg.specs.declared.event.Outcome.TheVariants as outcome;
 ghost use Rattle.mb_replica.specs.Answers.{goes_on};
 
-use crate::given::Answer;
+use crate::given::Reaction;
 use crate::state::ReplicaState;
 use mb_base::{Host, Items, NoMemory};
 use mb_cert::{CheckEvidence, CheckFloor, CheckStable};
@@ -25,22 +25,22 @@ impl<V: Service + Drop> ReplicaState<V> {
     ghost use Rattle.mb_replica.specs.Represents.{StandsAt, Answers, Represents};
     ghost use Rattle.mb_replica.specs.Steps.{Moves, AnswersQuietly, Jumps};
     ghost use Rattle.mb_replica.specs.Holding.{IsStepping};
-    ghost use Rattle.mb_replica.specs.declared.sending.Done.{Done};
+    ghost use Rattle.mb_replica.specs.declared.sending.StepOutput.{StepOutput};
     ghost use Rattle.mb_parts.specs.Fits.{FitsFloorCert, FitsEvidence};
     ghost use Rattle.std.specs.Option.{IfSome};
     ghost use Rattle.mb_model.specs.PlainChecks.{log_refusal, is_certified_floor, is_certified_evidence};
 
     /// The rules follow each LOG that checks before its entries.
-    pub(crate) fn give_log(&mut self, alloc: Global, m: Log) -> Result<Answer, NoMemory>
-        requires fits { FitsLog self.old.agreement.shape m }
+    pub(crate) fn give_log(&mut self, alloc: Global, m: Log) -> Result<Reaction, NoMemory>
+        requires fits { FitsLog self.old.protocol.shape m }
         requires stepping { IsStepping self.old }
-        ensures { (me : Identity V) (x : Progress) → (done : Done) → StandsAt me self.old done x → IfOk result (λ a. Answers me (message.Log m) a (give_log me m x) × StandsAt me self.new done (give_log me m x).left) }
+        ensures { (me : Identity V) (x : Progress) → (done : StepOutput) → StandsAt me self.old done x → IfOk result (λ a. Answers me (message.Log m) a (give_log me m x) × StandsAt me self.new done (give_log me m x).left) }
     {
         if let Some(outcome) = self.log_refusal(&m) {
-            return Ok(Answer::of(outcome));
+            return Ok(Reaction::of(outcome));
         }
         let entries = self.accept_log(m);
-        Ok(Answer {
+        Ok(Reaction {
             outcome: self.give_entries(alloc, entries)?,
             rules_follow: true,
             asks: false,
@@ -49,7 +49,7 @@ impl<V: Service + Drop> ReplicaState<V> {
 
     /// One after the other. Another outcome than those that go on ends it.
     fn give_entries(&mut self, alloc: Global, entries: Items<Stamped>) -> Result<Outcome, NoMemory>
-        requires fit { AllByRecursion (FitsStamped self.old.agreement.shape) entries }
+        requires fit { AllByRecursion (FitsStamped self.old.protocol.shape) entries }
         requires stepping { IsStepping self.old }
         ensures { AnswersQuietly (λ me x. give_entries me entries x) result self.old self.new }
     {
@@ -65,14 +65,14 @@ impl<V: Service + Drop> ReplicaState<V> {
     /// The certificates before its entries, then whether it is another host's.
     #[tactic(auto, unfolding(mb_model::specs::PlainChecks::log_refusal))]
     fn log_refusal(&self, m: &Log) -> Option<Outcome>
-        requires { FitsLog self.now.agreement.shape m.now }
+        requires { FitsLog self.now.protocol.shape m.now }
         ensures { (me : Identity V) (d : History) → Represents me self.now d → result ≡ log_refusal me m.now }
     {
         if !self.is_certified_floor(m.host, &m.floor) {
             return unusable(1);
         }
         if m.stable
-            .check(&self.agreement.shape, &self.agreement.usig)
+            .check(&self.protocol.shape, &self.protocol.usig)
             .is_err()
         {
             return unusable(2);
@@ -80,38 +80,38 @@ impl<V: Service + Drop> ReplicaState<V> {
         if !self.is_certified_evidence(&m.evidence) {
             return unusable(12);
         }
-        (m.host == self.agreement.host).then_some(Outcome::Idle)
+        (m.host == self.protocol.host).then_some(Outcome::Idle)
     }
 
     fn is_certified_floor(&self, host: Host, floor: &Option<FloorCert>) -> bool
-        requires { IfSome floor.now (FitsFloorCert self.now.agreement.shape) }
+        requires { IfSome floor.now (FitsFloorCert self.now.protocol.shape) }
         ensures { (me : Identity V) (d : History) → Represents me self.now d → result ≡ is_certified_floor me host floor.now }
     {
         match floor {
             None => true,
             Some(cert) => cert
-                .check(&self.agreement.shape, &self.agreement.usig, host)
+                .check(&self.protocol.shape, &self.protocol.usig, host)
                 .is_ok(),
         }
     }
 
     fn is_certified_evidence(&self, evidence: &Option<Evidence>) -> bool
-        requires { IfSome evidence.now (FitsEvidence self.now.agreement.shape) }
+        requires { IfSome evidence.now (FitsEvidence self.now.protocol.shape) }
         ensures { (me : Identity V) (d : History) → Represents me self.now d → result ≡ is_certified_evidence me evidence.now }
     {
         match evidence {
             None => true,
             Some(evidence) => evidence
-                .check(&self.agreement.shape, &self.agreement.usig)
+                .check(&self.protocol.shape, &self.protocol.usig)
                 .is_ok(),
         }
     }
 
     /// The jump, then what stands before the entries: a stable certificate is learnt, and evidence that is news held. The entries are left.
     fn accept_log(&mut self, m: Log) -> Items<Stamped>
-        requires { FitsLog self.old.agreement.shape m }
+        requires { FitsLog self.old.protocol.shape m }
         ensures entries { result ≡ m.entries }
-        ensures same { self.new.agreement.shape ≡ self.old.agreement.shape }
+        ensures same { self.new.protocol.shape ≡ self.old.protocol.shape }
         ensures stands { (me : Identity V) (x : Progress) → Moves me x (log_refusal me m ≡ None) (write (Accepted (message.Log m)) (jump me m.host (floor_shown me m.host m.floor) x)) self.old self.new }
     {
         let Log {
@@ -129,12 +129,12 @@ impl<V: Service + Drop> ReplicaState<V> {
 
     /// The gate of a host jumps forward to a floor, where it isn't closed.
     fn jump(&mut self, host: Host, floor: Option<Floor>)
-        requires { host < host_count self.old.agreement.shape }
-        ensures same { self.new.agreement.shape ≡ self.old.agreement.shape }
+        requires { host < host_count self.old.protocol.shape }
+        ensures same { self.new.protocol.shape ≡ self.old.protocol.shape }
         ensures stands { (me : Identity V) (x : Progress) → Jumps me x host floor self.old self.new }
     {
         if let Some(floor) = floor {
-            let _jumped = self.agreement.gates[usize::from(host)].jump(&floor);
+            let _jumped = self.protocol.gates[usize::from(host)].jump(&floor);
         }
     }
 }

@@ -37,13 +37,13 @@ impl<V: Service + Drop> ReplicaState<V> {
         alloc: Global,
         m: &NewView,
     ) -> Result<Option<Outcome>, NoMemory>
-        requires { FitsNewView self.now.agreement.shape m.now }
+        requires { FitsNewView self.now.protocol.shape m.now }
         ensures { (me : Identity V) (d : History) → Represents me self.now d → IfOk result (λ o. o ≡ new_view_refusal me d m.now) }
     {
         if !self.is_current(m.view) {
             return Ok(None);
         }
-        match check_new_view(alloc, &self.agreement.shape, &self.agreement.usig, m) {
+        match check_new_view(alloc, &self.protocol.shape, &self.protocol.usig, m) {
             Ok(_plan) => Ok(None),
             Err(NewViewFault::Unusable { index, reason }) => Ok(Some(Outcome::Unusable {
                 index: u16::from(index),
@@ -63,7 +63,7 @@ impl<V: Service + Drop> ReplicaState<V> {
         m: NewView,
         digest: Digest,
     ) -> Result<(), NoMemory>
-        requires fits { FitsNewView self.old.agreement.shape m }
+        requires fits { FitsNewView self.old.protocol.shape m }
         requires digest { digest ≡ stamped_digest (stamped.NewView m) }
         ensures { (me : Identity V) (d : History) → Represents me self.old d → stamped_refusal me d (stamped.NewView m) ≡ None → OnOk result (AwaitsGate me self.old self.new (stamped.NewView m) d) }
     {
@@ -75,7 +75,7 @@ impl<V: Service + Drop> ReplicaState<V> {
 
     /// A whole NEW_VIEW of a current view is held, with the plan of its members.
     fn hold_announced(&mut self, alloc: Global, m: NewView, digest: Digest) -> Result<(), NoMemory>
-        requires fits { FitsNewView self.old.agreement.shape m }
+        requires fits { FitsNewView self.old.protocol.shape m }
         requires digest { digest ≡ stamped_digest (stamped.NewView m) }
         ensures { (me : Identity V) (d : History) → Represents me self.old d → OnOk result (HoldsEntry me d (Accepted (message.NewView m)) self.old self.new) }
     {
@@ -89,17 +89,17 @@ impl<V: Service + Drop> ReplicaState<V> {
         let Some(plan) = self.plan_from(alloc, body.changes.as_slice())? else {
             return Ok(());
         };
-        self.agreement.change.hold_new_view(m, digest);
+        self.protocol.change.hold_new_view(m, digest);
         self.hold_plan(alloc, view, plan)
     }
 
     /// The plan of f+1 VIEW_CHANGEs of different hosts.
     pub fn plan_from(&self, alloc: Global, changes: &[ViewChange]) -> Result<Option<Plan>, NoMemory>
-        requires { AllByRecursion (FitsMember self.now.agreement.shape) changes.now }
-        ensures fits { IfOk result (λ p. IfSome p (λ plan. CanHash plan × FitsStable self.now.agreement.shape plan.base)) }
+        requires { AllByRecursion (FitsMember self.now.protocol.shape) changes.now }
+        ensures fits { IfOk result (λ p. IfSome p (λ plan. CanHash plan × FitsStable self.now.protocol.shape plan.base)) }
         ensures plan { (me : Identity V) (d : History) → Represents me self.now d → are_quorum me.shape changes.now ≡ true → IfOk result (λ p. p ≡ Some (plan_from me changes.now)) }
     {
-        match plan_of(alloc, &self.agreement.shape, changes) {
+        match plan_of(alloc, &self.protocol.shape, changes) {
             Ok(plan) => Ok(Some(plan)),
             Err(PlanFault::Few) => Ok(None),
             Err(PlanFault::NoMemory) => Err(NoMemory),

@@ -10,7 +10,7 @@ impl<V: Service + Drop> ReplicaState<V> {
     ghost use Rattle.mb_base.specs.Shapes.{host_count};
     ghost use Rattle.mb_msg.specs.declared.change.Plan.{Plan as PlanValue};
     ghost use Rattle.mb_model.specs.Held.{plan_of_view};
-    ghost use Rattle.mb_standing.specs.Positions.{hosts_below};
+    ghost use Rattle.mb_refinement.specs.Positions.{hosts_below};
     ghost use Rattle.mb_replica.specs.Between.{WritesNormal};
     ghost use Rattle.mb_replica.specs.Waiting.{is_of_plan};
     ghost use Rattle.mb_replica.specs.Holding.{CountsOpens, CountsMore, CountsVoteOf, is_for_plan, length_in};
@@ -20,17 +20,17 @@ impl<V: Service + Drop> ReplicaState<V> {
         ensures writes { WritesNormal self.old self.new }
         ensures counts { CountsOpens here self.old self.new }
     {
-        for host in 0..self.agreement.shape.n() {
+        for host in 0..self.protocol.shape.n() {
             self.count_open(host, here);
         }
     }
 
     fn count_open(&mut self, host: Host, here: View)
-        requires { host < host_count self.old.agreement.shape }
+        requires { host < host_count self.old.protocol.shape }
         ensures writes { WritesNormal self.old self.new }
         ensures counts { CountsMore (hosts_below host) (hosts_below (host + 1)) here self.old self.new }
     {
-        let (view, counter, plan) = self.agreement.change.opened_by(host);
+        let (view, counter, plan) = self.protocol.change.opened_by(host);
         if !self.is_counted(here, view, &plan) {
             return;
         }
@@ -41,16 +41,16 @@ impl<V: Service + Drop> ReplicaState<V> {
 
     /// An OPEN of a view and a plan is one for the plan of this host's view.
     fn is_counted(&self, here: View, view: View, plan: &Digest) -> bool
-        ensures { (counter : ℕ) → result ≡ is_for_plan here (plan_of_view here self.now.agreement.change.plan) (record { view = view; counter = counter; plan = plan.now }) }
+        ensures { (counter : ℕ) → result ≡ is_for_plan here (plan_of_view here self.now.protocol.change.plan) (record { view = view; counter = counter; plan = plan.now }) }
     {
         view != 0 && view == here && self.holds_plan(here, plan)
     }
 
     /// The plan of a view that has this digest is held.
     fn holds_plan(&self, view: View, plan: &Digest) -> bool
-        ensures { result ≡ is_of_plan plan.now (plan_of_view view self.now.agreement.change.plan) }
+        ensures { result ≡ is_of_plan plan.now (plan_of_view view self.now.protocol.change.plan) }
     {
-        match self.agreement.change.plan_at(view) {
+        match self.protocol.change.plan_at(view) {
             Some(held) => held.digest() == *plan,
             None => false,
         }
@@ -58,9 +58,9 @@ impl<V: Service + Drop> ReplicaState<V> {
 
     /// How many batches the plan of a view has.
     pub fn plan_length(&self, view: View) -> usize
-        ensures { result ≡ length_in (plan_of_view view self.now.agreement.change.plan) }
+        ensures { result ≡ length_in (plan_of_view view self.now.protocol.change.plan) }
     {
-        match self.agreement.change.plan_at(view) {
+        match self.protocol.change.plan_at(view) {
             Some(held) => held.batches().len(),
             None => 0,
         }
@@ -68,12 +68,12 @@ impl<V: Service + Drop> ReplicaState<V> {
 
     /// The vote of a host for the batch of the plan with this index, at a position of the window: elsewhere it is refused.
     fn count_open_at(&mut self, host: Host, counter: Counter, view: View, index: usize)
-        requires host { host < host_count self.old.agreement.shape }
-        requires index { index < length_in (plan_of_view view self.old.agreement.change.plan) }
+        requires host { host < host_count self.old.protocol.shape }
+        requires index { index < length_in (plan_of_view view self.old.protocol.change.plan) }
         ensures writes { WritesNormal self.old self.new }
-        ensures counts { (plan : PlanValue) → plan_of_view view self.old.agreement.change.plan ≡ Some plan → CountsVoteOf plan host counter (plan.base.pos + index) view self.old self.new }
+        ensures counts { (plan : PlanValue) → plan_of_view view self.old.protocol.change.plan ≡ Some plan → CountsVoteOf plan host counter (plan.base.pos + index) view self.old self.new }
     {
-        let Some(held) = self.agreement.change.plan_at(view) else {
+        let Some(held) = self.protocol.change.plan_at(view) else {
             return;
         };
         let pos = held.plan().base.pos + index as u64 + 1;

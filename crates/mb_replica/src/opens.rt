@@ -31,7 +31,7 @@ impl<V: Service + Drop> ReplicaState<V> {
 
     /// The batches of the plan of a view, none where it is not held.
     fn planned(&self, view: View) -> &[Batch] {
-        match self.agreement.change.plan_at(view) {
+        match self.protocol.change.plan_at(view) {
             Some(held) => held.plan().batches.as_slice(),
             None => &[],
         }
@@ -40,7 +40,7 @@ impl<V: Service + Drop> ReplicaState<V> {
     /// An OPEN of a current view, each of whose batches keeps its digest: that of the held plan, where it has the same batch there. An error is want
     /// of memory.
     pub(crate) fn with_batch_digests(&self, alloc: Global, m: Open) -> Result<Open, NoMemory>
-        requires { FitsOpen self.now.agreement.shape m }
+        requires { FitsOpen self.now.protocol.shape m }
         ensures { IfOk result (λ o. o ≡ m) }
     {
         if !self.is_current(m.evidence.view) {
@@ -58,7 +58,7 @@ impl<V: Service + Drop> ReplicaState<V> {
         evidence: &Evidence,
         body: Body<OpenBody>,
     ) -> Result<Body<OpenBody>, NoMemory>
-        requires { FitsBody (FitsOpenBody self.now.agreement.shape evidence.now) body }
+        requires { FitsBody (FitsOpenBody self.now.protocol.shape evidence.now) body }
         ensures { IfOk result (λ b. b ≡ body) }
     {
         match body {
@@ -75,7 +75,7 @@ impl<V: Service + Drop> ReplicaState<V> {
 
     /// Its body, where it is whole and current.
     pub(crate) fn open_refusal(&self, alloc: Global, m: &Open) -> Result<Option<Outcome>, NoMemory>
-        requires { FitsOpen self.now.agreement.shape m.now }
+        requires { FitsOpen self.now.protocol.shape m.now }
         ensures { (me : Identity V) (d : History) → Represents me self.now d → IfOk result (λ o. o ≡ open_refusal me d m.now.evidence m.now.body) }
     {
         match &m.body {
@@ -92,13 +92,13 @@ impl<V: Service + Drop> ReplicaState<V> {
         evidence: &Evidence,
         body: &OpenBody,
     ) -> Result<Option<Outcome>, NoMemory>
-        requires { FitsEvidence self.now.agreement.shape evidence.now × FitsOpenParts self.now.agreement.shape body.now }
+        requires { FitsEvidence self.now.protocol.shape evidence.now × FitsOpenParts self.now.protocol.shape body.now }
         ensures { (me : Identity V) (d : History) → Represents me self.now d → IfOk result (λ o. o ≡ unusable (opening_fault me evidence.now body.now)) }
     {
         let is_body = check_open(
             alloc,
-            &self.agreement.shape,
-            &self.agreement.usig,
+            &self.protocol.shape,
+            &self.protocol.usig,
             evidence,
             body,
         )?;
@@ -107,7 +107,7 @@ impl<V: Service + Drop> ReplicaState<V> {
 
     /// What it shows is held, and then the votes of OPENs are counted.
     pub(crate) fn accept_open(&mut self, alloc: Global, m: Open) -> Result<(), NoMemory>
-        requires { FitsOpen self.old.agreement.shape m }
+        requires { FitsOpen self.old.protocol.shape m }
         ensures { (me : Identity V) (d : History) → Represents me self.old d → stamped_refusal me d (stamped.Open m) ≡ None → OnOk result (AwaitsGate me self.old self.new (stamped.Open m) d) }
     {
         let here = self.view();
@@ -118,7 +118,7 @@ impl<V: Service + Drop> ReplicaState<V> {
 
     /// An OPEN is kept as its sender's, and shows evidence. A whole one may give the plan.
     fn hold_opened(&mut self, alloc: Global, m: Open) -> Result<(), NoMemory>
-        requires { FitsOpen self.old.agreement.shape m }
+        requires { FitsOpen self.old.protocol.shape m }
         ensures { (me : Identity V) (d : History) → Represents me self.old d → OnOk result (HoldsEntry me d (Accepted (message.Open m)) self.old self.new) }
     {
         let Open { evidence, body, ui } = m;
@@ -127,7 +127,7 @@ impl<V: Service + Drop> ReplicaState<V> {
         let counter = evidence.counter;
         let plan = evidence.plan;
         self.hold_news(evidence);
-        self.agreement.change.opened(ui.host, view, counter, plan);
+        self.protocol.change.opened(ui.host, view, counter, plan);
         if gives_plan {
             return self.hold_body(alloc, view, body);
         }
@@ -135,7 +135,7 @@ impl<V: Service + Drop> ReplicaState<V> {
     }
 
     fn hold_body(&mut self, alloc: Global, view: View, body: Body<OpenBody>) -> Result<(), NoMemory>
-        requires { FitsBody (CanHold self.old.agreement.shape) body }
+        requires { FitsBody (CanHold self.old.protocol.shape) body }
         ensures { OnOk result (HoldsBody view body self.old self.new) }
     {
         match body {

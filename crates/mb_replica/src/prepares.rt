@@ -18,7 +18,7 @@ impl<V: Service + Drop> ReplicaState<V> {
 
     /// A PREPARE is the slot of its position, and its sender's vote.
     pub(crate) fn accept_prepare(&mut self, m: Prepare, digest: Digest)
-        requires fits { FitsPrepare self.old.agreement.shape m }
+        requires fits { FitsPrepare self.old.protocol.shape m }
         requires digest { digest ≡ stamped_digest (stamped.Prepare m) }
         ensures awaits { (me : Identity V) (d : History) → Represents me self.old d → stamped_refusal me d (stamped.Prepare m) ≡ None → AwaitsGate me self.old self.new (stamped.Prepare m) d }
         ensures writes { WritesNormal self.old self.new }

@@ -1,9 +1,9 @@
 //! REQUEST: what a client asks for.
 
-use crate::sending::Done;
+use crate::sending::StepOutput;
 use crate::state::ReplicaState;
 use mb_base::NoMemory;
-use mb_keeper::Accept;
+use mb_executor::Accept;
 use mb_msg::{Outcome, Request};
 use mb_plan::is_tagged;
 use mb_service::Service;
@@ -29,9 +29,9 @@ impl<V: Service + Drop> ReplicaState<V> {
         &mut self,
         alloc: Global,
         request: Request,
-        done: &mut Done,
+        done: &mut StepOutput,
     ) -> Result<Outcome, NoMemory>
-        requires fits { FitsRequest self.old.agreement.shape request }
+        requires fits { FitsRequest self.old.protocol.shape request }
         requires history { HasHistory self.old }
         ensures { AnswersAt (Serves V.machine) (λ me x. give_request me request x) result self.old done.old self.new done.new }
     {
@@ -51,10 +51,10 @@ impl<V: Service + Drop> ReplicaState<V> {
 
     /// A request takes the place of its client's pending one.
     fn pend(&mut self, request: Request)
-        requires { FitsRequest self.old.agreement.shape request }
+        requires { FitsRequest self.old.protocol.shape request }
         ensures { (me : Identity V) (x : Progress) → Moves me x (request_refusal me x.history request ≡ None) (write (Accepted (message.Request request)) x) self.old self.new }
     {
-        self.agreement.normal.pend(request);
+        self.protocol.normal.pend(request);
     }
 
     /// The tag, then the number, of which the client table says this.
@@ -65,7 +65,7 @@ impl<V: Service + Drop> ReplicaState<V> {
         request: &Request,
         number: Accept,
     ) -> Result<Option<Outcome>, NoMemory>
-        requires fits { FitsRequest self.now.agreement.shape request.now }
+        requires fits { FitsRequest self.now.protocol.shape request.now }
         requires number { Accepts (last_of self.now.keeper.served.table request.now.client) request.now.seq number }
         ensures { (me : Identity V) (d : History) → Represents me self.now d → IfOk result (λ o. o ≡ request_refusal me d request.now) }
     {
@@ -77,14 +77,14 @@ impl<V: Service + Drop> ReplicaState<V> {
 
     /// The tag is not that of the client's key.
     fn is_badly_tagged(&self, alloc: Global, request: &Request) -> Result<bool, NoMemory>
-        requires { FitsRequest self.now.agreement.shape request.now }
+        requires { FitsRequest self.now.protocol.shape request.now }
         ensures { (me : Identity V) (d : History) → Represents me self.now d → IfOk result (λ o. o ≡ is_badly_tagged me request.now) }
     {
-        Ok(!is_tagged(alloc, &self.agreement.usig, request)?)
+        Ok(!is_tagged(alloc, &self.protocol.usig, request)?)
     }
 
     fn number_refusal(&self, request: &Request, number: Accept) -> Option<Outcome>
-        requires fits { FitsRequest self.now.agreement.shape request.now }
+        requires fits { FitsRequest self.now.protocol.shape request.now }
         requires number { Accepts (last_of self.now.keeper.served.table request.now.client) request.now.seq number }
         ensures { (me : Identity V) (d : History) → Represents me self.now d → result ≡ number_refusal me d request.now }
     {
@@ -97,10 +97,10 @@ impl<V: Service + Drop> ReplicaState<V> {
 
     /// Not above the one of its client that is pending.
     fn is_behind_pending(&self, request: &Request) -> bool
-        requires { FitsRequest self.now.agreement.shape request.now }
+        requires { FitsRequest self.now.protocol.shape request.now }
         ensures { (me : Identity V) (d : History) → Represents me self.now d → result ≡ is_behind_pending (pending me d request.now.client) request.now }
     {
-        match self.agreement.normal.pending(request.client) {
+        match self.protocol.normal.pending(request.client) {
             Some(waiting) => request.seq <= waiting.seq,
             None => false,
         }

@@ -1,6 +1,6 @@
 //! RESEND: a host asks another for what it stamped, and gets a LOG.
 
-use crate::sending::Done;
+use crate::sending::StepOutput;
 use crate::state::ReplicaState;
 use mb_base::{Counter, Duplicate, Items, NoMemory};
 use mb_msg::{FloorCert, Log, Message, Outcome, Resend, To};
@@ -24,10 +24,10 @@ impl<V: Service + Drop> ReplicaState<V> {
     /// Another host's, to which there is something to send.
     #[tactic(auto, unfolding(mb_model::specs::PlainChecks::resend_refusal))]
     fn resend_refusal(&self, m: &Resend) -> Option<Outcome>
-        requires { FitsResend self.now.agreement.shape m.now }
+        requires { FitsResend self.now.protocol.shape m.now }
         ensures { (me : Identity V) (d : History) → Represents me self.now d → result ≡ resend_refusal me d m.now }
     {
-        if m.host == self.agreement.host {
+        if m.host == self.protocol.host {
             return Some(Outcome::Idle);
         }
         (!self.has_news_for(m)).then_some(Outcome::Idle)
@@ -35,18 +35,18 @@ impl<V: Service + Drop> ReplicaState<V> {
 
     /// A message that the host has not taken, or a greater stable position.
     fn has_news_for(&self, m: &Resend) -> bool
-        requires { FitsResend self.now.agreement.shape m.now }
+        requires { FitsResend self.now.protocol.shape m.now }
         ensures { (me : Identity V) (d : History) → Represents me self.now d → result ≡ has_news_for me d m.now }
     {
-        self.expected(m) <= self.agreement.usig.counter() || m.low < self.low()
+        self.expected(m) <= self.protocol.usig.counter() || m.low < self.low()
     }
 
     /// The counter that the asking host expects of this one.
     fn expected(&self, m: &Resend) -> Counter
-        requires { FitsResend self.now.agreement.shape m.now }
+        requires { FitsResend self.now.protocol.shape m.now }
         ensures { (me : Identity V) (d : History) → Represents me self.now d → result ≡ expected me m.now }
     {
-        m.nexts.as_slice()[usize::from(self.agreement.host)]
+        m.nexts.as_slice()[usize::from(self.protocol.host)]
     }
 
     /// A LOG goes to who asks.
@@ -54,9 +54,9 @@ impl<V: Service + Drop> ReplicaState<V> {
         &self,
         alloc: Global,
         m: &Resend,
-        done: &mut Done,
+        done: &mut StepOutput,
     ) -> Result<Outcome, NoMemory>
-        requires fits { FitsResend self.now.agreement.shape m.now }
+        requires fits { FitsResend self.now.protocol.shape m.now }
         requires history { HasHistory self.now }
         ensures { (me : Identity V) (x : Progress) → StandsAt me self.now done.old x → IfOk result (λ o. (o ≡ (give_resend me m.now x).outcome) × StandsAt me self.now done.new (give_resend me m.now x).left) }
     {
@@ -70,16 +70,16 @@ impl<V: Service + Drop> ReplicaState<V> {
 
     /// What the asking host has not taken yet.
     fn log_for(&self, alloc: Global, m: &Resend) -> Result<Message, NoMemory>
-        requires { FitsResend self.now.agreement.shape m.now }
+        requires { FitsResend self.now.protocol.shape m.now }
         ensures { (me : Identity V) (d : History) → Represents me self.now d → IfOk result (λ o. o ≡ log_for me d m.now) }
     {
         let expected = self.expected(m);
         Ok(Message::Log(Log {
-            host: self.agreement.host,
+            host: self.protocol.host,
             floor: self.floor_for(alloc, expected)?,
-            stable: self.agreement.stable.duplicate(alloc)?,
+            stable: self.protocol.stable.duplicate(alloc)?,
             evidence: self.evidence_here(alloc)?,
-            entries: self.agreement.log.since(alloc, expected)?,
+            entries: self.protocol.log.since(alloc, expected)?,
         }))
     }
 
@@ -87,10 +87,8 @@ impl<V: Service + Drop> ReplicaState<V> {
     fn floor_for(&self, alloc: Global, expected: Counter) -> Result<Option<FloorCert>, NoMemory>
         ensures { (me : Identity V) (d : History) → Represents me self.now d → IfOk result (λ o. o ≡ (if nat_le expected (log_start me d) then log_floor me d else None)) }
     {
-        match self.agreement.log.floor() {
-            Some(cert) if expected <= self.agreement.log.start() => Ok(Some(cert.duplicate(
-                alloc,
-            )?)),
+        match self.protocol.log.floor() {
+            Some(cert) if expected <= self.protocol.log.start() => Ok(Some(cert.duplicate(alloc)?)),
             _ => Ok(None),
         }
     }
@@ -98,7 +96,7 @@ impl<V: Service + Drop> ReplicaState<V> {
     // ---- the own one
 
     /// Asks all for what they stamped.
-    pub fn send_resend(&self, alloc: Global, done: &mut Done) -> Result<(), NoMemory>
+    pub fn send_resend(&self, alloc: Global, done: &mut StepOutput) -> Result<(), NoMemory>
         requires { HasHistory self.now }
         ensures { (me : Identity V) (x : Progress) → StandsAt me self.now done.old x → OnOk result (StandsAt me self.now done.new (send (to_all (resend me x.history)) x)) }
     {
@@ -110,7 +108,7 @@ impl<V: Service + Drop> ReplicaState<V> {
         ensures { (me : Identity V) (d : History) → Represents me self.now d → IfOk result (λ o. o ≡ resend me d) }
     {
         Ok(Message::Resend(Resend {
-            host: self.agreement.host,
+            host: self.protocol.host,
             low: self.low(),
             nexts: self.nexts(alloc)?,
         }))
@@ -121,7 +119,7 @@ impl<V: Service + Drop> ReplicaState<V> {
         ensures { (me : Identity V) (d : History) → Represents me self.now d → IfOk result (λ o. o ≡ map (next_of d) (range_with_len 0 (host_count me.shape))) }
     {
         let mut nexts = Items::new(alloc);
-        for gate in self.agreement.gates.as_slice() {
+        for gate in self.protocol.gates.as_slice() {
             nexts.push(gate.at().counter.saturating_add(1))?;
         }
         Ok(nexts)

@@ -3,7 +3,7 @@
 ghost use Rattle.mb_replica.specs.Lengths.{AreOutgoingLong};
 
 use crate::state::ReplicaState;
-use crate::told::{Outgoing, Said, Told, said_of};
+use crate::told::{Outgoing, Said, StepRecord, said_of};
 use mb_base::{Digest, Items, NoMemory, Pos};
 use mb_msg::{Message, Outcome, Slot, Stamped, To, encode, encode_stamped};
 use mb_service::Service;
@@ -11,7 +11,7 @@ use std::alloc::Global;
 
 /// What a step has done so far, oldest first.
 #[derive(Drop)]
-pub struct Done {
+pub struct StepOutput {
     pub sent: Items<Outgoing>,
     pub executed: Items<Slot>,
     /// The position of the state that it installed.
@@ -19,17 +19,17 @@ pub struct Done {
     ghost lengths: { AreOutgoingLong sent },
 }
 
-impl Done {
+impl StepOutput {
     ghost use Rattle.std.specs.Prelude.{[], ◌∷◌, ◌++◌, ◌≡◌, ◌≤◌, length, None, OnOk};
     ghost use Rattle.mb_base.specs.declared.limits.TheConstants.{MESSAGE_LIMIT};
 
     /// Nothing yet.
-    pub fn new(alloc: Global) -> Done
+    pub fn new(alloc: Global) -> StepOutput
         ensures sent { result.sent ≡ [] }
         ensures executed { result.executed ≡ [] }
         ensures installed { result.installed ≡ None }
     {
-        Done {
+        StepOutput {
             sent: Items::new(alloc),
             executed: Items::new(alloc),
             installed: None,
@@ -37,16 +37,16 @@ impl Done {
     }
 
     /// The whole step, with its outcome.
-    pub fn into_told(self, outcome: Outcome) -> Told
+    pub fn into_told(self, outcome: Outcome) -> StepRecord
         ensures lengths { AreOutgoingLong result.sent }
         ensures told { result ≡ record { outcome = outcome; sent = self.sent; executed = self.executed; adopted = self.installed } }
     {
-        let Done {
+        let StepOutput {
             sent,
             executed,
             installed,
         } = self;
-        Told {
+        StepRecord {
             outcome,
             sent,
             executed,
@@ -84,13 +84,13 @@ impl<V: Service + Drop> ReplicaState<V> {
         alloc: Global,
         to: To,
         message: &Message,
-        done: &mut Done,
+        done: &mut StepOutput,
     ) -> Result<(), NoMemory>
-        requires fits { Fits self.now.agreement.shape message.now }
+        requires fits { Fits self.now.protocol.shape message.now }
         requires plain { as_stamped message.now ≡ None }
         ensures { (me : Identity V) (x : Progress) → Sends me x (send (record { to = to; says = message.now }) x) result self.now done.old done.new }
     {
-        done.push(to, encode(alloc, &self.agreement.shape, message)?, None)
+        done.push(to, encode(alloc, &self.protocol.shape, message)?, None)
     }
 
     /// Sends a message, and drops it.
@@ -99,9 +99,9 @@ impl<V: Service + Drop> ReplicaState<V> {
         alloc: Global,
         to: To,
         message: Message,
-        done: &mut Done,
+        done: &mut StepOutput,
     ) -> Result<(), NoMemory>
-        requires fits { Fits self.now.agreement.shape message }
+        requires fits { Fits self.now.protocol.shape message }
         requires plain { as_stamped message ≡ None }
         ensures { (me : Identity V) (x : Progress) → Sends me x (send (record { to = to; says = message }) x) result self.now done.old done.new }
     {
@@ -116,17 +116,17 @@ impl<V: Service + Drop> ReplicaState<V> {
         alloc: Global,
         message: &Stamped,
         body: Digest,
-        done: &mut Done,
+        done: &mut StepOutput,
     ) -> Result<(), NoMemory>
-        requires fits { Fits self.now.agreement.shape (as_message message.now) }
+        requires fits { Fits self.now.protocol.shape (as_message message.now) }
         requires body { body ≡ stamped_digest message.now }
         ensures kept { (done.new.executed ≡ done.old.executed) × (done.new.installed ≡ done.old.installed) }
         ensures sent { OnOk result (done.new.sent ≡ done.old.sent ++ as_outgoing (to_all (as_message message.now)) ∷ []) }
     {
-        let said = said_of(alloc, &self.agreement.shape, message, body)?;
+        let said = said_of(alloc, &self.protocol.shape, message, body)?;
         done.push(
             To::All,
-            encode_stamped(alloc, &self.agreement.shape, message)?,
+            encode_stamped(alloc, &self.protocol.shape, message)?,
             Some(said),
         )
     }

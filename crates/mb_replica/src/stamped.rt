@@ -14,7 +14,7 @@ impl<V: Service + Drop> ReplicaState<V> {
     ghost use Rattle.mb_model.specs.Given.{give_stamped, closing, accept};
     ghost use Rattle.mb_replica.specs.Represents.{Represents, HasHistory};
     ghost use Rattle.mb_replica.specs.Steps.{AnswersQuietly, Goes, Closes};
-    ghost use Rattle.mb_replica.specs.declared.sending.Done.{Done};
+    ghost use Rattle.mb_replica.specs.declared.sending.StepOutput.{StepOutput};
     ghost use Rattle.mb_msg.specs.declared.stamped.Stamped.TheVariants as stamped;
     ghost use Rattle.mb_msg.specs.Fits.{FitsStamped};
     ghost use Rattle.mb_model.specs.Histories.{Identity, History};
@@ -32,13 +32,13 @@ impl<V: Service + Drop> ReplicaState<V> {
         message: Stamped,
         known: &Option<Digest>,
     ) -> Result<Outcome, NoMemory>
-        requires fits { FitsStamped self.old.agreement.shape message }
+        requires fits { FitsStamped self.old.protocol.shape message }
         requires stands { HasHistory self.old }
         requires known { KnowsBody known.now message }
         ensures { AnswersQuietly (λ me x. give_stamped me message x) result self.old self.new }
     {
         let known = self.known_body(&message, known);
-        let arrival = Arrival::of(alloc, &self.agreement.shape, message, &known)?;
+        let arrival = Arrival::of(alloc, &self.protocol.shape, message, &known)?;
         let checked = self.checked(alloc, arrival)?;
         match checked.refusal {
             None => {
@@ -71,7 +71,7 @@ impl<V: Service + Drop> ReplicaState<V> {
         let Body::Whole(batch) = &m.body else {
             return None;
         };
-        let ordered = self.agreement.normal.batch_at(m.pos)?;
+        let ordered = self.protocol.normal.batch_at(m.pos)?;
         if ordered == batch {
             ordered.kept_digest()
         } else {
@@ -83,8 +83,8 @@ impl<V: Service + Drop> ReplicaState<V> {
     /// digests.
     #[tactic(auto, unfolding(mb_model::specs::KindChecks::stamped_refusal))]
     fn checked(&self, alloc: Global, arrival: Arrival) -> Result<Checked, NoMemory>
-        requires { IsArrival self.now.agreement.shape arrival }
-        ensures arrives { IfOk result (λ c. IsArrival self.now.agreement.shape c.arrival × (c.arrival.message ≡ arrival.message)) }
+        requires { IsArrival self.now.protocol.shape arrival }
+        ensures arrives { IfOk result (λ c. IsArrival self.now.protocol.shape c.arrival × (c.arrival.message ≡ arrival.message)) }
         ensures refusal { (me : Identity V) (d : History) → Represents me self.now d → IfOk result (λ c. c.refusal ≡ stamped_refusal me d c.arrival.message) }
     {
         let refusal = self.identifier_refusal(alloc, &arrival);
@@ -92,7 +92,7 @@ impl<V: Service + Drop> ReplicaState<V> {
         if checked.refusal.is_some() {
             return Ok(checked);
         }
-        let arrival = checked.arrival.with_digests(alloc, &self.agreement.shape)?;
+        let arrival = checked.arrival.with_digests(alloc, &self.protocol.shape)?;
         let arrival = self.with_plan_digests(alloc, arrival)?;
         let refusal = self.kind_refusal(alloc, &arrival.message);
         arrival.with_refusal(refusal)
@@ -100,7 +100,7 @@ impl<V: Service + Drop> ReplicaState<V> {
 
     /// A given message, of which an OPEN keeps the digests of its batches. An error is want of memory.
     fn with_plan_digests(&self, alloc: Global, arrival: Arrival) -> Result<Arrival, NoMemory>
-        requires { FitsStamped self.now.agreement.shape arrival.message }
+        requires { FitsStamped self.now.protocol.shape arrival.message }
         ensures { IfOk result (λ a. a ≡ arrival) }
     {
         let Arrival {
@@ -123,7 +123,7 @@ impl<V: Service + Drop> ReplicaState<V> {
 
     /// Of an ENTER and of a JOIN the gate asks all that there is.
     fn kind_refusal(&self, alloc: Global, message: &Stamped) -> Result<Option<Outcome>, NoMemory>
-        requires { FitsStamped self.now.agreement.shape message.now }
+        requires { FitsStamped self.now.protocol.shape message.now }
         ensures { (me : Identity V) (d : History) → Represents me self.now d → IfOk result (λ o. o ≡ kind_refusal me d message.now) }
     {
         match message {
@@ -139,7 +139,7 @@ impl<V: Service + Drop> ReplicaState<V> {
 
     /// A message that may not stand there closes its sender's gate at its counter.
     pub(crate) fn closing(&mut self, outcome: Outcome, ui: &Ui)
-        requires { ui.now.host < host_count self.old.agreement.shape }
+        requires { ui.now.host < host_count self.old.protocol.shape }
         ensures { (me : Identity V) (x : Progress) → Closes me x ui.now outcome self.old self.new }
     {
         if let Outcome::Illegal { .. } = outcome {
@@ -151,27 +151,27 @@ impl<V: Service + Drop> ReplicaState<V> {
 
     /// The gate of a host takes a message that is next there.
     pub fn gate_follows(&mut self, host: Host, mark: &Mark)
-        requires host { host < host_count self.old.agreement.shape }
+        requires host { host < host_count self.old.protocol.shape }
         requires kind { IsTrue (is_stamped_kind mark.now.kind) }
         ensures { GateFollows host mark.now self.old self.new }
     {
-        self.agreement.gates[usize::from(host)].follow(mark);
+        self.protocol.gates[usize::from(host)].follow(mark);
     }
 
     fn close_gate(&mut self, host: Host, counter: Counter)
-        requires { host < host_count self.old.agreement.shape }
+        requires { host < host_count self.old.protocol.shape }
         ensures { GateCloses host counter self.old self.new }
     {
-        self.agreement.gates[usize::from(host)].close(counter);
+        self.protocol.gates[usize::from(host)].close(counter);
     }
 
     // ---- what is accepted
 
     /// Accepts a message that passed the checks: its sender's gate takes it, and its kind does what it does.
     fn accept(&mut self, alloc: Global, arrival: Arrival) -> Result<(), NoMemory>
-        requires arrives { IsArrival self.old.agreement.shape arrival }
+        requires arrives { IsArrival self.old.protocol.shape arrival }
         requires passes { LetsPass self.old arrival.message }
-        ensures { (me : Identity V) (x : Progress) → (done : Done) → Goes me x (stamped_refusal me x.history arrival.message ≡ None) (accept me arrival.message x) result self.old done self.new done }
+        ensures { (me : Identity V) (x : Progress) → (done : StepOutput) → Goes me x (stamped_refusal me x.history arrival.message ≡ None) (accept me arrival.message x) result self.old done self.new done }
     {
         let Arrival {
             message,
@@ -190,7 +190,7 @@ impl<V: Service + Drop> ReplicaState<V> {
 
     /// What a message of a kind other than COMMIT does, but for its sender's gate.
     fn accept_kind(&mut self, alloc: Global, message: Stamped, body: Digest) -> Result<(), NoMemory>
-        requires fits { FitsStamped self.old.agreement.shape message }
+        requires fits { FitsStamped self.old.protocol.shape message }
         requires body { body ≡ stamped_digest message }
         requires passes { LetsPass self.old message }
         ensures { (me : Identity V) (d : History) → Represents me self.old d → IsNoCommit message → stamped_refusal me d message ≡ None → OnOk result (AwaitsGate me self.old self.new message d) }

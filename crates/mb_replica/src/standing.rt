@@ -22,7 +22,7 @@ impl<V: Service + Drop> ReplicaState<V> {
     pub fn here(&self) -> Floor
         ensures { (me : Identity V) (d : History) → Represents me self.now d → result ≡ here me d }
     {
-        self.agreement.gates[usize::from(self.agreement.host)].at()
+        self.protocol.gates[usize::from(self.protocol.host)].at()
     }
 
     /// The view in which this host stands, open or not.
@@ -36,7 +36,7 @@ impl<V: Service + Drop> ReplicaState<V> {
     pub fn is_behind(&self) -> bool
         ensures { (me : Identity V) (d : History) → Represents me self.now d → result ≡ is_behind me d }
     {
-        self.agreement.exec < self.low()
+        self.protocol.exec < self.low()
     }
 
     /// A message of this view is not below the host's.
@@ -56,8 +56,8 @@ impl<V: Service + Drop> ReplicaState<V> {
     fn has_pending(&self) -> bool
         ensures { (me : Identity V) (d : History) → Represents me self.now d → result ≡ has_pending me d }
     {
-        for client in 0..self.agreement.shape.clients() {
-            if self.agreement.normal.pending(client).is_some() {
+        for client in 0..self.protocol.shape.clients() {
+            if self.protocol.normal.pending(client).is_some() {
                 return true;
             }
         }
@@ -70,7 +70,7 @@ impl<V: Service + Drop> ReplicaState<V> {
     fn window_end(&self) -> Pos
         ensures { (me : Identity V) (d : History) → Represents me self.now d → result ≡ low_of me d + span me.shape }
     {
-        self.low() + u64::from(self.agreement.shape.span())
+        self.low() + u64::from(self.protocol.shape.span())
     }
 
     /// Above the window.
@@ -96,8 +96,8 @@ impl<V: Service + Drop> ReplicaState<V> {
 
     /// A multiple of the interval.
     pub fn is_at_interval(&self, pos: Pos) -> bool
-        ensures { result ≡ (pos % interval self.now.agreement.shape == 0) }
+        ensures { result ≡ (pos % interval self.now.protocol.shape == 0) }
     {
-        pos % u64::from(self.agreement.shape.k()) == 0
+        pos % u64::from(self.protocol.shape.k()) == 0
     }
 }

@@ -6,16 +6,16 @@ ghost use Rattle.mb_model.specs.Histories.{Identity, History};
 ghost use Rattle.mb_model.specs.Stable.{low_of};
 ghost use Rattle.mb_replica.specs.Represents.{Represents, Serves, IsHost, IsAtRest};
 
-use crate::agreement::Agreement;
+use crate::protocol::Protocol;
 use mb_base::{Host, Key, NoMemory, Pos, Shape};
-use mb_keeper::Keeper;
+use mb_executor::Keeper;
 use mb_service::Service;
 use std::alloc::Global;
 
 /// What a host agrees on with others, and what it executes with.
 #[derive(Drop)]
 pub struct ReplicaState<V: Service> {
-    pub agreement: Agreement,
+    pub protocol: Protocol,
     pub keeper: Keeper<V>,
 }
 
@@ -30,21 +30,21 @@ impl<V: Service + Drop> ReplicaState<V> {
     ) -> Result<ReplicaState<V>, NoMemory>
         requires { host < host_count shape }
         ensures stands { (me : Identity V) → Serves V.machine me → me.initial ≡ service → IfOk result (λ r. IsHost me r → Represents me r []) }
-        ensures host { IfOk result (λ r. (r.agreement.shape ≡ shape) × (r.agreement.host ≡ host) × (r.agreement.usig.secret ≡ secret.now)) }
+        ensures host { IfOk result (λ r. (r.protocol.shape ≡ shape) × (r.protocol.host ≡ host) × (r.protocol.usig.secret ≡ secret.now)) }
         ensures rests { IfOk result (λ r. IsAtRest V.machine r) }
     {
         service.known();
         Ok(ReplicaState {
-            agreement: Agreement::make(alloc, shape, host, secret)?,
+            protocol: Protocol::make(alloc, shape, host, secret)?,
             keeper: Keeper::make(alloc, shape, service)?,
         })
     }
 
     /// The stable position.
     pub fn low(&self) -> Pos
-        ensures low_is { result ≡ self.now.agreement.stable.pos }
+        ensures low_is { result ≡ self.now.protocol.stable.pos }
         ensures reads { (me : Identity V) (d : History) → Represents me self.now d → result ≡ low_of me d }
     {
-        self.agreement.stable.pos
+        self.protocol.stable.pos
     }
 }

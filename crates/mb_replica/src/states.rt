@@ -3,11 +3,11 @@
 ghost use Rattle.std.specs.Prelude.{◌≡◌, true};
 ghost use Rattle.mb_replica.specs.Answers.{is_taken};
 
-use crate::given::Answer;
-use crate::sending::Done;
+use crate::given::Reaction;
+use crate::sending::StepOutput;
 use crate::state::ReplicaState;
 use mb_base::{NoMemory, Pos};
-use mb_keeper::Fetched;
+use mb_executor::Fetched;
 use mb_msg::{Outcome, StateMsg};
 use mb_service::Service;
 use std::alloc::Global;
@@ -32,9 +32,9 @@ impl<V: Service + Drop> ReplicaState<V> {
         &mut self,
         alloc: Global,
         m: &StateMsg,
-        done: &mut Done,
-    ) -> Result<Answer, NoMemory>
-        requires fits { FitsState self.old.agreement.shape m.now }
+        done: &mut StepOutput,
+    ) -> Result<Reaction, NoMemory>
+        requires fits { FitsState self.old.protocol.shape m.now }
         requires standing { IsInStep V.machine self.old done.old }
         ensures { (me : Identity V) (x : Progress) → Serves V.machine me → StandsAt me self.old done.old x → Reacts me (message.State m.now) (give_state me m.now x) result self.new done.new }
     {
@@ -48,15 +48,15 @@ impl<V: Service + Drop> ReplicaState<V> {
         &mut self,
         alloc: Global,
         m: &StateMsg,
-        done: &mut Done,
+        done: &mut StepOutput,
     ) -> Result<Outcome, NoMemory>
-        requires fits { FitsState self.old.agreement.shape m.now }
-        requires stable { m.now.pos ≡ self.old.agreement.stable.pos }
-        requires behind { self.old.agreement.exec < self.old.agreement.stable.pos }
+        requires fits { FitsState self.old.protocol.shape m.now }
+        requires stable { m.now.pos ≡ self.old.protocol.stable.pos }
+        requires behind { self.old.protocol.exec < self.old.protocol.stable.pos }
         requires standing { IsInStep V.machine self.old done.old }
         ensures { AnswersAt (Serves V.machine) (λ me x. give_state me m.now x) result self.old done.old self.new done.new }
     {
-        let certified = self.agreement.stable.state;
+        let certified = self.protocol.stable.state;
         match self.keeper.take_state(alloc, &certified, m)? {
             Fetched::WrongDigest { part } => Ok(Outcome::WrongDigest { part }),
             Fetched::Nothing => Ok(Outcome::Idle),
@@ -70,27 +70,27 @@ impl<V: Service + Drop> ReplicaState<V> {
     }
 
     /// All up to the stable position counts as executed, and pending requests that are not fresh any more go.
-    fn install(&mut self, done: &mut Done)
-        requires { length self.old.keeper.served.table ≡ client_count self.old.agreement.shape }
+    fn install(&mut self, done: &mut StepOutput)
+        requires { length self.old.keeper.served.table ≡ client_count self.old.protocol.shape }
         ensures writes { WritesInstalled self.old self.new }
-        ensures settles { Settles self.old.agreement.normal self.new.agreement.normal (λ c. (last_of self.old.keeper.served.table c).seq) (client_count self.old.agreement.shape) }
-        ensures done { DoesInstall self.old.agreement.stable.pos done.old done.new }
+        ensures settles { Settles self.old.protocol.normal self.new.protocol.normal (λ c. (last_of self.old.keeper.served.table c).seq) (client_count self.old.protocol.shape) }
+        ensures done { DoesInstall self.old.protocol.stable.pos done.old done.new }
     {
         let low = self.low();
         self.settle_all();
-        self.agreement.exec = low;
+        self.protocol.exec = low;
         done.installed = Some(low);
     }
 
     /// The pending request of each client goes where it is not above its last executed one.
     fn settle_all(&mut self)
-        requires { length self.old.keeper.served.table ≡ client_count self.old.agreement.shape }
+        requires { length self.old.keeper.served.table ≡ client_count self.old.protocol.shape }
         ensures writes { WritesNormal self.old self.new }
-        ensures settles { Settles self.old.agreement.normal self.new.agreement.normal (λ c. (last_of self.old.keeper.served.table c).seq) (client_count self.old.agreement.shape) }
+        ensures settles { Settles self.old.protocol.normal self.new.protocol.normal (λ c. (last_of self.old.keeper.served.table c).seq) (client_count self.old.protocol.shape) }
     {
-        for client in 0..self.agreement.shape.clients() {
+        for client in 0..self.protocol.shape.clients() {
             let last = self.keeper.last_seq(client);
-            self.agreement.normal.settle(client, last);
+            self.protocol.normal.settle(client, last);
         }
     }
 
@@ -103,10 +103,10 @@ impl<V: Service + Drop> ReplicaState<V> {
 }
 
 /// What follows a STATE: the rules where it was taken, and a FETCH of the parts that are missing still.
-fn answered(outcome: Outcome) -> Answer
+fn answered(outcome: Outcome) -> Reaction
     ensures { result ≡ record { outcome = outcome; rules_follow = is_taken outcome; asks = true } }
 {
-    Answer {
+    Reaction {
         outcome,
         rules_follow: outcome == Outcome::Took,
         asks: true,

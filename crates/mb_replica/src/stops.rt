@@ -13,7 +13,7 @@ impl<V: Service + Drop> ReplicaState<V> {
     pub(crate) fn stop_answer(&self, m: &Stop) -> Outcome
         ensures { (me : Identity V) (d : History) → Represents me self.now d → result ≡ stop_answer me m.now }
     {
-        if self.agreement.usig.verify_stop(&m.tag) {
+        if self.protocol.usig.verify_stop(&m.tag) {
             Outcome::Stopping
         } else {
             Outcome::BadTag

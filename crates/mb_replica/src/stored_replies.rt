@@ -1,6 +1,6 @@
 //! REPLY: what a client is answered.
 
-use crate::sending::Done;
+use crate::sending::StepOutput;
 use crate::state::ReplicaState;
 use mb_base::{Client, Items, NoMemory, Pos, Seq};
 use mb_msg::{Message, Reply, To, signed_reply};
@@ -26,10 +26,10 @@ impl<V: Service + Drop> ReplicaState<V> {
         &self,
         alloc: Global,
         client: Client,
-        done: &mut Done,
+        done: &mut StepOutput,
     ) -> Result<(), NoMemory>
-        requires client { client < client_count self.now.agreement.shape }
-        requires clients { length self.now.keeper.served.table ≡ client_count self.now.agreement.shape }
+        requires client { client < client_count self.now.protocol.shape }
+        requires clients { length self.now.keeper.served.table ≡ client_count self.now.protocol.shape }
         ensures { (me : Identity V) (x : Progress) → SendsWhere me x (1 ≤ last_seq me x.history client) (send (to_client client (stored_reply me x.history client)) x) result self.now done.old done.new }
     {
         match self.keeper.reply(client) {
@@ -50,22 +50,22 @@ impl<V: Service + Drop> ReplicaState<V> {
         pos: Pos,
         answer: &[u8],
     ) -> Result<Message, NoMemory>
-        requires client { client < client_count self.now.agreement.shape }
+        requires client { client < client_count self.now.protocol.shape }
         requires seq { IsCounter seq }
         requires place { IsPlace pos }
         requires short { FitsText answer.now }
         ensures reply { (me : Identity V) (d : History) → Represents me self.now d → IfOk result (λ m. m ≡ reply me client (record { seq = seq; pos = pos; result = answer.now })) }
-        ensures fits { IfOk result (Fits self.now.agreement.shape) }
+        ensures fits { IfOk result (Fits self.now.protocol.shape) }
         ensures plain { IfOk result (λ m. as_stamped m ≡ None) }
     {
         let signed = signed_reply(alloc, client, seq, pos, answer)?;
         Ok(Message::Reply(Reply {
-            host: self.agreement.host,
+            host: self.protocol.host,
             client,
             seq,
             pos,
             result: Items::from_vec(Vec::from_slice(alloc, answer)?),
-            tag: self.agreement.usig.tag_reply(client, signed.as_slice()),
+            tag: self.protocol.usig.tag_reply(client, signed.as_slice()),
         }))
     }
 }

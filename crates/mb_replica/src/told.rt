@@ -29,7 +29,7 @@ pub struct Outgoing {
 
 /// A step, and what was stamped in it.
 #[derive(Drop)]
-pub struct Told {
+pub struct StepRecord {
     pub outcome: Outcome,
     pub sent: Items<Outgoing>,
     pub executed: Items<Slot>,
@@ -37,14 +37,14 @@ pub struct Told {
     pub adopted: Option<Pos>,
 }
 
-impl Told {
+impl StepRecord {
     /// The step alone.
     pub fn into_step(self, alloc: Global) -> Result<Step, NoMemory>
         requires { AreOutgoingLong self.sent }
         ensures lengths { IfOk result (λ s. AreMessageLong s.sent) }
         ensures step { IfOk result (λ s. s ≡ record { outcome = self.outcome; sent = map plain self.sent; executed = self.executed; adopted = self.adopted }) }
     {
-        let Told {
+        let StepRecord {
             outcome,
             sent,
             executed,

@@ -27,13 +27,13 @@ impl<V: Service + Drop> ReplicaState<V> {
         alloc: Global,
         m: &ViewChange,
     ) -> Result<Option<Outcome>, NoMemory>
-        requires { FitsViewChange self.now.agreement.shape m.now }
+        requires { FitsViewChange self.now.protocol.shape m.now }
         ensures { (me : Identity V) (d : History) → Represents me self.now d → IfOk result (λ o. o ≡ change_refusal me d m.now) }
     {
         if !self.is_current(m.view) {
             return Ok(None);
         }
-        match usable(alloc, &self.agreement.shape, &self.agreement.usig, m) {
+        match usable(alloc, &self.protocol.shape, &self.protocol.usig, m) {
             Ok(()) => Ok(None),
             Err(BadProof::At { index, reason }) => Ok(Some(Outcome::Unusable { index, reason })),
             Err(BadProof::NoMemory) => Err(NoMemory),
@@ -42,13 +42,13 @@ impl<V: Service + Drop> ReplicaState<V> {
 
     /// A VIEW_CHANGE is a wish of its sender. A whole one of a current view is stored.
     pub(crate) fn accept_change(&mut self, m: ViewChange) -> Result<(), NoMemory>
-        requires { FitsViewChange self.old.agreement.shape m }
+        requires { FitsViewChange self.old.protocol.shape m }
         ensures { (me : Identity V) (d : History) → Represents me self.old d → stamped_refusal me d (stamped.ViewChange m) ≡ None → OnOk result (AwaitsGate me self.old self.new (stamped.ViewChange m) d) }
     {
         let is_stored = self.is_stored(&m);
-        self.agreement.change.wish(m.ui.host, m.view);
+        self.protocol.change.wish(m.ui.host, m.view);
         if is_stored {
-            return self.agreement.change.store(m);
+            return self.protocol.change.store(m);
         }
         Ok(())
     }

@@ -22,7 +22,7 @@ impl<V: Service + Drop> ReplicaState<V> {
     ghost use Rattle.mb_model.specs.Positions.{exec_of};
     ghost use Rattle.mb_model.specs.KindChecks.{vote_refusal, body_refusal, has_bad_tag};
     ghost use Rattle.mb_base.specs.Shapes.{host_count};
-    ghost use Rattle.mb_standing.specs.Positions.{CountsVote, PutsSlot};
+    ghost use Rattle.mb_refinement.specs.Positions.{CountsVote, PutsSlot};
     ghost use Rattle.mb_replica.specs.Represents.{Represents};
     ghost use Rattle.mb_replica.specs.Between.{WritesNormal};
 
@@ -37,7 +37,7 @@ impl<V: Service + Drop> ReplicaState<V> {
         pos: Pos,
         body: &Body<Batch>,
     ) -> Result<Option<Outcome>, NoMemory>
-        requires { FitsBody (FitsBatch self.now.agreement.shape) body.now }
+        requires { FitsBody (FitsBatch self.now.protocol.shape) body.now }
         ensures { (me : Identity V) (d : History) → Represents me self.now d → IfOk result (λ o. o ≡ vote_refusal me d view pos body.now) }
     {
         let here = self.view();
@@ -66,12 +66,12 @@ impl<V: Service + Drop> ReplicaState<V> {
         pos: Pos,
         body: &Body<Batch>,
     ) -> Result<Option<Outcome>, NoMemory>
-        requires { FitsBody (FitsBatch self.now.agreement.shape) body.now }
+        requires { FitsBody (FitsBatch self.now.protocol.shape) body.now }
         ensures { (me : Identity V) (d : History) → Represents me self.now d → IfOk result (λ o. o ≡ body_refusal me d pos body.now) }
     {
         match body {
             Body::Whole(batch) => { Ok(self.has_bad_tag(alloc, batch)?.then_some(Outcome::BadTag)) }
-            Body::Bare(_) => Ok((pos > self.agreement.exec).then_some(self.need_body())),
+            Body::Bare(_) => Ok((pos > self.protocol.exec).then_some(self.need_body())),
         }
     }
 
@@ -80,40 +80,40 @@ impl<V: Service + Drop> ReplicaState<V> {
     {
         Outcome::NeedBody {
             view: self.view(),
-            exec: self.agreement.exec,
+            exec: self.protocol.exec,
         }
     }
 
     /// The tag of one of its requests is not that of the client's key.
     fn has_bad_tag(&self, alloc: Global, batch: &Batch) -> Result<bool, NoMemory>
-        requires { FitsBatch self.now.agreement.shape batch.now }
+        requires { FitsBatch self.now.protocol.shape batch.now }
         ensures { (me : Identity V) (d : History) → Represents me self.now d → IfOk result (λ o. o ≡ has_bad_tag me batch.now) }
     {
-        Ok(!are_tagged(alloc, &self.agreement.usig, batch.requests.as_slice())?)
+        Ok(!are_tagged(alloc, &self.protocol.usig, batch.requests.as_slice())?)
     }
 
     // ---- counting
 
     /// Counts the vote of a host for a position of the window. The first one stays.
     pub fn count_vote(&mut self, pos: Pos, host: Host, counter: u64, batch: Digest)
-        requires { host < host_count self.old.agreement.shape }
-        ensures counts { CountsVote self.old.agreement.normal self.new.agreement.normal pos host (record { counter = counter; request = batch }) }
+        requires { host < host_count self.old.protocol.shape }
+        ensures counts { CountsVote self.old.protocol.normal self.new.protocol.normal pos host (record { counter = counter; request = batch }) }
         ensures writes { WritesNormal self.old self.new }
     {
         let vote = Vote {
             counter,
             request: batch,
         };
-        let _first = self.agreement.normal.vote(pos, host, vote);
+        let _first = self.protocol.normal.vote(pos, host, vote);
     }
 
     /// Puts the slot of a position of the window, which this identifier ordered. The first one stays.
     pub fn put_slot(&mut self, pos: Pos, ui: &Ui, digest: Digest, batch: Option<Batch>)
-        ensures puts { PutsSlot self.old.agreement.normal self.new.agreement.normal pos (record { counter = ui.now.counter; cert = ui.now.cert; digest = digest; batch = batch }) }
+        ensures puts { PutsSlot self.old.protocol.normal self.new.protocol.normal pos (record { counter = ui.now.counter; cert = ui.now.cert; digest = digest; batch = batch }) }
         ensures writes { WritesNormal self.old self.new }
     {
         let _first = self
-            .agreement
+            .protocol
             .normal
             .slot(pos, ui.counter, ui.cert, digest, batch);
     }

@@ -1,6 +1,6 @@
 //! REQ_VIEW_CHANGE: the wish of a host for a view.
 
-use crate::sending::Done;
+use crate::sending::StepOutput;
 use crate::state::ReplicaState;
 use mb_base::NoMemory;
 use mb_msg::{Message, Outcome, ReqViewChange, To};
@@ -13,39 +13,39 @@ impl<V: Service + Drop> ReplicaState<V> {
     ghost use Rattle.mb_model.specs.Given.{give_wish};
     ghost use Rattle.mb_replica.specs.Represents.{StandsAt, Represents};
     ghost use Rattle.mb_replica.specs.Wishing.{Wishes};
-    ghost use Rattle.mb_replica.specs.declared.sending.Done.{Done};
+    ghost use Rattle.mb_replica.specs.declared.sending.StepOutput.{StepOutput};
     ghost use Rattle.mb_msg.specs.Fits.{FitsWish};
     ghost use Rattle.mb_model.specs.Histories.{Identity, History};
     ghost use Rattle.mb_model.specs.PlainChecks.{wish_refusal, is_bad_wish};
     ghost use Rattle.mb_model.specs.Making.{wish};
 
     /// The tag, then whether it asks for more.
-    #[tactic(auto, unfolding(mb_model::specs::PlainChecks::wish_refusal), using(mb_standing::proofs::Changes::change_answers))]
+    #[tactic(auto, unfolding(mb_model::specs::PlainChecks::wish_refusal), using(mb_refinement::proofs::Changes::change_answers))]
     fn wish_refusal(&self, m: &ReqViewChange) -> Option<Outcome>
-        requires { FitsWish self.now.agreement.shape m.now }
+        requires { FitsWish self.now.protocol.shape m.now }
         ensures { (me : Identity V) (d : History) → Represents me self.now d → result ≡ wish_refusal me d m.now }
     {
         if self.is_bad_wish(m) {
             return Some(Outcome::BadTag);
         }
-        (m.view <= self.agreement.change.wish_of(m.host)).then_some(Outcome::Idle)
+        (m.view <= self.protocol.change.wish_of(m.host)).then_some(Outcome::Idle)
     }
 
     fn is_bad_wish(&self, m: &ReqViewChange) -> bool
         ensures { (me : Identity V) (d : History) → Represents me self.now d → result ≡ is_bad_wish me m.now }
     {
-        !self.agreement.usig.verify_wish(m.host, m.view, &m.tag)
+        !self.protocol.usig.verify_wish(m.host, m.view, &m.tag)
     }
 
     /// A wish that asks for more is kept.
     pub(crate) fn give_wish(&mut self, m: &ReqViewChange) -> Outcome
-        requires { FitsWish self.old.agreement.shape m.now }
-        ensures { (me : Identity V) (x : Progress) → (done : Done) → StandsAt me self.old done x → (result ≡ (give_wish me m.now x).outcome) × StandsAt me self.new done (give_wish me m.now x).left }
+        requires { FitsWish self.old.protocol.shape m.now }
+        ensures { (me : Identity V) (x : Progress) → (done : StepOutput) → StandsAt me self.old done x → (result ≡ (give_wish me m.now x).outcome) × StandsAt me self.new done (give_wish me m.now x).left }
     {
         if let Some(outcome) = self.wish_refusal(m) {
             return outcome;
         }
-        self.agreement.change.wish(m.host, m.view);
+        self.protocol.change.wish(m.host, m.view);
         Outcome::Took
     }
 
@@ -53,16 +53,16 @@ impl<V: Service + Drop> ReplicaState<V> {
     fn wish(&self) -> Message
         ensures { (me : Identity V) (d : History) → Represents me self.now d → result ≡ wish me d }
     {
-        let view = self.agreement.change.wish_of(self.agreement.host);
+        let view = self.protocol.change.wish_of(self.protocol.host);
         Message::ReqViewChange(ReqViewChange {
-            host: self.agreement.host,
+            host: self.protocol.host,
             view,
-            tag: self.agreement.usig.tag_wish(view),
+            tag: self.protocol.usig.tag_wish(view),
         })
     }
 
     /// Tells all the own wish.
-    pub fn send_wish(&self, alloc: Global, done: &mut Done) -> Result<(), NoMemory>
+    pub fn send_wish(&self, alloc: Global, done: &mut StepOutput) -> Result<(), NoMemory>
         requires { Wishes self.now }
         ensures { (me : Identity V) (x : Progress) → StandsAt me self.now done.old x → OnOk result (StandsAt me self.now done.new (send (to_all (wish me x.history)) x)) }
     {

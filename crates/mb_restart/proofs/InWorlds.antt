@@ -17,7 +17,7 @@ use Rattle.mb_world_model.specs.WorldEvents.{IsCorrect}
 use Rattle.mb_world_model.specs.WorldSteps.{world, happens}
 use Rattle.mb_world_model.specs.WorldSteps as worlds
 use Rattle.mb_world_model.specs.EventsStep.{arrival, MakesStep}
-use Rattle.mb_headline.proofs.EventsStep.{events_step}
+use Rattle.mb_theorem.proofs.EventsStep.{events_step}
 use Rattle.mb_restart.specs.Runs.{sent_by, Run}
 use Rattle.mb_restart.specs.Restarts.{with_arrival, came, IsPartOf, SendsMade, HostsAreInWorlds}
 use Rattle.mb_restart.proofs.GoneOn.{all_weaker, hosts_go_on}

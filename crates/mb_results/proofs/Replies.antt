@@ -12,7 +12,7 @@ use Rattle.mb_model.specs.declared.known.LastReply.{LastReply}
 use Rattle.mb_model.specs.Service.{Machine, Served, no_reply, reply_of, is_fresh, served, served_each, served_all, start}
 use Rattle.mb_model.proofs.ServiceLaws.{each_length, table_length}
 use Rattle.mb_world_model.specs.World.{World, System}
-use Rattle.mb_promise.specs.Safety.{after_line, after_requests, IsSafe, StandsAt, IsBefore}
+use Rattle.mb_promise.specs.Safety.{after_line, after_requests, IsSafe, IsAt, IsBefore}
 use Rattle.mb_model.proofs.Lists.{get_there}
 use Rattle.mb_results.specs.Sequential.{IsAnswer}
 use Rattle.mb_results.proofs.States.{next_within, next_slot, state_within}
@@ -72,7 +72,7 @@ module _ {S : Type 0} (system : System S) (w : World) (safe : IsSafe system w) w
   -- What a client's reply is in a state before a place of the line: none yet, or an answer to a request before that place, above which none is numbered.
   pub record IsKnown (x : Served S) (c q i : ℕ) : Type 0 where
     pub answer : (reply_of x c ≡ no_reply) ⊎ ((a : IsAnswer system w c (reply_of x c)) × IsBefore system w a.q a.i q i)
-    pub most : (r j : ℕ) (y : Placed) → IsBefore system w r j q i → StandsAt system w r j y → y.request.client ≡ c → y.request.seq ≤ (reply_of x c).seq
+    pub most : (r j : ℕ) (y : Placed) → IsBefore system w r j q i → IsAt system w r j y → y.request.client ≡ c → y.request.seq ≤ (reply_of x c).seq
 
   -- A place before the next one is before this one, or this one.
   earlier : (r j q i : ℕ) → IsBefore system w r j q (i + 1) → IsBefore system w r j q i ⊎ ((r ≡ q) × (j ≡ i))
@@ -87,7 +87,7 @@ module _ {S : Type 0} (system : System S) (w : World) (safe : IsSafe system w) w
   later r j q i (inr (e, lt)) = inr (e, omega (arith, lt))
 
   -- One request stands at a place.
-  the_one : (q i r j : ℕ) (slot : Slot) (p y : Placed) → slice_get w.line q ≡ Some slot → slice_get slot.requests i ≡ Some p → r ≡ q → j ≡ i → StandsAt system w r j y → y ≡ p
+  the_one : (q i r j : ℕ) (slot : Slot) (p y : Placed) → slice_get w.line q ≡ Some slot → slice_get slot.requests i ≡ Some p → r ≡ q → j ≡ i → IsAt system w r j y → y ≡ p
   the_one q i r j slot p y at within e f s =
       let same : s.slot ≡ slot = parts s.slot slot (sym s.in_line ∙ ap (slice_get w.line) e ∙ at) in
       placed_parts y p (sym s.in_slot ∙ ap (slice_get s.slot.requests) f ∙ ap (λ (t : Slot). slice_get t.requests i) same ∙ within) where
@@ -98,7 +98,7 @@ module _ {S : Type 0} (system : System S) (w : World) (safe : IsSafe system w) w
         placed_parts a b h = cc
 
   -- the same reply, where the place is behind one more
-  kept_known : (x y : Served S) (c q i : ℕ) → reply_of y c ≡ reply_of x c → ((r j : ℕ) (z : Placed) → r ≡ q → j ≡ i → StandsAt system w r j z → z.request.client ≡ c → z.request.seq ≤ (reply_of x c).seq)
+  kept_known : (x y : Served S) (c q i : ℕ) → reply_of y c ≡ reply_of x c → ((r j : ℕ) (z : Placed) → r ≡ q → j ≡ i → IsAt system w r j z → z.request.client ≡ c → z.request.seq ≤ (reply_of x c).seq)
       → IsKnown x c q i → IsKnown y c q (i + 1)
   kept_known x y c q i same new k = record {
     answer = subst (λ (a : LastReply). (a ≡ no_reply) ⊎ ((b : IsAnswer system w c a) × IsBefore system w b.q b.i q (i + 1))) (sym same) (moved k.answer);
@@ -205,7 +205,7 @@ module _ {S : Type 0} (system : System S) (w : World) (safe : IsSafe system w) w
     moved (inr (a, inl lt)) = inr (a, inl (omega (arith, lt)))
     moved (inr (a, inr (e, lt))) = inr (a, inl (omega (arith, e)))
 
-    placed : (r j : ℕ) (z : Placed) → IsBefore system w r j (q + 1) 0 → StandsAt system w r j z → IsBefore system w r j q (length slot.requests)
+    placed : (r j : ℕ) (z : Placed) → IsBefore system w r j (q + 1) 0 → IsAt system w r j z → IsBefore system w r j q (length slot.requests)
     placed r j z (inr (e, lt)) s = absurd (omega (arith, lt))
     placed r j z (inl lt) s = elim (cases_eq r q) [
       | inr other ↦ inl (omega (arith, lt, other))

@@ -12,9 +12,9 @@ use Rattle.mb_model.specs.Execution.{state_of}
 use Rattle.mb_world_model.specs.WorldEvents.{IsCorrect}
 use Rattle.mb_world_model.specs.World.{World, System, self_of}
 use Rattle.mb_world_model.specs.WorldSteps.{world}
-use Rattle.mb_promise.specs.Safety.{after_requests, IsSafe, StandsAt, IsBefore, IsServedResult, AreServedResults}
-use Rattle.mb_line.specs.Worlds.{HasOneList}
-use Rattle.mb_line.proofs.InWorlds.{worlds_have_one_list}
+use Rattle.mb_promise.specs.Safety.{after_requests, IsSafe, IsAt, IsBefore, IsServedResult, AreServedResults}
+use Rattle.mb_one_log.specs.Worlds.{HasOneList}
+use Rattle.mb_one_log.proofs.InWorlds.{worlds_have_one_list}
 use Rattle.mb_results.specs.Sequential.{IsAnswer, told, IsOvertaken, IsSequential, LineIsSequential}
 use Rattle.mb_results.proofs.States.{line_state, next_within}
 use Rattle.mb_results.proofs.Replies.{reply_new, long, new_answer, IsKnown, known_at, known_within}
@@ -37,19 +37,19 @@ module _ {S : Type 0} (system : System S) (w : World) (safe : IsSafe system w) w
   -- ---- marks
 
   -- what is known of the client of a request right before its place
-  abbrev Before : (q i : ℕ) (x : Placed) → StandsAt system w q i x → Type 0
+  abbrev Before : (q i : ℕ) (x : Placed) → IsAt system w q i x → Type 0
   Before q i x s = IsKnown system w safe (after_requests system w q s.slot i) x.request.client q i
 
-  before_it : (q i : ℕ) (x : Placed) (s : StandsAt system w q i x) → Before q i x s
+  before_it : (q i : ℕ) (x : Placed) (s : IsAt system w q i x) → Before q i x s
   before_it q i x s =
       let lt = slice_get_within s.slot.requests i x s.in_slot in
       let client = ((safe.line q s.slot s.in_line).requests i x s.in_slot).client in
       known_within system w safe q s.slot i x.request.client s.in_line (omega (arith, lt)) client
 
-  mark : (q i : ℕ) (x : Placed) (s : StandsAt system w q i x) → x.fresh ≡ is_fresh (after_requests system w q s.slot i) x.request
+  mark : (q i : ℕ) (x : Placed) (s : IsAt system w q i x) → x.fresh ≡ is_fresh (after_requests system w q s.slot i) x.request
   mark q i x s = ((safe.line q s.slot s.in_line).requests i x s.in_slot).fresh
 
-  fresh_above : (q i r j : ℕ) (x y : Placed) → IsBefore system w r j q i → StandsAt system w q i x → StandsAt system w r j y → x.fresh ≡ true → y.request.client ≡ x.request.client → y.request.seq < x.request.seq
+  fresh_above : (q i r j : ℕ) (x y : Placed) → IsBefore system w r j q i → IsAt system w q i x → IsAt system w r j y → x.fresh ≡ true → y.request.client ≡ x.request.client → y.request.seq < x.request.seq
   fresh_above q i r j x y before s t fresh client =
       let above : (reply_of (after_requests system w q s.slot i) x.request.client).seq < x.request.seq = ltb-true _ _ (sym (mark q i x s) ∙ fresh) in
       let low = (before_it q i x s).most r j y before t client in
@@ -71,7 +71,7 @@ module _ {S : Type 0} (system : System S) (w : World) (safe : IsSafe system w) w
         above = omega (arith, number, le);
       })
 
-  overtaken : (q i : ℕ) (x : Placed) → StandsAt system w q i x → x.fresh ≡ false → (x.request.seq ≡ 0) ⊎ IsOvertaken system w q i x.request.client x.request.seq
+  overtaken : (q i : ℕ) (x : Placed) → IsAt system w q i x → x.fresh ≡ false → (x.request.seq ≡ 0) ⊎ IsOvertaken system w q i x.request.client x.request.seq
   overtaken q i x s again =
       let a : LastReply = reply_of (after_requests system w q s.slot i) x.request.client in
       overtaken_by q i x a (ltb-false a.seq x.request.seq (sym (mark q i x s) ∙ again)) (before_it q i x s).answer

@@ -16,7 +16,7 @@ use Rattle.mb_world_model.specs.WorldEvents.{IsCorrect, IsCorrectClient}
 use Rattle.mb_world_model.specs.World.{World, System, self_of}
 use Rattle.mb_world_model.specs.WorldSteps.{world}
 use Rattle.mb_world_model.specs.Stops.{IsUnstopped}
-use Rattle.mb_promise.specs.Safety.{StandsAt, IsBefore}
+use Rattle.mb_promise.specs.Safety.{IsAt, IsBefore}
 
 -- the operations of the requests that took effect
 unfoldable pub operations : List Placed → List Bytes
@@ -57,7 +57,7 @@ module _ {S : Type 0} (system : System S) (w : World) where
 
   -- Of the slots that a host has executed, no request of the client is numbered above this one.
   abbrev pub IsLast : ℕ → ℕ → LastReply → Type 0
-  IsLast h c a = (r j : ℕ) (y : Placed) → r < exec_of (w.histories h) → StandsAt system w r j y → y.request.client ≡ c → y.request.seq ≤ a.seq
+  IsLast h c a = (r j : ℕ) (y : Placed) → r < exec_of (w.histories h) → IsAt system w r j y → y.request.client ≡ c → y.request.seq ≤ a.seq
 
   -- what a client accepted
   abbrev pub told : Reply → LastReply
@@ -69,7 +69,7 @@ module _ {S : Type 0} (system : System S) (w : World) where
     pub j : ℕ
     pub before : IsBefore system w r j q i
     pub request : Placed
-    pub there : StandsAt system w r j request
+    pub there : IsAt system w r j request
     pub fresh : request.fresh ≡ true
     pub client : request.request.client ≡ c
     pub above : seq ≤ request.request.seq
@@ -82,9 +82,9 @@ module _ {S : Type 0} (system : System S) (w : World) where
     pub replies : (h c : ℕ) → IsCorrect system.schedule h → c < client_count system.schedule.shape → (stored h c ≡ no_reply) ⊎ IsAnswer c (stored h c)
     pub last : (h c : ℕ) → IsCorrect system.schedule h → c < client_count system.schedule.shape → IsLast h c (stored h c)
     pub accepted : (c : ℕ) (r : Reply) → IsCorrectClient system.schedule c → Contains (w.askers c).accepted r → IsAnswer c (told r)
-    pub fresh : (q i r j : ℕ) (x y : Placed) → IsBefore system w r j q i → StandsAt system w q i x → StandsAt system w r j y → x.fresh ≡ true
+    pub fresh : (q i r j : ℕ) (x y : Placed) → IsBefore system w r j q i → IsAt system w q i x → IsAt system w r j y → x.fresh ≡ true
         → y.request.client ≡ x.request.client → y.request.seq < x.request.seq
-    pub again : (q i : ℕ) (x : Placed) → StandsAt system w q i x → x.fresh ≡ false → (x.request.seq ≡ 0) ⊎ IsOvertaken q i x.request.client x.request.seq
+    pub again : (q i : ℕ) (x : Placed) → IsAt system w q i x → x.fresh ≡ false → (x.request.seq ≡ 0) ⊎ IsOvertaken q i x.request.client x.request.seq
 
 -- For every service that can be replicated and every schedule with at most f faulty hosts: after each event, while nothing was forged or refused by the world
 -- and no two of the strings hashed so far share a digest.

@@ -14,7 +14,7 @@ use Rattle.mb_sched.specs.declared.records.Record.{Record}
 use Rattle.mb_sched.specs.Report.{slot_lines}
 use Rattle.mb_edge.specs.Seen.{Device}
 use Rattle.mb_answer.specs.Devices.{Responds}
-use Rattle.mb_answer.specs.declared.answer.Answer.{Answer}
+use Rattle.mb_answer.specs.declared.answer.Output.{Output}
 use Rattle.mb_answer.specs.Records.{IsRecordText, AnswersText}
 use Rattle.mb_learn.specs.declared.learner.Learner.{Learner}
 use Rattle.mb_learn.specs.declared.learner.LearnStop.{LearnStop}
@@ -58,7 +58,7 @@ module _ (r : Record) where
   Agrees = AgreesWith r.config.shape r.config.secret machine snapshots []
 
   -- What was learnt is told: a line for each slot, and the state behind them.
-  abbrev pub TellsLearnt : {E : Type 0} → Learner Pairs → Result Answer E → Type 0
+  abbrev pub TellsLearnt : {E : Type 0} → Learner Pairs → Result Output E → Type 0
   TellsLearnt learner result = (given : List Bytes) (slots : List Slot) → Represents r.config.shape r.config.secret machine snapshots [] given slots learner
       → IfOk result (λ a. (a.status ≡ 0) × (a.text.items ≡ learnt_text slots (state_behind slots (length slots))))
 

@@ -11,7 +11,7 @@ ghost use Rattle.mb_answer.specs.Records.{AnswersText};
 ghost use Rattle.mb_reviewing.specs.Audits.{verdict_status, verdict_text, AnswersAudit, Audits, audit_statuses, audit_findings};
 
 use crate::given::given_in;
-use mb_answer::{Answer, DONE, DOUBLE, GAP, ILLEGAL, refusal, respond, tell_unread, usage};
+use mb_answer::{DONE, DOUBLE, GAP, ILLEGAL, Output, refusal, respond, tell_unread, usage};
 use mb_audit::Verdict;
 use mb_base::{Host, NoMemory};
 use mb_edge::{Sink, Source, read_all};
@@ -46,7 +46,7 @@ fn text_of(alloc: Global, host: Host, verdict: &Verdict) -> Result<String, NoMem
 }
 
 /// The verdict on a host of this number, or how the program is used where there is none.
-fn answer_record(alloc: Global, host: u64, written: Record) -> Result<Answer, NoMemory>
+fn answer_record(alloc: Global, host: u64, written: Record) -> Result<Output, NoMemory>
     ensures { IfOk result (λ a. AnswersAudit host written a.status a.text.items) }
 {
     let shape = written.config.shape;
@@ -58,14 +58,14 @@ fn answer_record(alloc: Global, host: u64, written: Record) -> Result<Answer, No
     let given = given_in(alloc, written.entries)?;
     let verdict = mb_audit::audit(alloc, &shape, &usig, given.as_slice(), host)?;
     let text = text_of(alloc, host, &verdict)?;
-    Ok(Answer {
+    Ok(Output {
         status: status_of(&verdict),
         text: text.into_bytes(),
     })
 }
 
 /// The answer to the text of a record.
-fn answer_to_record(alloc: Global, host: u64, text: &[u8]) -> Result<Answer, NoMemory>
+fn answer_to_record(alloc: Global, host: u64, text: &[u8]) -> Result<Output, NoMemory>
     ensures { IfOk result (λ a. AnswersText (AnswersAudit host) text.now a.status a.text.items) }
 {
     match parse_record(alloc, text) {

@@ -13,7 +13,7 @@ ghost use Rattle.mb_learn.specs.Learners.{Represents};
 ghost use Rattle.mb_reviewing.specs.Learning.{machine, snapshots, differs_text, LearnsAll, AnswersLearn, LearnsFrom, learn_statuses, learn_findings, TellsLearnt};
 
 use crate::given::given_in;
-use mb_answer::{Answer, DIFFERS, DONE, refusal, respond, tell_unread};
+use mb_answer::{DIFFERS, DONE, Output, refusal, respond, tell_unread};
 use mb_base::{Digest, NoMemory, Pos};
 use mb_edge::{Sink, Source, read_all};
 use mb_kv::Kv;
@@ -23,7 +23,7 @@ use mb_sched::{MAX_RECORD, Record, parse_record, print_slots};
 use std::alloc::Global;
 
 /// The history that was learnt: a line for each request, and the state behind them.
-fn learnt(alloc: Global, learner: &mut Learner<Kv>) -> Result<Answer, NoMemory>
+fn learnt(alloc: Global, learner: &mut Learner<Kv>) -> Result<Output, NoMemory>
     ensures { (r : TheRecord) → TellsLearnt r learner.old result }
 {
     let state = learner.state(alloc)?;
@@ -34,20 +34,20 @@ fn learnt(alloc: Global, learner: &mut Learner<Kv>) -> Result<Answer, NoMemory>
     text.push_str("state ")?;
     text.push_str(state.as_str())?;
     text.push_str("\nend\n")?;
-    Ok(Answer {
+    Ok(Output {
         status: DONE,
         text: text.into_bytes(),
     })
 }
 
 /// The first position at which f+1 hosts say another digest of their states than was found.
-fn differs(alloc: Global, pos: Pos, found: &Digest, certified: &Digest) -> Result<Answer, NoMemory>
+fn differs(alloc: Global, pos: Pos, found: &Digest, certified: &Digest) -> Result<Output, NoMemory>
     ensures { IfOk result (λ a. (a.status ≡ 10) × (a.text.items ≡ differs_text pos found.now certified.now)) }
 {
     let found = hex::encode(alloc, found.as_slice())?;
     let certified = hex::encode(alloc, certified.as_slice())?;
     let text = format!(in alloc; "differs pos {pos} {found} {certified}\n")?;
-    Ok(Answer {
+    Ok(Output {
         status: DIFFERS,
         text: text.into_bytes(),
     })
@@ -64,7 +64,7 @@ fn learn_all(alloc: Global, learner: &mut Learner<Kv>, given: &[Vec<u8>]) -> Res
 }
 
 /// What a record proves.
-fn answer_record(alloc: Global, written: Record) -> Result<Answer, NoMemory>
+fn answer_record(alloc: Global, written: Record) -> Result<Output, NoMemory>
     ensures { IfOk result (λ a. AnswersLearn written a.status a.text.items) }
 {
     let config = &written.config;
@@ -85,7 +85,7 @@ fn answer_record(alloc: Global, written: Record) -> Result<Answer, NoMemory>
 }
 
 /// The answer to the text of a record.
-fn answer_to_record(alloc: Global, text: &[u8]) -> Result<Answer, NoMemory>
+fn answer_to_record(alloc: Global, text: &[u8]) -> Result<Output, NoMemory>
     ensures { IfOk result (λ a. AnswersText AnswersLearn text.now a.status a.text.items) }
 {
     match parse_record(alloc, text) {

@@ -9,7 +9,7 @@ use crate::words::{
     bytes_of, client_in, digest_of, host_in, is_word, name_in, number_in, operation_of, words_of,
 };
 use mb_base::{Client, Host, Items, NoMemory, Seq, Shape};
-use mb_parts::MAX_REQUESTS;
+use mb_parts::MAX_BATCH_REQUESTS;
 use mb_schedule::WorldEvent;
 use std::alloc::Global;
 
@@ -242,7 +242,7 @@ fn numbers_behind(mut before: Items<u64>, words: &[&[u8]]) -> Result<Option<Item
 fn messages_of(alloc: Global, words: &[&[u8]]) -> Result<Option<Items<u64>>, NoMemory>
     ensures { IfOk result (λ numbers. numbers ≡ messages_of (texts words.now)) }
 {
-    if words.is_empty() || words.len() > usize::from(MAX_REQUESTS) {
+    if words.is_empty() || words.len() > usize::from(MAX_BATCH_REQUESTS) {
         return Ok(None);
     }
     numbers_behind(Items::new(alloc), words)

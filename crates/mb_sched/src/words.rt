@@ -11,7 +11,7 @@ ghost use Rattle.mb_sched.specs.Words.{pieces, words, texts, decimal_value, is_d
 use arrayvec::ArrayVec;
 use hex::{FromHex, FromHexError};
 use mb_base::{Client, Host, Items, Key, NoMemory, Shape};
-use mb_parts::{MAX_REQUESTS, TEXT_LIMIT};
+use mb_parts::{MAX_BATCH_REQUESTS, TEXT_LIMIT};
 use mb_schedule::Name;
 use std::alloc::Global;
 
@@ -36,7 +36,7 @@ pub(crate) fn cut(text: &[u8], separator: u8) -> (&[u8], Option<&[u8]>)
 }
 
 /// The most words of an event line: five, and the numbers of the messages of a whole batch.
-const MAX_WORDS: usize = 5 + MAX_REQUESTS as usize;
+const MAX_WORDS: usize = 5 + MAX_BATCH_REQUESTS as usize;
 
 /// The words of a line that has no more than an event line may have.
 pub(crate) fn words_of(line: &[u8]) -> Option<ArrayVec<&[u8], MAX_WORDS>>

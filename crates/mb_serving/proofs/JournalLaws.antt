@@ -46,7 +46,7 @@ use Rattle.mb_sched.specs.Records.{record_head, entry_text, event_words, EventFi
 use Rattle.mb_sched.specs.ScheduleText.{line_text}
 use Rattle.hex.specs.Hex.{encode_lower}
 use Rattle.std.specs.Fmt.{decimal}
-use Rattle.mb_answer.specs.declared.answer.Answer.{Answer}
+use Rattle.mb_answer.specs.declared.answer.Output.{Output}
 use Rattle.mb_answer.specs.Texts.{exists_text, bad_journal_text}
 use Rattle.mb_answer.specs.Configs.{used, unused, lack_statuses}
 use Rattle.mb_edge.specs.Seen.{Device, LinkState, DiskState}
@@ -136,7 +136,7 @@ writing_of writing.NoMemory = tt
 -- ---- a journal is made
 
 -- what is answered
-pub told_answer : (answer : Result Answer NoMemory) (wanted : ℕ) (text : Bytes) (status : ℕ) (sink sink' : Device) → IfOk answer (λ a. (a.status ≡ wanted) × (a.text.items ≡ text)) → IfOk answer (λ a. Says a.status a.text.items status sink sink')
+pub told_answer : (answer : Result Output NoMemory) (wanted : ℕ) (text : Bytes) (status : ℕ) (sink sink' : Device) → IfOk answer (λ a. (a.status ≡ wanted) × (a.text.items ≡ text)) → IfOk answer (λ a. Says a.status a.text.items status sink sink')
     → IfErr answer (λ _. (status ≡ 4) × (sink ≡ sink')) → Says wanted text status sink sink' ⊎ ((status ≡ 4) × (sink ≡ sink'))
 told_answer (Ok a) wanted text status sink sink' is wrote none = inl (subst (λ (n : ℕ). Says n text status sink sink') is.0 (subst (λ (t : Bytes). Says a.status t status sink sink') is.1 wrote))
 told_answer (Err e) wanted text status sink sink' is wrote none = inr none

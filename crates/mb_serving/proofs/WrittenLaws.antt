@@ -15,11 +15,11 @@ use Rattle.mb_msg.specs.declared.event.Event.{Event}
 use Rattle.mb_model.specs.Histories.{Identity, History}
 use Rattle.mb_model.specs.HostStep.{transition}
 use Rattle.mb_steps.specs.Arises.{IsWhole}
-use Rattle.mb_searches.specs.Sound.{IsSound}
-use Rattle.mb_searches.proofs.Sound.{begins_sound}
-use Rattle.mb_searches.proofs.SoundRules.{transition_sound}
-use Rattle.mb_fitting.specs.Fitting.{AreFit}
-use Rattle.mb_fitting.proofs.Fit.{begins_fit, transition_fit}
+use Rattle.mb_history_laws.specs.Sound.{IsSound}
+use Rattle.mb_history_laws.proofs.Sound.{begins_sound}
+use Rattle.mb_history_laws.proofs.SoundRules.{transition_sound}
+use Rattle.mb_encodable.specs.Fitting.{AreFit}
+use Rattle.mb_encodable.proofs.Fit.{begins_fit, transition_fit}
 use Rattle.mb_replica.specs.Represents.{as_sent}
 use Rattle.mb_node.specs.Receives.{Receives}
 use Rattle.mb_node.specs.Events.{events, left_by, has_stop}

@@ -9,7 +9,7 @@ ghost use Rattle.mb_sched.specs.Records.{max_record};
 ghost use Rattle.mb_answer.specs.Devices.{IsLow};
 ghost use Rattle.mb_serving.specs.Records.{AnswersRecord, AnswersRecordText, Retraces, same_text, differs_text, retrace_statuses};
 
-use mb_answer::{Answer, DIFFERS, DONE, bad_line, respond, tell_unread, too_long};
+use mb_answer::{DIFFERS, DONE, Output, bad_line, respond, tell_unread, too_long};
 use mb_base::{Digest, NoMemory};
 use mb_edge::{Sink, Source, read_all};
 use mb_kv::Kv;
@@ -18,31 +18,31 @@ use mb_sched::{BadText, MAX_RECORD, Record, parse_record};
 use std::alloc::Global;
 
 /// Each of so many entries is that of the host's own step.
-fn same(alloc: Global, events: u64) -> Result<Answer, NoMemory>
+fn same(alloc: Global, events: u64) -> Result<Output, NoMemory>
     ensures { IfOk result (λ a. (a.status ≡ 0) × (a.text.items ≡ same_text events)) }
 {
     let text = format!(in alloc; "same {events}\n")?;
-    Ok(Answer {
+    Ok(Output {
         status: DONE,
         text: text.into_bytes(),
     })
 }
 
 /// The entry of this number is the first that isn't, by its digest and that of the host's own step.
-fn differs(alloc: Global, event: u64, recorded: &Digest, found: &Digest) -> Result<Answer, NoMemory>
+fn differs(alloc: Global, event: u64, recorded: &Digest, found: &Digest) -> Result<Output, NoMemory>
     ensures { IfOk result (λ a. (a.status ≡ 10) × (a.text.items ≡ differs_text event recorded.now found.now)) }
 {
     let recorded = hex::encode(alloc, recorded.as_slice())?;
     let found = hex::encode(alloc, found.as_slice())?;
     let text = format!(in alloc; "differs event {event} {recorded} {found}\n")?;
-    Ok(Answer {
+    Ok(Output {
         status: DIFFERS,
         text: text.into_bytes(),
     })
 }
 
 /// The answer to a record.
-fn answer_record(alloc: Global, written: &Record) -> Result<Answer, NoMemory>
+fn answer_record(alloc: Global, written: &Record) -> Result<Output, NoMemory>
     requires { written.now.id < host_count written.now.config.shape }
     ensures { IfOk result (λ a. AnswersRecord written.now a.status a.text.items) }
 {
@@ -60,7 +60,7 @@ fn answer_record(alloc: Global, written: &Record) -> Result<Answer, NoMemory>
 }
 
 /// The answer to the text of a record.
-fn answer_to_record(alloc: Global, text: &[u8]) -> Result<Answer, NoMemory>
+fn answer_to_record(alloc: Global, text: &[u8]) -> Result<Output, NoMemory>
     ensures { IfOk result (λ a. AnswersRecordText text.now a.status a.text.items) }
 {
     match parse_record(alloc, text) {

@@ -8,7 +8,7 @@ use Rattle.mb_service.specs.declared.service.Service.{Ghosts}
 use Rattle.mb_world_model.specs.Stops.{WorldStop as Stop, stop_of, IsUnstopped}
 use Rattle.mb_world_model.specs.World.{World as WorldState, System, nothing_happened}
 use Rattle.mb_world_model.specs.WorldSteps.{happens, world}
-use Rattle.mb_parties.proofs.ListLaws.{each_push}
+use Rattle.mb_members.proofs.ListLaws.{each_push}
 use Rattle.mb_world.specs.declared.seen.Seen.{Seen}
 use Rattle.mb_world.specs.declared.seen.WorldStop.{WorldStop}
 use Rattle.mb_world.specs.declared.seen.WorldStop.TheVariants as stop

@@ -6,7 +6,7 @@ use Rattle.mb_schedule.specs.declared.schedule.WorldEvent.{WorldEvent}
 use Rattle.mb_world_model.specs.World.{System}
 use Rattle.mb_world_model.specs.WorldSteps.{world}
 use Rattle.mb_world_model.specs.Stops.{stop_of, IsUnstopped}
-use Rattle.mb_parties.specs.Hosts.{IsSystem, AreServices}
+use Rattle.mb_members.specs.Hosts.{IsSystem, AreServices}
 use Rattle.mb_world.specs.declared.seen.WorldStop.{WorldStop}
 use Rattle.mb_world.specs.Answers.{as_stop}
 use Rattle.mb_world.specs.Reports.{report_of}

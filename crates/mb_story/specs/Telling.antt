@@ -9,8 +9,8 @@ use Rattle.mb_schedule.specs.declared.schedule.Schedule.{Schedule}
 use Rattle.mb_schedule.specs.declared.schedule.WorldEvent.{WorldEvent}
 use Rattle.mb_world_model.specs.Refusals.{refusal_in}
 use Rattle.mb_world_model.specs.World.{World, System, message_at, Seen as Answer}
-use Rattle.mb_parties.specs.Lines.{host_line, client_line}
-use Rattle.mb_parties.specs.Replies.{addressee}
+use Rattle.mb_members.specs.Lines.{host_line, client_line}
+use Rattle.mb_members.specs.Replies.{addressee}
 use Rattle.mb_world.specs.Answers.{as_answer}
 use Rattle.mb_story.specs.declared.telling.NewMessage.{NewMessage}
 use Rattle.mb_story.specs.declared.telling.Telling.{Telling}

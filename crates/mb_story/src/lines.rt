@@ -6,14 +6,14 @@ ghost use Rattle.mb_base.specs.Shapes.{host_count};
 ghost use Rattle.mb_schedule.specs.Limits.{EventFits};
 ghost use Rattle.mb_world_model.specs.Refusals.{refusal_in};
 ghost use Rattle.mb_world_model.specs.World.{World as WorldState, System};
-ghost use Rattle.mb_parties.specs.Lines.{host_line};
+ghost use Rattle.mb_members.specs.Lines.{host_line};
 ghost use Rattle.mb_world.specs.Answers.{as_answer};
 ghost use Rattle.mb_world.specs.Tables.{RepresentsWorld};
 ghost use Rattle.mb_story.specs.Telling.{host_lines, client_lines};
 
 use crate::arrivals::{client_of, host_of};
 use mb_base::{Host, Items, NoMemory};
-use mb_parties::{client_line, state_of};
+use mb_members::{client_line, state_of};
 use mb_schedule::{ClientLine, HostLine, RefusedLine, WorldEvent};
 use mb_service::Service;
 use mb_world::{Seen, World, refusal};

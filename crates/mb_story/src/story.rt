@@ -5,7 +5,7 @@ ghost use Rattle.mb_base.specs.Shapes.{host_count};
 ghost use Rattle.mb_schedule.specs.declared.schedule.WorldEvent.{WorldEvent as Event};
 ghost use Rattle.mb_schedule.specs.Limits.{EventFits, IsSchedule};
 ghost use Rattle.mb_world_model.specs.World.{System, nothing_happened};
-ghost use Rattle.mb_parties.specs.Hosts.{IsSystem, AreServices};
+ghost use Rattle.mb_members.specs.Hosts.{IsSystem, AreServices};
 ghost use Rattle.mb_world.specs.Answers.{as_stop};
 ghost use Rattle.mb_world.specs.Tables.{RepresentsWorld, HasWorld};
 ghost use Rattle.mb_story.specs.declared.story.End.TheVariants.{Stopped};

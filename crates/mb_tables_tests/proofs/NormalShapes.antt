@@ -9,8 +9,8 @@ use Rattle.mb_window.specs.Places.{item_at}
 use Rattle.mb_votes.specs.declared.votes.Votes.{Votes}
 use Rattle.mb_votes.specs.Ballots.{vote_at}
 use Rattle.mb_votes.specs.Votes.{Represents as VotesRepresents}
-use Rattle.mb_kept.specs.declared.checkpoints.Checkpoints.{Checkpoints}
-use Rattle.mb_kept.specs.Kept.{Represents as KeptRepresents, kept_at, low_of}
+use Rattle.mb_checkpoints.specs.declared.checkpoints.Checkpoints.{Checkpoints}
+use Rattle.mb_checkpoints.specs.Kept.{Represents as KeptRepresents, kept_at, low_of}
 use Rattle.mb_normal.specs.declared.normal.Normal.{Normal}
 use Rattle.mb_normal.specs.Waiting.{request_of}
 use Rattle.mb_normal.specs.Searches.{Searches}

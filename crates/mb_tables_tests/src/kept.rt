@@ -1,11 +1,11 @@
 //! What is kept, and the certificates that come of it. What is expected was read off the protocol's rules.
 
 ghost use Rattle.std.specs.Prelude.{◌≡◌};
-ghost use Rattle.mb_kept.specs.Kept.{low_of};
+ghost use Rattle.mb_checkpoints.specs.Kept.{low_of};
 
 use crate::samples::{FLOOR_AT_4, are_equal, three_hosts};
 use mb_base::{Digest, Host, Items, Pos, Shape, Ui};
-use mb_kept::Checkpoints;
+use mb_checkpoints::Checkpoints;
 use mb_msg::{
     Body, Checkpoint, Floor, FloorCert, FloorMember, Floors, MAX_POS, StableCert, StableMember,
 };

@@ -12,7 +12,7 @@ use Rattle.mb_kv.specs.Laws.SnapshotLaws.{parts_give_the_state}
 use Rattle.mb_cache.specs.Represents.{machine_of, snapshots_of}
 use Rattle.mb_schedule.specs.declared.schedule.Schedule.{Schedule}
 use Rattle.mb_promise.specs.Headline.{state_after, IsService}
-use Rattle.mb_parties.specs.Hosts.{IsSystem, AreServices}
+use Rattle.mb_members.specs.Hosts.{IsSystem, AreServices}
 use Rattle.mb_top.specs.Systems.{system_of}
 
 abbrev after_all : List Bytes → Pairs

@@ -7,7 +7,7 @@ use Rattle.mb_schedule.specs.Limits.{IsSchedule}
 use Rattle.mb_world_model.specs.Hashed.{HashesApart}
 use Rattle.mb_promise.specs.Headline.{Promises, HoldsAtEachEvent}
 use Rattle.mb_world_model.specs.Stops.{WorldStop}
-use Rattle.mb_headline.proofs.Promised.{all_stay_one}
+use Rattle.mb_theorem.proofs.Promised.{all_stay_one}
 use Rattle.mb_top.specs.Systems.{system_of, world}
 use Rattle.mb_top.specs.Runs.{AreUnstopped, IsFirstStopped}
 use Rattle.mb_top.specs.Answers.{IsFirstForged, certificate, tag}

@@ -8,7 +8,7 @@ use Rattle.mb_schedule.specs.declared.schedule.Schedule.{Schedule}
 use Rattle.mb_schedule.specs.declared.schedule.WorldEvent.{WorldEvent}
 use Rattle.mb_world_model.specs.Stops.{WorldStop as Stop, NotFaulty, NoSuchMessage, WrongKind, Forged, ForgedTag, stop_of}
 use Rattle.mb_world_model.specs.WorldSteps.{happens, world as any_world}
-use Rattle.mb_parties.proofs.LeftLaws.{drop_one}
+use Rattle.mb_members.proofs.LeftLaws.{drop_one}
 use Rattle.mb_world.specs.declared.seen.Seen.{Seen}
 use Rattle.mb_world.specs.declared.seen.WorldStop.{WorldStop}
 use Rattle.mb_world.specs.declared.seen.WorldStop.TheVariants as stop

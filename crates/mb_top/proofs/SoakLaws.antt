@@ -12,10 +12,10 @@ use Rattle.mb_promise.specs.Headline.{Promises}
 use Rattle.mb_make.specs.Draws.{Generator, Represents, HasDrawn, draw}
 use Rattle.mb_make.specs.declared.maker.Maker.{Maker}
 use Rattle.mb_make.specs.Soaks.{generator_after, event_drawn, played, IsSoaked}
-use Rattle.mb_genuine.specs.Reached.{IsReached}
-use Rattle.mb_genuine.specs.Soaked.{IsSoak}
-use Rattle.mb_genuine.proofs.Reached.{reached_at}
-use Rattle.mb_genuine.proofs.Soaked.{soaks_are_unstopped}
+use Rattle.mb_unforged.specs.Reached.{IsReached}
+use Rattle.mb_unforged.specs.Soaked.{IsSoak}
+use Rattle.mb_unforged.proofs.Reached.{reached_at}
+use Rattle.mb_unforged.proofs.Soaked.{soaks_are_unstopped}
 use Rattle.mb_top.specs.declared.command.Command.{Command}
 use Rattle.mb_top.specs.declared.command.Command.TheVariants.{Soak}
 use Rattle.mb_top.specs.Systems.{system_of, world}

@@ -18,7 +18,7 @@ ghost use Rattle.mb_top.specs.Answers.{AnswersSchedule, Answers};
 ghost use Rattle.mb_top.specs.Responses.{Replays};
 ghost use Rattle.mb_top.specs.Doings.{replay_statuses};
 
-use mb_answer::{Answer, DONE, bad_line, forged, forged_tag, respond, tell_unread, too_long};
+use mb_answer::{DONE, Output, bad_line, forged, forged_tag, respond, tell_unread, too_long};
 use mb_base::{Counter, Host, NoMemory};
 use mb_edge::{Sink, Source, read_all};
 use mb_kv::Kv;
@@ -143,19 +143,19 @@ fn run(alloc: Global, schedule: Schedule) -> Result<World<Kv>, RunStop>
 }
 
 /// The report of a world, which is let go before the text is written.
-fn report_on(alloc: Global, world: World<Kv>) -> Result<Answer, NoMemory>
+fn report_on(alloc: Global, world: World<Kv>) -> Result<Output, NoMemory>
     ensures { (s : Schedule) (x : WorldState) → RepresentsWorld (system_of s) world x → IfOk result (λ a. (a.status ≡ 0) × (a.text.items ≡ report_text (report_of (system_of s) x))) }
 {
     let report = world.report(alloc)?;
     drop(world);
-    Ok(Answer {
+    Ok(Output {
         status: DONE,
         text: print_report(alloc, &report)?,
     })
 }
 
 /// The answer to a schedule: the report after its events, or what stands in the way of the first event that is not done.
-fn answer_schedule(alloc: Global, schedule: Schedule) -> Result<Answer, NoMemory>
+fn answer_schedule(alloc: Global, schedule: Schedule) -> Result<Output, NoMemory>
     requires { IsSchedule schedule }
     ensures { IfOk result (λ a. AnswersSchedule schedule a.status a.text.items) }
 {
@@ -182,7 +182,7 @@ fn schedule_of(alloc: Global, text: Vec<u8>) -> Result<Schedule, BadText>
 }
 
 /// The answer to the text of a schedule.
-fn answer_to(alloc: Global, text: Vec<u8>) -> Result<Answer, NoMemory>
+fn answer_to(alloc: Global, text: Vec<u8>) -> Result<Output, NoMemory>
     ensures { IfOk result (λ a. Answers text.items a.status a.text.items) }
 {
     match schedule_of(alloc, text) {

@@ -15,7 +15,7 @@ ghost use Rattle.mb_top.specs.Systems.{system_of, world};
 ghost use Rattle.mb_top.specs.Soaks.{soak_shape, soak_of, summed_up, summary_text, soak_text};
 
 use crate::replay::services;
-use mb_answer::{Answer, DONE, respond};
+use mb_answer::{DONE, Output, respond};
 use mb_base::{Key, NoMemory, Shape, View};
 use mb_edge::Sink;
 use mb_kv::Kv;
@@ -166,7 +166,7 @@ fn summed_up(seed: u64, events: u64, report: &Report) -> Summary
 }
 
 /// The answer that tells these numbers.
-fn told(alloc: Global, numbers: &Summary) -> Result<Answer, NoMemory>
+fn told(alloc: Global, numbers: &Summary) -> Result<Output, NoMemory>
     ensures { IfOk result (λ a. (a.status ≡ 0) × (a.text.items ≡ summary_text numbers.now)) }
 {
     let Summary {
@@ -180,14 +180,14 @@ fn told(alloc: Global, numbers: &Summary) -> Result<Answer, NoMemory>
     let text = format!(in alloc;
         "soak {seed} {events} line {line} accepted {accepted} views {views} longest {longest}\n"
     )?;
-    Ok(Answer {
+    Ok(Output {
         status: DONE,
         text: text.into_bytes(),
     })
 }
 
 /// The answer to a soak of so many events from a seed.
-fn answer_soak(alloc: Global, seed: u64, events: u64) -> Result<Answer, NoMemory>
+fn answer_soak(alloc: Global, seed: u64, events: u64) -> Result<Output, NoMemory>
     requires { events ≤ soak_limit }
     ensures { IfOk result (λ a. (a.status ≡ 0) × (a.text.items ≡ soak_text seed events)) }
 {

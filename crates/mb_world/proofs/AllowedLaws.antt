@@ -12,8 +12,8 @@ use Rattle.mb_schedule.specs.declared.schedule.Schedule.{Schedule}
 use Rattle.mb_world_model.specs.World.{World as WorldState, numbered, read, message_at}
 use Rattle.mb_world_model.specs.Forged.{forged_claim, has_forged_tag}
 use Rattle.mb_world_model.specs.Stops.{WorldStop as Stop, Forged, ForgedTag, to_correct}
-use Rattle.mb_forged.specs.declared.checker.ForgedClaim.{ForgedClaim}
-use Rattle.mb_forged.specs.Checks.{told}
+use Rattle.mb_forgery.specs.declared.checker.ForgedClaim.{ForgedClaim}
+use Rattle.mb_forgery.specs.Checks.{told}
 use Rattle.mb_world.specs.declared.seen.WorldStop.{WorldStop}
 use Rattle.mb_world.specs.Answers.{Tells}
 use Rattle.mb_world.specs.Contents.{found_in}

@@ -15,9 +15,9 @@ use Rattle.mb_world_model.specs.World.{World as WorldState, System, made, reques
 use Rattle.mb_world_model.specs.WorldEvents.{culprit, is_faulty_name}
 use Rattle.mb_world_model.specs.WorldSteps.{happens}
 use Rattle.mb_world_model.specs.FaultyHosts.{checkpoint_with, change_after, stamp_content, stamp_bytes, reply_of_host, wish_of_host}
-use Rattle.mb_forged.specs.Contents.{unstamped}
+use Rattle.mb_forgery.specs.Contents.{unstamped}
 use Rattle.mb_world.specs.Contents.{IsAllowed, content_of, stamping_host}
-use Rattle.mb_parties.proofs.ListLaws.{some_is}
+use Rattle.mb_members.proofs.ListLaws.{some_is}
 use Rattle.mb_world.proofs.StopLaws.{HasContent, is_doer_faulty, no_name, prepare_there, commit_there, as_there, checkpoint_there, change_there}
 
 -- A faulty host stamps a content, which is the code's, whatever identifiers are in both.

@@ -12,8 +12,8 @@ use Rattle.mb_schedule.specs.Limits.{is_faulty, is_faulty_client}
 use Rattle.mb_world_model.specs.World.{World as WorldState, numbered, read}
 use Rattle.mb_world_model.specs.Forged.{forged_claim, has_forged_tag, IsUnforged}
 use Rattle.mb_world_model.specs.Stops.{WorldStop, Forged, ForgedTag, event_number, to_correct, name_stop, missing_stop, kind_stop, forged_stop, tag_stop, stop_of}
-use Rattle.mb_parties.specs.Marks.{IsCleanAt}
-use Rattle.mb_parties.proofs.ListLaws.{some_is}
+use Rattle.mb_members.specs.Marks.{IsCleanAt}
+use Rattle.mb_members.proofs.ListLaws.{some_is}
 use Rattle.mb_world.proofs.StopLaws.{or_none, given_there, taken_there}
 
 module _ (s : Schedule) (x : WorldState) where

@@ -8,7 +8,7 @@ use Rattle.mb_schedule.specs.declared.report.HostLine.{HostLine}
 use Rattle.mb_schedule.specs.declared.report.ClientLine.{ClientLine}
 use Rattle.mb_world_model.specs.World.{World as WorldState, System}
 use Rattle.mb_service.specs.declared.service.Service.{Ghosts}
-use Rattle.mb_parties.specs.Lines.{host_line, client_line}
+use Rattle.mb_members.specs.Lines.{host_line, client_line}
 use Rattle.mb_world.specs.declared.world.World.{World}
 use Rattle.mb_world.specs.Reports.{report_of}
 use Rattle.mb_world.specs.Tables.{RepresentsWorld}

@@ -15,9 +15,9 @@ use Rattle.mb_world_model.specs.WorldSteps.{happens}
 use Rattle.mb_world_model.specs.EventsStep.{arrival}
 use Rattle.mb_world_model.specs.Stops.{stop_of}
 use Rattle.mb_world_model.specs.Forged.{IsUnforged}
-use Rattle.mb_forged.proofs.CleanLaws.{clean_stays}
-use Rattle.mb_genuine.specs.Reached.{IsReached}
-use Rattle.mb_genuine.proofs.Sent.{sent_unforged}
+use Rattle.mb_forgery.proofs.CleanLaws.{clean_stays}
+use Rattle.mb_unforged.specs.Reached.{IsReached}
+use Rattle.mb_unforged.proofs.Sent.{sent_unforged}
 use Rattle.mb_world.specs.Sent.{SendsClean}
 
 module _ {V : Type 0} (y : System V) (x : WorldState) (r : IsReached y x) (e : WorldEvent) (none : stop_of y.schedule x e ≡ None) (h : ℕ) (there : h < host_count y.schedule.shape) where

@@ -13,7 +13,7 @@ use Rattle.mb_schedule.specs.declared.schedule.WorldEvent.{WorldEvent}
 use Rattle.mb_schedule.specs.declared.schedule.WorldEvent.TheVariants.{Ask, Give, Take, Raw, Patience, Nudge, Sign, TagReply, TagWish, StampPrepare, StampCommit, StampCheckpoint, StampChange, StampAs, StampRaw}
 use Rattle.mb_schedule.specs.Limits.{EventFits, NameFits}
 use Rattle.mb_base.specs.declared.shape.Shape.{Shape}
-use Rattle.mb_parties.proofs.ListLaws.{some_is}
+use Rattle.mb_members.proofs.ListLaws.{some_is}
 use Rattle.mb_world_model.specs.World.{World as WorldState, numbered}
 use Rattle.mb_world_model.specs.WorldEvents.{is_faulty_name, culprit}
 use Rattle.mb_world_model.specs.FaultyHosts.{misfit, prepare_with, batch_from, commit_for, checkpoint_with, content, change_after}

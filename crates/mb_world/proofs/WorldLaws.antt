@@ -15,7 +15,7 @@ use Rattle.mb_schedule.specs.declared.schedule.Schedule.{Schedule}
 use Rattle.mb_schedule.specs.Limits.{is_faulty, is_faulty_client}
 use Rattle.mb_core.specs.declared.replica.Replica.{Replica}
 use Rattle.mb_replica.specs.declared.told.Outgoing.{Outgoing}
-use Rattle.mb_replica.specs.declared.told.Told.{Told}
+use Rattle.mb_replica.specs.declared.told.StepRecord.{StepRecord}
 use Rattle.mb_replica.specs.Told.{KnowsBytes}
 use Rattle.mb_replica.specs.Represents.{IsTold}
 use Rattle.mb_world_model.specs.Refusals.{refusals, refusal_in}
@@ -23,22 +23,22 @@ use Rattle.mb_world_model.specs.World.{World as WorldState, System, self_of, Mad
 use Rattle.mb_world_model.specs.WorldSteps.{with_message}
 use Rattle.mb_world_model.specs.FaultyHosts.{stamp_as}
 use Rattle.mb_msg.specs.Reading.{message_of}
-use Rattle.mb_forged.specs.Ledgers.{Keeps, KeepsWorld}
-use Rattle.mb_forged.specs.Checks.{MadeMore}
+use Rattle.mb_forgery.specs.Ledgers.{Keeps, KeepsWorld}
+use Rattle.mb_forgery.specs.Checks.{MadeMore}
 use Rattle.mb_world.specs.declared.seen.Seen.{Seen}
 use Rattle.mb_service.specs.declared.service.Service.{Ghosts}
 use Rattle.mb_world.specs.declared.world.World.{World}
-use Rattle.mb_parties.specs.Hosts.{IsSystem}
-use Rattle.mb_parties.specs.declared.members.Member.TheVariants as member
-use Rattle.mb_parties.specs.Members.{AllRest, IsCorrectHost, RepresentsMembers}
-use Rattle.mb_parties.specs.Askers.{RepresentsAskers}
+use Rattle.mb_members.specs.Hosts.{IsSystem}
+use Rattle.mb_members.specs.declared.members.Member.TheVariants as member
+use Rattle.mb_members.specs.Members.{AllRest, IsCorrectHost, RepresentsMembers}
+use Rattle.mb_members.specs.Askers.{RepresentsAskers}
 use Rattle.mb_world.specs.Answers.{as_answer}
-use Rattle.mb_parties.specs.Marks.{IsBodyAt, lengthened, sent_mark, mark_at}
-use Rattle.mb_parties.specs.Stamps.{FitsWhereStamped, bare_in, bares_of}
+use Rattle.mb_members.specs.Marks.{IsBodyAt, lengthened, sent_mark, mark_at}
+use Rattle.mb_members.specs.Stamps.{FitsWhereStamped, bare_in, bares_of}
 use Rattle.mb_world.specs.Sent.{SendsClean, SentIsClean}
 use Rattle.mb_world.specs.Tables.{RepresentsRest, RepresentsWorld, Leaves}
-use Rattle.mb_parties.proofs.MarkLaws.{GoesOn, goes_same, goes_still, longer_stamps, still_marked, marks_sent}
-use Rattle.mb_parties.proofs.KeepLaws.{keeps_same, correct_stamps, faulty_stamps_more, sent_bytes, went_partway}
+use Rattle.mb_members.proofs.MarkLaws.{GoesOn, goes_same, goes_still, longer_stamps, still_marked, marks_sent}
+use Rattle.mb_members.proofs.KeepLaws.{keeps_same, correct_stamps, faulty_stamps_more, sent_bytes, went_partway}
 
 -- ---- what stays
 
@@ -176,7 +176,7 @@ module _ {V : Type 0} {g : Ghosts V} (y : System V) where
 -- ---- a host's step
 
 -- the tables once a step's messages and batches are kept
-pub partway_stands : {V : Type 0} {g : Ghosts V} (y : System V) (v w : World V g) (x : WorldState) (h : ℕ) (told : Told) (a : Answer) → RepresentsMembers y v.members.items (update x.histories h a.left.history) x.faulty_stamps → RepresentsRest y.schedule v x
+pub partway_stands : {V : Type 0} {g : Ghosts V} (y : System V) (v w : World V g) (x : WorldState) (h : ℕ) (told : StepRecord) (a : Answer) → RepresentsMembers y v.members.items (update x.histories h a.left.history) x.faulty_stamps → RepresentsRest y.schedule v x
     → IsTold told a → IsHeld v w → FitsWhereStamped y.schedule.shape a.left.sent → w.marks.items ≡ take (length v.pool.items + 1) (lengthened v.marks.items (length v.pool.items + 1)) ++ map sent_mark told.sent → w.members ≡ v.members → w.askers ≡ v.askers
     → Keeps y.schedule.shape w.ledger (update (stamps y.schedule x) h (reverse (filter_map bare_in a.left.sent) ++ stamps y.schedule x h)) x.asked (fold with_tagged x.tagged a.left.sent)
     → w.pool.items ≡ v.pool.items ++ map (λ (m : Outgoing). m.bytes) told.sent → w.line.items ≡ fold extended v.line.items told.executed → w.refused ≡ v.refused → w.events ≡ v.events

@@ -13,7 +13,7 @@ use Rattle.mb_world_model.specs.FaultyHosts.{prepare_of, commit_for, checkpoint_
 use Rattle.std.specs.Option.{option_or}
 use Rattle.mb_world_model.specs.Stops.{WorldStop as Stop, Forged, ForgedTag, event_number, kind_stop, delivered_message, stop_of}
 use Rattle.mb_world_model.specs.Forged.{forged_claim, has_forged_tag}
-use Rattle.mb_forged.specs.Contents.{unstamped}
+use Rattle.mb_forgery.specs.Contents.{unstamped}
 
 -- the content that an event names
 abbrev pub content_of : Schedule → World → WorldEvent → Option Stamped

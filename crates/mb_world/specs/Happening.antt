@@ -5,14 +5,14 @@ use Rattle.mb_base.specs.declared.shape.Shape.{Shape}
 use Rattle.mb_service.specs.Machine.{ServiceMachine}
 use Rattle.mb_service.specs.declared.service.Service.{Ghosts}
 use Rattle.mb_model.specs.Given.{Answer}
-use Rattle.mb_replica.specs.declared.told.Told.{Told}
+use Rattle.mb_replica.specs.declared.told.StepRecord.{StepRecord}
 use Rattle.mb_replica.specs.Represents.{IsTold}
 use Rattle.mb_schedule.specs.Limits.{is_faulty}
 use Rattle.mb_world_model.specs.World.{World as WorldState, System, update, stepped, nothing_happened}
-use Rattle.mb_genuine.specs.Reached.{IsReached}
-use Rattle.mb_parties.specs.Hosts.{IsSystem, AreServices, ForSystem}
-use Rattle.mb_parties.specs.Members.{RepresentsMembers}
-use Rattle.mb_parties.specs.Stamps.{FitsWhereStamped, bare_in, bares_of}
+use Rattle.mb_unforged.specs.Reached.{IsReached}
+use Rattle.mb_members.specs.Hosts.{IsSystem, AreServices, ForSystem}
+use Rattle.mb_members.specs.Members.{RepresentsMembers}
+use Rattle.mb_members.specs.Stamps.{FitsWhereStamped, bare_in, bares_of}
 use Rattle.mb_world.specs.declared.seen.Seen.{Seen}
 use Rattle.mb_world.specs.declared.world.World.{World}
 use Rattle.mb_world.specs.Answers.{as_answer}
@@ -40,7 +40,7 @@ abbrev pub Happens : {V E : Type 0} {g : Ghosts V} → System V → WorldState �
 Happens y x after result w = IfOk result (λ a. Leaves y w (as_answer a) x after)
 
 -- A correct host's step is told, whose history is already the longer one: its messages, its tags and its slots are entered.
-abbrev pub Enters : {V E : Type 0} {g : Ghosts V} → World V g → ℕ → Told → Result Seen E → World V g → Type 0
+abbrev pub Enters : {V E : Type 0} {g : Ghosts V} → World V g → ℕ → StepRecord → Result Seen E → World V g → Type 0
 Enters {V} old host told result new = (y : System V) (x : WorldState) (a : Answer) → RepresentsMembers y old.members.items (update x.histories host a.left.history) x.faulty_stamps
     → RepresentsRest y.schedule old x → IsTold told a → FitsWhereStamped y.schedule.shape a.left.sent → is_faulty y.schedule host ≡ false
     → bares_of a.left.history ≡ reverse (filter_map bare_in a.left.sent) ++ bares_of (x.histories host) → SentIsClean y x host a

@@ -5,7 +5,7 @@ use Rattle.mb_base.specs.Shapes.{host_count, client_count}
 use Rattle.mb_schedule.specs.declared.report.Report.{Report}
 use Rattle.mb_world_model.specs.Refusals.{refusals}
 use Rattle.mb_world_model.specs.World.{World, System}
-use Rattle.mb_parties.specs.Lines.{host_line, client_line}
+use Rattle.mb_members.specs.Lines.{host_line, client_line}
 
 module _ {S : Type 0} (system : System S) (w : World) where
   unfoldable pub report_of : Report

@@ -5,7 +5,7 @@ use Rattle.mb_model.specs.Given.{Answer}
 use Rattle.mb_model.specs.HostStep.{transition}
 use Rattle.mb_schedule.specs.Limits.{is_faulty}
 use Rattle.mb_world_model.specs.World.{World, System, self_of, partway}
-use Rattle.mb_parties.specs.Marks.{AreSentClean}
+use Rattle.mb_members.specs.Marks.{AreSentClean}
 
 module _ {V : Type 0} (y : System V) (x : World) where
   -- In what this answer sends nothing is forged, once it is sent.

@@ -4,17 +4,17 @@ use Rattle.mb_service.specs.Machine.{ServiceMachine}
 use Rattle.mb_schedule.specs.declared.schedule.Schedule.{Schedule}
 use Rattle.mb_world_model.specs.Refusals.{refusals}
 use Rattle.mb_world_model.specs.World.{World as WorldState, System, Seen as Answer}
-use Rattle.mb_genuine.specs.Reached.{IsReached}
-use Rattle.mb_forged.specs.Ledgers.{KeepsWorld}
-use Rattle.mb_forged.specs.Checks.{ArePens}
+use Rattle.mb_unforged.specs.Reached.{IsReached}
+use Rattle.mb_forgery.specs.Ledgers.{KeepsWorld}
+use Rattle.mb_forgery.specs.Checks.{ArePens}
 use Rattle.mb_service.specs.declared.service.Service.{Ghosts}
 use Rattle.mb_world.specs.declared.seen.WorldStop.{WorldStop}
 use Rattle.mb_world.specs.declared.seen.WorldStop.TheVariants as stop
 use Rattle.mb_world.specs.declared.world.World.{World}
-use Rattle.mb_parties.specs.Askers.{RepresentsAskers}
-use Rattle.mb_parties.specs.Hosts.{IsSystem}
-use Rattle.mb_parties.specs.Marks.{AreMarks}
-use Rattle.mb_parties.specs.Members.{RepresentsMembers}
+use Rattle.mb_members.specs.Askers.{RepresentsAskers}
+use Rattle.mb_members.specs.Hosts.{IsSystem}
+use Rattle.mb_members.specs.Marks.{AreMarks}
+use Rattle.mb_members.specs.Members.{RepresentsMembers}
 
 -- all but the hosts
 pub record RepresentsRest {V : Type 0} {g : Ghosts V} (s : Schedule) (w : World V g) (x : WorldState) : Type 0 where

@@ -7,10 +7,10 @@ ghost use Rattle.mb_world.specs.Contents.{stamping_host};
 use crate::seen::WorldStop;
 use crate::world::World;
 use mb_base::{Counter, Host, Items, MESSAGE_LIMIT, NoMemory, View};
-use mb_forged::{Checker, ForgedClaim, change_with, checkpoint_with, commit_for, prepare_with};
+use mb_forgery::{Checker, ForgedClaim, change_with, checkpoint_with, commit_for, prepare_with};
+use mb_members::{Member, mark_of};
 use mb_msg::{Batch, Message, Stamped, Undecoded, decode};
-use mb_parties::{Member, mark_of};
-use mb_parts::{LOG_INTERVALS, MAX_BATCH, OTHER_LIMIT, Part, Request, Requests};
+use mb_parts::{LOG_INTERVALS, MAX_BATCH_BYTES, OTHER_LIMIT, Part, Request, Requests};
 use mb_schedule::{Name, WorldEvent};
 use mb_service::Service;
 use std::alloc::Global;
@@ -63,7 +63,7 @@ impl<V: Service + Drop> World<V> {
     ghost use Rattle.mb_world_model.specs.Stops.{NoSuchMessage, WrongKind, name_stop, missing_stop, content_stop, to_correct, stop_of};
     ghost use Rattle.mb_msg.specs.declared.message.Message.{Message as MessageData};
     ghost use Rattle.mb_world_model.specs.Forged.{forged_claim, has_forged_tag};
-    ghost use Rattle.mb_forged.specs.Checks.{AsksIn, told};
+    ghost use Rattle.mb_forgery.specs.Checks.{AsksIn, told};
     ghost use Rattle.mb_world.specs.declared.seen.WorldStop.TheVariants as stop;
     ghost use Rattle.mb_world.specs.Answers.{Tells, TellsStop};
     ghost use Rattle.mb_world.specs.Contents.{Gives, Stamps, IsAllowed, found_in, rest_stop};
@@ -243,7 +243,7 @@ impl<V: Service + Drop> World<V> {
                 return Err(WorldStop::WrongKind { number: *number });
             };
             used = request.count(&self.shape, used);
-            if used > MAX_BATCH {
+            if used > MAX_BATCH_BYTES {
                 return Err(WorldStop::WrongKind { number: *number });
             }
             requests.push(request)?;

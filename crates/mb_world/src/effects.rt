@@ -1,12 +1,12 @@
 //! What is given to hosts and clients, and what a host's step leaves in the world.
 
-use crate::refusals::note_refusal;
+use crate::refusing::note_refusal;
 use crate::seen::Seen;
 use crate::world::World;
 use mb_base::{Client, Digest, Duplicate, Host, Items, NoMemory};
+use mb_members::{add_messages, extend_line, mark_of, note_sent, note_step, step_at};
 use mb_msg::Event;
-use mb_parties::{add_messages, extend_line, mark_of, note_sent, note_step, step_at};
-use mb_replica::Told;
+use mb_replica::StepRecord;
 use mb_schedule::Name;
 use mb_service::Service;
 use std::alloc::Global;
@@ -21,10 +21,10 @@ impl<V: Service + Drop> World<V> {
     ghost use Rattle.mb_world_model.specs.World.{World as WorldState, System, arrives, lost_or, steps, stepped, numbered, answered, give_host, give_client, signal};
     ghost use Rattle.mb_world_model.specs.WorldSteps.{with_message, happens};
     ghost use Rattle.mb_world_model.specs.Stops.{stop_of};
-    ghost use Rattle.mb_parties.specs.Hosts.{IsSystem};
-    ghost use Rattle.mb_parties.specs.Members.{AllRun};
+    ghost use Rattle.mb_members.specs.Hosts.{IsSystem};
+    ghost use Rattle.mb_members.specs.Members.{AllRun};
     ghost use Rattle.mb_world.specs.Answers.{as_answer};
-    ghost use Rattle.mb_genuine.specs.Reached.{IsReached};
+    ghost use Rattle.mb_unforged.specs.Reached.{IsReached};
     ghost use Rattle.mb_world.specs.Sent.{SendsClean};
     ghost use Rattle.mb_world.specs.Tables.{RepresentsWorld, HasWorld, Leaves};
     ghost use Rattle.mb_world.specs.Happening.{FromServing, FromReached, Happens, Enters};
@@ -75,7 +75,7 @@ impl<V: Service + Drop> World<V> {
     }
 
     /// What a correct host's step leaves.
-    fn stepped(&mut self, alloc: Global, host: Host, told: Told) -> Result<Seen, NoMemory>
+    fn stepped(&mut self, alloc: Global, host: Host, told: StepRecord) -> Result<Seen, NoMemory>
         requires host { host < host_count self.old.shape }
         requires few { self.old.events < 2 ^ 64 - 1 }
         requires halted { self.old.halted ≡ true }
@@ -85,7 +85,7 @@ impl<V: Service + Drop> World<V> {
         ensures shape { self.new.shape ≡ self.old.shape }
         ensures counts { OnOk result (self.new.events ≡ self.old.events + 1) }
     {
-        let Told {
+        let StepRecord {
             outcome,
             sent,
             executed,

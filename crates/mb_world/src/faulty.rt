@@ -2,14 +2,14 @@
 
 ghost use Rattle.std.specs.Prelude.{◌≡◌};
 
-use crate::clients::add_message;
+use crate::asking::add_message;
 use crate::seen::Seen;
 use crate::world::World;
 use mb_base::{Client, Duplicate, Host, Items, NoMemory, Pos, Seq, View};
+use mb_members::{Member, Stamp, stamp_bytes, stamp_content};
 use mb_msg::{
     Message, Reply, ReqViewChange, Request, Stamped, encode, signed_reply, signed_request,
 };
-use mb_parties::{Member, Stamp, stamp_bytes, stamp_content};
 use mb_service::Service;
 use mb_usig::Usig;
 use std::alloc::Global;
@@ -25,8 +25,8 @@ impl<V: Service + Drop> World<V> {
     ghost use Rattle.mb_schedule.specs.Limits.{is_faulty};
     ghost use Rattle.mb_world_model.specs.World.{World as WorldState, System, made, request_of};
     ghost use Rattle.mb_world_model.specs.FaultyHosts.{reply_of_host, wish_of_host, stamp_content, stamp_bytes};
-    ghost use Rattle.mb_forged.specs.Contents.{unstamped};
-    ghost use Rattle.mb_parties.specs.Members.{AllRun};
+    ghost use Rattle.mb_forgery.specs.Contents.{unstamped};
+    ghost use Rattle.mb_members.specs.Members.{AllRun};
     ghost use Rattle.mb_world.specs.Answers.{as_answer};
     ghost use Rattle.mb_world.specs.Tables.{RepresentsWorld, Leaves};
     ghost use Rattle.mb_world.specs.Happening.{FromEach, FromEachWith, Happens};

@@ -13,20 +13,20 @@
 //! An event is done in two steps. `allow` only reads: it answers the stop that stands in the way, or what a faulty host is to stamp. Then the event
 //! happens. So a stop leaves the world as it was, and nothing is read twice. No event copies the pool, or goes through it.
 //!
-//! The hosts, the clients and the marks, and what one step does to each table alone, are in `mb_parties`.
+//! The hosts, the clients and the marks, and what one step does to each table alone, are in `mb_members`.
 #![tactic(auto)]
 
+mod addressing;
 mod allowed;
-mod clients;
+mod asking;
+mod cleaning;
 mod effects;
 mod faulty;
-mod lines;
-mod marks;
-mod refusals;
-mod replies;
+mod refusing;
+mod reporting;
 mod seen;
 mod world;
 
-pub use refusals::refusal;
+pub use refusing::refusal;
 pub use seen::{Seen, WorldStop};
 pub use world::World;

@@ -2,17 +2,17 @@
 
 ghost use Rattle.std.specs.Prelude.{◌≡◌, false, length};
 ghost use Rattle.mb_base.specs.Shapes.{client_count, host_count};
-ghost use Rattle.mb_parties.specs.Members.{AllRun, AreOf, StampedWithin};
-ghost use Rattle.mb_parties.specs.Askers.{AskedWithin, AreOfShape};
+ghost use Rattle.mb_members.specs.Members.{AllRun, AreOf, StampedWithin};
+ghost use Rattle.mb_members.specs.Askers.{AskedWithin, AreOfShape};
 
 use crate::allowed::{culprit_of, stamping_host};
 use crate::seen::{Seen, WorldStop};
 use mb_base::{Client, Host, Items, Key, NoMemory, Shape};
 use mb_client::Asker;
 use mb_core::Replica;
-use mb_forged::Ledger;
+use mb_forgery::Ledger;
+use mb_members::{Mark, Member, askers, new_members, pens};
 use mb_msg::{Event, Slot, Stamped};
-use mb_parties::{Mark, Member, askers, new_members, pens};
 use mb_schedule::{RefusedLine, WorldEvent};
 use mb_service::Service;
 use mb_usig::{Pen, Usig};
@@ -65,12 +65,12 @@ impl<V: Service + Drop> World<V> {
     ghost use Rattle.mb_world_model.specs.WorldSteps.{happens};
     ghost use Rattle.mb_world_model.specs.Stops.{stop_of};
     ghost use Rattle.mb_client.specs.Represents.{Represents};
-    ghost use Rattle.mb_parties.specs.Hosts.{IsSystem};
-    ghost use Rattle.mb_parties.specs.Members.{AllRun, IsHost};
+    ghost use Rattle.mb_members.specs.Hosts.{IsSystem};
+    ghost use Rattle.mb_members.specs.Members.{AllRun, IsHost};
     ghost use Rattle.mb_world.specs.Answers.{as_answer, Tells};
     ghost use Rattle.mb_world.specs.Contents.{IsAllowed, stamping_host};
     ghost use Rattle.mb_world_model.specs.WorldEvents.{culprit};
-    ghost use Rattle.mb_genuine.specs.Reached.{IsReached};
+    ghost use Rattle.mb_unforged.specs.Reached.{IsReached};
     ghost use Rattle.mb_world.specs.Tables.{RepresentsWorld, HasWorld, Leaves, WorldHalts};
     ghost use Rattle.mb_world.specs.Happening.{MakesWorld};
 

@@ -11,7 +11,7 @@ use Rattle.mb_log.specs.Logs.{has_room_for, appended}
 use Rattle.mb_model.specs.Histories.{Stamped}
 use Rattle.mb_model.specs.Sending.{to_all}
 use Rattle.mb_steps.specs.Arises.{Adds}
-use Rattle.mb_standing.specs.Stands.{GatesStand}
+use Rattle.mb_refinement.specs.Stands.{GatesStand}
 use Rattle.mb_replica.specs.Between.{AwaitsCheckpoint}
 use Rattle.mb_replica.specs.Told.{as_outgoing}
 use Rattle.mb_core.proofs.OwnCheckpoints.{fits_unsigned, is_own, same_own, adds, fits_own, awaits_keeping, sent_kept, room_kept, gates_kept, who_kept, awaits_cut, checkpoint_ends}
@@ -59,7 +59,7 @@ publish-requires-clause-room g c =
     let left = still c.keep_checkpoint.result c.in_ok-signed.signed c.in_ok-signed-2.signed c.in_ok-signed-2.ensures in
     let is : c.in_ok-signed-2.signed.message ≡ stamped.Checkpoint m = ap (λ (s : Signed). s.message) left
     ∙ is_own b.me old c.args.done.now c.args.pos c.args.state b.left w c.in_ok-floors.floors (c.in_ok-floors.ensures b.me b.left.history r) c.in_ok-signed.signed c.in_ok-kept.kept (c.in_ok-signed.ensures.signed b.me b.left.history r.who r.tables.counter) c.in_ok-kept.ensures in
-    subst (λ (y : StampedMessage). has_room_for c.keep_checkpoint.new.self.agreement.log (stamped_kind y) ≡ true) (sym is) (room_kept b.me old c.args.done.now c.args.pos c.args.state b.left w m same c.sign.new.replica c.keep_checkpoint.new.self c.in_ok-signed.ensures.writes (went_well c.keep_checkpoint.result c.in_ok-signed.signed c.in_ok-signed-2.signed c.in_ok-signed-2.ensures c.keep_checkpoint.ensures.writes))
+    subst (λ (y : StampedMessage). has_room_for c.keep_checkpoint.new.self.protocol.log (stamped_kind y) ≡ true) (sym is) (room_kept b.me old c.args.done.now c.args.pos c.args.state b.left w m same c.sign.new.replica c.keep_checkpoint.new.self c.in_ok-signed.ensures.writes (went_well c.keep_checkpoint.result c.in_ok-signed.signed c.in_ok-signed-2.signed c.in_ok-signed-2.ensures c.keep_checkpoint.ensures.writes))
 
 pub publish-requires-clause-fits : goal.publish-requires-clause-fits
 publish-requires-clause-fits g c =
@@ -73,7 +73,7 @@ publish-requires-clause-fits g c =
     let left = still c.keep_checkpoint.result c.in_ok-signed.signed c.in_ok-signed-2.signed c.in_ok-signed-2.ensures in
     let is : c.in_ok-signed-2.signed.message ≡ stamped.Checkpoint m = ap (λ (s : Signed). s.message) left
     ∙ is_own b.me old c.args.done.now c.args.pos c.args.state b.left w c.in_ok-floors.floors (c.in_ok-floors.ensures b.me b.left.history r) c.in_ok-signed.signed c.in_ok-kept.kept (c.in_ok-signed.ensures.signed b.me b.left.history r.who r.tables.counter) c.in_ok-kept.ensures in
-    subst (λ (y : StampedMessage). Fits c.keep_checkpoint.new.self.agreement.shape (as_message y)) (sym is) (sent_kept b.me old c.args.done.now c.args.pos c.args.state b.left w m same c.sign.new.replica c.keep_checkpoint.new.self c.in_ok-signed.ensures.writes (went_well c.keep_checkpoint.result c.in_ok-signed.signed c.in_ok-signed-2.signed c.in_ok-signed-2.ensures c.keep_checkpoint.ensures.writes))
+    subst (λ (y : StampedMessage). Fits c.keep_checkpoint.new.self.protocol.shape (as_message y)) (sym is) (sent_kept b.me old c.args.done.now c.args.pos c.args.state b.left w m same c.sign.new.replica c.keep_checkpoint.new.self c.in_ok-signed.ensures.writes (went_well c.keep_checkpoint.result c.in_ok-signed.signed c.in_ok-signed-2.signed c.in_ok-signed-2.ensures c.keep_checkpoint.ensures.writes))
 
 pub publish-requires-clause-body : goal.publish-requires-clause-body
 publish-requires-clause-body g c =
@@ -102,7 +102,7 @@ cut_log-requires g c =
       history = b.left.history;
       awaits = awaits_cut b.me old c.args.done.now c.args.pos c.args.state b.left w m same
           c.sign.new.replica c.keep_checkpoint.new.self c.in_ok-signed.ensures.writes (went_well c.keep_checkpoint.result c.in_ok-signed.signed c.in_ok-signed-2.signed c.in_ok-signed-2.ensures c.keep_checkpoint.ensures.writes) c.publish.new.replica stands p.writes
-          (subst (λ (y : StampedMessage). c.publish.new.replica.agreement.log ≡ appended y c.keep_checkpoint.new.self.agreement.log) is p.log);
+          (subst (λ (y : StampedMessage). c.publish.new.replica.protocol.log ≡ appended y c.keep_checkpoint.new.self.protocol.log) is p.log);
     }
 
 pub returns : goal.returns
@@ -123,8 +123,8 @@ returns g c = λ me x st executed whole room digest.
     let kept = c.keep_checkpoint.new.self in
     let sent = c.publish.new.replica in
     let stands = went_well c.keep_checkpoint.result c.in_ok-signed.signed c.in_ok-signed-2.signed c.in_ok-signed-2.ensures (c.keep_checkpoint.ensures.stands me (Stamped (stamped.Checkpoint m)) d (awaits_keeping me old c.args.done.now c.args.pos c.args.state x w m same mid c1)) in
-    let log = subst (λ (y : StampedMessage). sent.agreement.log ≡ appended y kept.agreement.log) is p.log in
-    let gates = subst (λ (y : StampedMessage). GatesStand me sent.agreement.gates.items (Stamped y ∷ d)) is
+    let log = subst (λ (y : StampedMessage). sent.protocol.log ≡ appended y kept.protocol.log) is p.log in
+    let gates = subst (λ (y : StampedMessage). GatesStand me sent.protocol.gates.items (Stamped y ∷ d)) is
     (p.gates me d (who_kept me old c.args.done.now c.args.pos c.args.state x w m same mid kept c1 kept_writes) r.tables.sound
     (subst (λ (y : StampedMessage). Adds me d (Stamped y)) (sym is) (adds me old c.args.done.now c.args.pos c.args.state x w m same)) (gates_kept me old c.args.done.now c.args.pos c.args.state x w m same mid kept c1 kept_writes)) in
     checkpoint_ends me old c.args.done.now c.args.pos c.args.state x w c.cut_log.result mid kept sent c.cut_log.new.self c.publish.new.done m same c1 kept_writes stands p.writes log gates c.cut_log.ensures.writes

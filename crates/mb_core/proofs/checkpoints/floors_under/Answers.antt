@@ -16,5 +16,5 @@ loop-host-preserved g c = λ me d r.
 
 pub returns : goal.returns
 returns g c =
-    let all : c.loop-host.host ≡ host_count c.args.replica.now.agreement.shape = omega (arith, c.loop-host-test.false, c.loop-host.auto.host-end, c.n-host-end.ensures) in
+    let all : c.loop-host.host ≡ host_count c.args.replica.now.protocol.shape = omega (arith, c.loop-host-test.false, c.loop-host.auto.host-end, c.n-host-end.ensures) in
     all_gathered c.args.replica.now (λ me d h. if_covered c.args.pos (floor_below d h c.args.pos)) c.loop-host.floors c.loop-host.host all c.loop-host.invariant

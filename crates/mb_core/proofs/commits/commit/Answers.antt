@@ -27,7 +27,7 @@ pub sign-requires-clause-fits : goal.sign-requires-clause-fits
 sign-requires-clause-fits g c =
     let r = c.args.replica.now in
     let q = commit_due _ r c.args.done.now c.args.pos c.requires in
-    fits_unsigned q.me r q.history q.next.represents (signed q.me q.history (commit q.me q.history c.args.pos q.slot q.batch)) (commit_may q.me r r q.history c.args.pos q.slot q.batch q.next) (stamped.Commit (record { view = c.view.result; pos = c.args.pos; counter = c.in-Some.order.0; cert = c.in-Some.order.1; body = Whole c.in_ok-copy.copy; ui = NO_UI })) (no_ui_fits r.agreement.shape)
+    fits_unsigned q.me r q.history q.next.represents (signed q.me q.history (commit q.me q.history c.args.pos q.slot q.batch)) (commit_may q.me r r q.history c.args.pos q.slot q.batch q.next) (stamped.Commit (record { view = c.view.result; pos = c.args.pos; counter = c.in-Some.order.0; cert = c.in-Some.order.1; body = Whole c.in_ok-copy.copy; ui = NO_UI })) (no_ui_fits r.protocol.shape)
     (commit_made q.me r r q.history c.args.pos q.slot q.batch q.next c.view.result c.in-Some.order.0 c.in-Some.order.1 c.in_ok-copy.copy c.in-Some-batch_at.batch.now (c.view.ensures q.me q.history q.next.represents) (c.in-Some.ensures q.me.shape q.me.host (searches_in q.me q.history) q.next.represents.tables.normal) (c.in-Some-batch_at.ensures q.me.shape q.me.host (searches_in q.me q.history) q.next.represents.tables.normal) c.in_ok-copy.ensures)
 
 pub sign-requires-clause-unspent : goal.sign-requires-clause-unspent

@@ -20,7 +20,7 @@ pub sign-requires-clause-fits : goal.sign-requires-clause-fits
 sign-requires-clause-fits g c =
     let r = c.args.replica.now in
     let q = enter_due _ r c.args.done.now c.requires in
-    fits_unsigned q.me r q.history q.next.represents (signed q.me q.history (enter q.new_view)) (enter_may q.me r r q.history q.new_view q.next) (stamped.Enter (record { view = c.in-Some.new_view.now.view; counter = c.in-Some.new_view.now.ui.counter; plan = c.in-Some.new_view.now.plan; ui = NO_UI })) (no_ui_fits r.agreement.shape)
+    fits_unsigned q.me r q.history q.next.represents (signed q.me q.history (enter q.new_view)) (enter_may q.me r r q.history q.new_view q.next) (stamped.Enter (record { view = c.in-Some.new_view.now.view; counter = c.in-Some.new_view.now.ui.counter; plan = c.in-Some.new_view.now.plan; ui = NO_UI })) (no_ui_fits r.protocol.shape)
     (enter_made q.me r r q.history q.new_view q.next c.in-Some.new_view.now c.in-Some.ensures)
 
 pub sign-requires-clause-unspent : goal.sign-requires-clause-unspent

@@ -8,7 +8,7 @@ use Rattle.mb_core.proofs.events.on_event.Goals as goal
 -- src/events.rt
 pub returns-in-Given : goal.returns-in-Given
 returns-in-Given g c = λ me d serves st.
-    let s = c.args.replica.now.agreement.shape in
+    let s = c.args.replica.now.protocol.shape in
     answers_as me _ _ c.on_bytes.result _ _
     (ap (λ (b : Bytes). on_bytes me (message_of s b) d) c.as_slice.ensures ∙ (given_is me d s c.in-Given.bytes st.represents.who.shape ∙ ap (transition me d) (sym c.in-Given.is)))
     (c.on_bytes.ensures me d serves st)

@@ -1,6 +1,6 @@
 use Rattle.std.proofs.Common.{refl, ap}
 use Rattle.mb_cache.specs.Represents.{snapshots_of}
-use Rattle.mb_standing.specs.Tables.{Tables}
+use Rattle.mb_refinement.specs.Tables.{Tables}
 use Rattle.mb_core.proofs.Closing.{none_above, has_place, shelf_closed, closed_stands}
 use Rattle.mb_core.proofs.executing.close_slot.Goals as goal
 

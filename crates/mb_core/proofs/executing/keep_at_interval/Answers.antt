@@ -2,7 +2,7 @@ use Rattle.std.proofs.Common.{◌≡◌, Bool, refl, subst}
 use Rattle.std.specs.Prelude.{OnOk}
 use Rattle.mb_model.specs.States.{parts_of}
 use Rattle.mb_cache.specs.Represents.{snapshots_of}
-use Rattle.mb_keeper.specs.Keeping.{with_snapshot}
+use Rattle.mb_executor.specs.Keeping.{with_snapshot}
 use Rattle.mb_core.specs.Serving.{WritesShelf, KeepsWhere}
 use Rattle.mb_core.proofs.Serving.{on_ok}
 use Rattle.mb_core.proofs.Closing.{shelf_written}

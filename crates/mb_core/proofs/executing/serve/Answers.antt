@@ -3,8 +3,8 @@ use Rattle.mb_base.specs.declared.shape.Shape.{Shape}
 use Rattle.mb_base.specs.Shapes.{client_count}
 use Rattle.mb_normal.specs.Searches.{with_settled}
 use Rattle.mb_cache.specs.Represents.{machine_of}
-use Rattle.mb_keeper.specs.Keeping.{Keeping}
-use Rattle.mb_standing.proofs.Positions.{left_by_call}
+use Rattle.mb_executor.specs.Keeping.{Keeping}
+use Rattle.mb_refinement.proofs.Positions.{left_by_call}
 use Rattle.mb_replica.specs.Represents.{tables_of}
 use Rattle.mb_replica.proofs.Asking.{clients_known}
 use Rattle.mb_core.proofs.Serving.{client_known, place_fits, replied}
@@ -26,7 +26,7 @@ settle-requires g c =
     let t = c.requires.1.1 in
     let r = c.args.replica.now in
     let q = c.args.request.now in
-    subst (λ (s : Shape). q.client < client_count s) (sym r.agreement.normal_is.0) (client_known t.me r c.args.done.now c.args.pos q c.requires.0 c.requires.1.0 t.left t.stands)
+    subst (λ (s : Shape). q.client < client_count s) (sym r.protocol.normal_is.0) (client_known t.me r c.args.done.now c.args.pos q c.requires.0 c.requires.1.0 t.left t.stands)
 
 pub with_reply-requires : goal.with_reply-requires
 with_reply-requires g c =
@@ -39,13 +39,13 @@ with_reply-requires g c =
 
 pub invariant_of-replica-clause-normal_is : goal.invariant_of-replica-clause-normal_is
 invariant_of-replica-clause-normal_is g c =
-    let a = c.args.replica.now.agreement in
+    let a = c.args.replica.now.protocol in
     let left = left_by_call a.normal c.settle.new.self (λ y. with_settled y c.args.request.now.client c.args.request.now.seq) c.settle.ensures in
     (left.shape_is ∙ a.normal_is.0, left.host_is ∙ a.normal_is.1)
 
 pub invariant_of-replica-clause-low_is : goal.invariant_of-replica-clause-low_is
 invariant_of-replica-clause-low_is g c =
-    let a = c.args.replica.now.agreement in
+    let a = c.args.replica.now.protocol in
     (left_by_call a.normal c.settle.new.self (λ y. with_settled y c.args.request.now.client c.args.request.now.seq) c.settle.ensures).low_is ∙ a.low_is
 
 pub returns : goal.returns

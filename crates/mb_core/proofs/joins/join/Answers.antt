@@ -15,7 +15,7 @@ pub sign-requires-clause-fits : goal.sign-requires-clause-fits
 sign-requires-clause-fits g c =
     let r = c.args.replica.now in
     let q = join_due _ r c.args.done.now c.requires in
-    fits_unsigned q.me r q.history q.next.represents (signed q.me q.history (join q.me q.history)) (join_may q.me r r q.history q.next) (stamped.Join (record { view = c.view.result; evidence = c.in_ok-evidence.evidence; stable = c.in_ok-stable.stable; ui = NO_UI })) (no_ui_fits r.agreement.shape)
+    fits_unsigned q.me r q.history q.next.represents (signed q.me q.history (join q.me q.history)) (join_may q.me r r q.history q.next) (stamped.Join (record { view = c.view.result; evidence = c.in_ok-evidence.evidence; stable = c.in_ok-stable.stable; ui = NO_UI })) (no_ui_fits r.protocol.shape)
     (join_made q.me r r q.history q.next c.view.result c.in_ok-evidence.evidence c.in_ok-stable.stable (c.view.ensures q.me q.history q.next.represents) (c.in_ok-evidence.ensures q.me q.history q.next.represents) c.in_ok-stable.ensures)
 
 pub sign-requires-clause-unspent : goal.sign-requires-clause-unspent

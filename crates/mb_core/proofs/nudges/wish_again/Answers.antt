@@ -3,7 +3,7 @@ use Rattle.std.specs.Prelude.{if◌then◌else◌}
 use Rattle.mb_model.specs.Making.{wish}
 use Rattle.mb_model.specs.Sending.{send, to_all}
 use Rattle.mb_model.proofs.ShapesFit.{shape_fits}
-use Rattle.mb_fitting.proofs.Answers.{wish_again_sent}
+use Rattle.mb_encodable.proofs.Answers.{wish_again_sent}
 use Rattle.mb_replica.specs.Represents.{StandsAt}
 use Rattle.mb_replica.proofs.Behind.{host_there}
 use Rattle.mb_core.proofs.nudges.wish_again.Goals as goal

@@ -1,7 +1,7 @@
 use Rattle.std.proofs.Common.{◌+◌, ap, refl, sym, arith}
 use Rattle.mb_model.specs.Histories.{LostPatience}
 use Rattle.mb_model.specs.Sending.{write}
-use Rattle.mb_fitting.proofs.Found.{view_place}
+use Rattle.mb_encodable.proofs.Found.{view_place}
 use Rattle.mb_replica.proofs.Behind.{host_there, stands_behind_entry}
 use Rattle.mb_replica.proofs.Wished.{wished_onward, onward_told}
 use Rattle.mb_core.proofs.patience.wish_onward.Goals as goal
@@ -20,10 +20,10 @@ send_wish-requires g c =
     let w = c.requires in
     let r = w.represents in
     onward_told w.me c.args.replica.now _ w.history r (record { same = record { shape = refl; host = refl; secret = refl }; tables = refl }) w.more
-    (wished_onward w.me c.args.replica.now _ w.history r (record { same = record { shape = refl; host = refl; secret = refl }; tables = refl }) w.more c.args.replica.now.agreement.host _ (sym r.who.host) (ap (λ n. n + 1) (c.view-next.ensures w.me w.history r)) c.wish.ensures.stands)
+    (wished_onward w.me c.args.replica.now _ w.history r (record { same = record { shape = refl; host = refl; secret = refl }; tables = refl }) w.more c.args.replica.now.protocol.host _ (sym r.who.host) (ap (λ n. n + 1) (c.view-next.ensures w.me w.history r)) c.wish.ensures.stands)
 
 pub returns : goal.returns
 returns g c = λ me x st more.
     let r = st.represents in
     c.send_wish.ensures me (write LostPatience x) (stands_behind_entry me c.args.replica.now _ c.args.done.now x LostPatience st refl
-    (wished_onward me c.args.replica.now _ x.history r (record { same = record { shape = refl; host = refl; secret = refl }; tables = refl }) more c.args.replica.now.agreement.host _ (sym r.who.host) (ap (λ n. n + 1) (c.view-next.ensures me x.history r)) c.wish.ensures.stands))
+    (wished_onward me c.args.replica.now _ x.history r (record { same = record { shape = refl; host = refl; secret = refl }; tables = refl }) more c.args.replica.now.protocol.host _ (sym r.who.host) (ap (λ n. n + 1) (c.view-next.ensures me x.history r)) c.wish.ensures.stands))

@@ -20,7 +20,7 @@ pub sign-requires-clause-fits : goal.sign-requires-clause-fits
 sign-requires-clause-fits g c =
     let r = c.args.replica.now in
     let q = prepare_due _ r c.args.done.now c.requires in
-    fits_unsigned q.me r q.history q.next.represents (signed q.me q.history (prepare q.me q.history q.pos q.batch)) (prepare_may q.me r r q.history q.pos q.batch q.next) (stamped.Prepare (record { view = c.view.result; pos = c.next_position-pos.result; body = Whole c.in_ok-batch.batch; ui = NO_UI })) (no_ui_fits r.agreement.shape)
+    fits_unsigned q.me r q.history q.next.represents (signed q.me q.history (prepare q.me q.history q.pos q.batch)) (prepare_may q.me r r q.history q.pos q.batch q.next) (stamped.Prepare (record { view = c.view.result; pos = c.next_position-pos.result; body = Whole c.in_ok-batch.batch; ui = NO_UI })) (no_ui_fits r.protocol.shape)
     (prepare_made q.me r r q.history q.pos q.batch q.next c.view.result c.next_position-pos.result c.in_ok-batch.batch (c.view.ensures q.me q.history q.next.represents) (c.next_position-pos.ensures q.me q.history q.next.represents) (c.in_ok-batch.ensures q.me.shape q.me.host (searches_in q.me q.history) q.next.represents.tables.normal (prepare_has q.me r r q.history q.pos q.batch q.next).some))
 
 pub sign-requires-clause-unspent : goal.sign-requires-clause-unspent

@@ -1,5 +1,5 @@
 use Rattle.std.proofs.Common.{◌≡◌, [], ◌∷◌, arith, length-append}
-use Rattle.mb_parties.proofs.ListLaws.{each_push}
+use Rattle.mb_members.proofs.ListLaws.{each_push}
 use Rattle.mb_counting.proofs.hosts.counters.Goals as goal
 
 pub loop-preserved : goal.loop-preserved

@@ -1,5 +1,5 @@
 use Rattle.std.proofs.Common.{◌≡◌, length}
-use Rattle.mb_parties.specs.Hosts.{AreServices}
+use Rattle.mb_members.specs.Hosts.{AreServices}
 use Rattle.mb_counting.proofs.hosts.counters.Given as goal
 
 abbrev pub invariant-loop : goal.invariant-loop

@@ -8,4 +8,4 @@ returns-in-Ok-clause-messages g c = messages_are c.in-Ok.step.sent c.in-Ok.ensur
 pub returns-in-Ok-clause-few : goal.returns-in-Ok-clause-few
 returns-in-Ok-clause-few g c =
     let r = c.requires.rests in
-    step_few r.me r.history c.args.event.now c.args.replica.now c.in-Ok.step r.represents r.whole c.args.replica.now.state.agreement.host_in (c.in-Ok.ensures.stands r.me r.history r.serves r.represents r.whole).0
+    step_few r.me r.history c.args.event.now c.args.replica.now c.in-Ok.step r.represents r.whole c.args.replica.now.state.protocol.host_in (c.in-Ok.ensures.stands r.me r.history r.serves r.represents r.whole).0

@@ -2,7 +2,7 @@ use Rattle.std.proofs.Common.{ℕ, ◌∷◌, [], Option, option_map, ap, sym, �
 use Rattle.std.specs.Option.{option_to_list}
 use Rattle.std.proofs.lemmas.Result.{IfOk-weaker}
 use Rattle.mb_schedule.specs.declared.report.ClientLine.{ClientLine}
-use Rattle.mb_parties.specs.Lines.{client_line}
+use Rattle.mb_members.specs.Lines.{client_line}
 use Rattle.mb_story.proofs.ArrivalLaws.{client_fits}
 use Rattle.mb_story.proofs.lines.client_lines.Goals as goal
 

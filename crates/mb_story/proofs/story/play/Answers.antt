@@ -3,7 +3,7 @@ use Rattle.std.specs.List.{slice_get}
 use Rattle.mb_schedule.specs.declared.schedule.WorldEvent.{WorldEvent}
 use Rattle.mb_schedule.specs.declared.schedule.Schedule.{Schedule}
 use Rattle.mb_world_model.specs.World.{nothing_happened}
-use Rattle.mb_genuine.proofs.Reached.{reached_first}
+use Rattle.mb_unforged.proofs.Reached.{reached_first}
 use Rattle.mb_story.proofs.story.play.Goals as goal
 
 pub story_in-story-requires-clause-fits : goal.story_in-story-requires-clause-fits

@@ -4,7 +4,7 @@ use Rattle.std.proofs.lemmas.Option.{slice_get_read}
 use Rattle.std.proofs.lemmas.Result.{IfOk-weaker}
 use Rattle.mb_schedule.specs.declared.schedule.WorldEvent.{WorldEvent}
 use Rattle.mb_world_model.specs.WorldSteps.{world}
-use Rattle.mb_genuine.proofs.Reached.{reached_at}
+use Rattle.mb_unforged.proofs.Reached.{reached_at}
 use Rattle.mb_story.proofs.Played.{none_played, played_more, story_stops, story_ends}
 use Rattle.mb_story.proofs.story.story_in.Goals as goal
 

@@ -1,6 +1,6 @@
 use Rattle.std.proofs.Common.{◌≡◌, false, length}
 use Rattle.mb_world_model.specs.World.{System, nothing_happened}
-use Rattle.mb_parties.specs.Hosts.{IsSystem}
+use Rattle.mb_members.specs.Hosts.{IsSystem}
 use Rattle.mb_world.specs.Tables.{RepresentsWorld, HasWorld}
 use Rattle.mb_story.proofs.Played.{IsPlayed}
 use Rattle.mb_story.proofs.story.story_in.Given as goal

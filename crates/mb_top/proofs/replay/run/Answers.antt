@@ -2,8 +2,8 @@ use Rattle.std.proofs.Common.{◌≡◌, ◌∙◌, ◌+◌, drop, reverse, leng
 use Rattle.std.proofs.lemmas.List.{length-reverse}
 use Rattle.mb_world_model.specs.World.{World as WorldState}
 use Rattle.mb_world_model.specs.WorldSteps.{world as any_world}
-use Rattle.mb_parties.proofs.LeftLaws.{one_longer}
-use Rattle.mb_genuine.proofs.Reached.{reached_at}
+use Rattle.mb_members.proofs.LeftLaws.{one_longer}
+use Rattle.mb_unforged.proofs.Reached.{reached_at}
 use Rattle.mb_world.specs.Tables.{RepresentsWorld}
 use Rattle.mb_top.specs.declared.replay.RunStop.{RunStop}
 use Rattle.mb_top.specs.Systems.{system_of, world}

@@ -1,5 +1,5 @@
 use Rattle.std.proofs.Common.{refl}
-use Rattle.mb_searches.proofs.SoundRules.{transition_sound}
+use Rattle.mb_history_laws.proofs.SoundRules.{transition_sound}
 use Rattle.mb_core.proofs.Stepping.{stands_begin, step_begins, step_ends, is_told}
 use Rattle.mb_core.proofs.replica.Replica.step_told.Goals as goal
 

@@ -5,7 +5,7 @@ use Rattle.mb_replica.proofs.state.ReplicaState.close_gate.Goals as goal
 -- src/stamped.rt
 pub returns : goal.returns
 returns g c =
-    let a = c.args.self.now.agreement in
+    let a = c.args.self.now.protocol in
     let lt : c.args.host < length a.gates.items = omega (arith, c.requires, a.gates_len) in
     record {
       before = c.index_mut.result.now;

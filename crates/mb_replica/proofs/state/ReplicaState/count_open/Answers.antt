@@ -23,7 +23,7 @@ pub count_open_at-requires : goal.count_open_at-requires
 count_open_at-requires g c =
     let w = c.loop-index.invariant.writes in
     let first = c.args.self.now in
-    let lt : c.loop-index.index < length_in (plan_of_view c.args.here first.agreement.change.plan) = omega (arith, c.loop-index-test.true, c.plan_length-index-end.ensures) in
+    let lt : c.loop-index.index < length_in (plan_of_view c.args.here first.protocol.change.plan) = omega (arith, c.loop-index-test.true, c.plan_length-index-end.ensures) in
     record {
       host = subst (λ (s : Shape). c.args.host < host_count s) (sym w.same.shape) c.requires;
       index = subst (λ (t : ChangeTable). c.loop-index.index < length_in (plan_of_view c.args.here t.plan)) (sym (change_left first c.loop-index.self w)) lt;
@@ -33,14 +33,14 @@ pub loop-index-preserved : goal.loop-index-preserved
 loop-index-preserved g c =
     let o : Opened = record { view = c.opened_by-view.result.0; counter = c.opened_by-view.result.1; plan = c.opened_by-view.result.2 } in
     let first = c.args.self.now in
-    let lt : c.loop-index.index < length_in (plan_of_view c.args.here first.agreement.change.plan) = omega (arith, c.loop-index-test.true, c.plan_length-index-end.ensures) in
+    let lt : c.loop-index.index < length_in (plan_of_view c.args.here first.protocol.change.plan) = omega (arith, c.loop-index-test.true, c.plan_length-index-end.ensures) in
     positions_more first c.args.here c.args.host o c.requires c.opened_by-view.ensures (sym (c.if-not-is_counted.ensures c.opened_by-view.result.1)) c.loop-index.self c.count_open_at.new.self c.opened_by-view.result.1 c.loop-index.index
-    (base_in (plan_of_view c.args.here first.agreement.change.plan) + c.loop-index.index) _ refl lt refl (omega arith) c.loop-index.invariant c.count_open_at.ensures.writes c.count_open_at.ensures.counts
+    (base_in (plan_of_view c.args.here first.protocol.change.plan) + c.loop-index.index) _ refl lt refl (omega arith) c.loop-index.invariant c.count_open_at.ensures.writes c.count_open_at.ensures.counts
 
 pub returns-clause-counts : goal.returns-clause-counts
 returns-clause-counts g c =
     let o : Opened = record { view = c.opened_by-view.result.0; counter = c.opened_by-view.result.1; plan = c.opened_by-view.result.2 } in
     let first = c.args.self.now in
-    let most : length_in (plan_of_view c.args.here first.agreement.change.plan) ≤ c.loop-index.index = omega (arith, c.loop-index-test.false, c.plan_length-index-end.ensures) in
+    let most : length_in (plan_of_view c.args.here first.protocol.change.plan) ≤ c.loop-index.index = omega (arith, c.loop-index-test.false, c.plan_length-index-end.ensures) in
     positions_end first c.args.here c.args.host o c.requires c.opened_by-view.ensures (sym (c.if-not-is_counted.ensures c.opened_by-view.result.1)) c.loop-index.self c.loop-index.index
-    (base_in (plan_of_view c.args.here first.agreement.change.plan) + c.loop-index.index) most refl c.loop-index.invariant
+    (base_in (plan_of_view c.args.here first.protocol.change.plan) + c.loop-index.index) most refl c.loop-index.invariant

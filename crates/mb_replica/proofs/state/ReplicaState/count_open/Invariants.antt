@@ -5,4 +5,4 @@ use Rattle.mb_replica.proofs.OpenVotes.{PositionsCounted}
 use Rattle.mb_replica.proofs.state.ReplicaState.count_open.Given as goal
 
 abbrev pub invariant-loop-index : goal.invariant-loop-index
-invariant-loop-index g l = PositionsCounted l.fn.self l.self l.host (base_in (plan_of_view l.here l.fn.self.agreement.change.plan) + l.index) l.here
+invariant-loop-index g l = PositionsCounted l.fn.self l.self l.host (base_in (plan_of_view l.here l.fn.self.protocol.change.plan) + l.index) l.here

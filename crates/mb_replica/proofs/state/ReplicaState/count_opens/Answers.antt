@@ -11,7 +11,7 @@ loop-host-init g c = record { writes = none_written c.args.self.now; counts = no
 
 pub count_open-requires : goal.count_open-requires
 count_open-requires g c =
-    let same : host_count c.loop-host.self.agreement.shape ≡ host_count c.args.self.now.agreement.shape = ap (λ (s : Shape). host_count s) c.loop-host.invariant.writes.same.shape in
+    let same : host_count c.loop-host.self.protocol.shape ≡ host_count c.args.self.now.protocol.shape = ap (λ (s : Shape). host_count s) c.loop-host.invariant.writes.same.shape in
     omega (arith, same, c.loop-host-test.true, c.n-host-end.ensures)
 
 pub loop-host-preserved : goal.loop-host-preserved
@@ -22,5 +22,5 @@ loop-host-preserved g c = record {
 
 pub returns-clause-counts : goal.returns-clause-counts
 returns-clause-counts g c =
-    let all : c.loop-host.host ≡ host_count c.args.self.now.agreement.shape = omega (arith, c.loop-host-test.false, c.n-host-end.ensures, c.loop-host.auto.host-end) in
+    let all : c.loop-host.host ≡ host_count c.args.self.now.protocol.shape = omega (arith, c.loop-host-test.false, c.n-host-end.ensures, c.loop-host.auto.host-end) in
     subst (λ (n : ℕ). CountsBelow n c.args.here c.args.self.now c.loop-host.self) all c.loop-host.invariant.counts

@@ -18,7 +18,7 @@ give_stamped-requires g c =
     let t = YieldsList-turn (YieldsList-from_vec {s = c.into_iter-entry-iterator.result} c.args.entries (b.0 ∙ are) (b.1 ∙ c.into_vec-entry-items.result.ok.0 ∙ ap length are)) c.loop-entry.yielded c.loop-entry.entry-iterator c.loop-entry.yielded_by c.next.result c.next.new.self c.in-Some.entry c.in-Some.is c.next.ensures.steps in
     record {
       fits = subst (λ (s : Shape). FitsStamped s c.in-Some.entry) (shape_on c.args.self.now c.loop-entry.self c.args.entries (length c.loop-entry.yielded) c.requires.stepping c.loop-entry.invariant)
-          (one_fits (FitsStamped c.args.self.now.agreement.shape) c.args.entries (length c.loop-entry.yielded) c.in-Some.entry c.requires.fit t.0 t.1);
+          (one_fits (FitsStamped c.args.self.now.protocol.shape) c.args.entries (length c.loop-entry.yielded) c.in-Some.entry c.requires.fit t.0 t.1);
       stands = has_history c.loop-entry.self (stepping_on c.args.self.now c.loop-entry.self c.args.entries (length c.loop-entry.yielded) c.requires.stepping c.loop-entry.invariant);
       known = tt;
     }

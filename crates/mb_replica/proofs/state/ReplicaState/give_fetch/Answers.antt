@@ -5,7 +5,7 @@ use Rattle.mb_msg.specs.declared.message.Message.TheVariants as message
 use Rattle.mb_model.specs.Histories.{Accepted}
 use Rattle.mb_model.specs.Making.{state_message}
 use Rattle.mb_model.specs.PlainChecks.{fetch_refusal}
-use Rattle.mb_keeper.specs.Keeping.{AreShort}
+use Rattle.mb_executor.specs.Keeping.{AreShort}
 use Rattle.mb_msg.specs.declared.message.Message.{Message}
 use Rattle.mb_msg.specs.declared.event.Outcome.TheVariants as outcome
 use Rattle.mb_model.specs.Execution.{snapshot_of}
@@ -34,7 +34,7 @@ send_own-requires-clause-fits g c =
     let has = c.has_snapshot-has_snapshot.ensures ∙ ap is_some (rep.tables.shelf.finds m.pos) in
     let none : None ≡ fetch_refusal t.me d m = c.in_default.ensures t.me d rep has in
     let parts = (kept t.me r d rep m none).0 in
-    let host : t.me.host ≡ c.args.self.now.agreement.host = rep.who.host in
+    let host : t.me.host ≡ c.args.self.now.protocol.host = rep.who.host in
     state_fits t.me r d rep m.pos m.first parts c.requires.fits.pos c.requires.fits.first (kept t.me r d rep m none).1 (subst AreShort (parts_kept t.me r d rep m none) c.in_ok-state.ensures.short) (message.State c.in_ok-state.state)
     (c.in_ok-state.ensures.stands t.me parts host (shelf_has t.me r d rep m none))
 
@@ -49,7 +49,7 @@ returns g c = λ me x s.
     let none : None ≡ fetch_refusal me d m = c.in_default.ensures me d rep has in
     let parts = (kept me r d rep m none).0 in
     let all : List Bytes = unwrap_or (snapshot_of me d m.pos) [] in
-    let host : me.host ≡ c.args.self.now.agreement.host = rep.who.host in
+    let host : me.host ≡ c.args.self.now.protocol.host = rep.who.host in
     let says : message.State c.in_ok-state.state ≡ state_message me m.pos m.first all = c.in_ok-state.ensures.stands me parts host (shelf_has me r d rep m none) ∙ ap (state_message me m.pos m.first) (parts_sent me r d rep m none) in
     let sent : StandsAt me r done (send (to_host m.host (state_message me m.pos m.first all)) x) = subst (λ (l : Message). StandsAt me r done (send (to_host m.host l) x)) says (c.in_ok-send_own.ensures me x [] s) in
     gives_as me r done outcome.Took (answer outcome.Took (send (to_host m.host (state_message me m.pos m.first all)) (write (Accepted (message.Fetch m)) x))) (give_fetch me m x) (fetch_taken me x m none)

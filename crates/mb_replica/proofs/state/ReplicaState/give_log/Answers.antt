@@ -18,7 +18,7 @@ give_entries-requires-clause-fit g c =
     let s = c.requires.stepping in
     let none : log_refusal s.me c.args.m ≡ None = sym (c.in_default.ensures s.me s.left.history s.stands.represents) in
     let behind = c.accept_log-entries.ensures.stands s.me s.left s.done s.stands none in
-    subst (λ (l : List StampedMessage). AllByRecursion (FitsStamped c.accept_log-entries.new.self.agreement.shape) l) (sym c.accept_log-entries.ensures.entries)
+    subst (λ (l : List StampedMessage). AllByRecursion (FitsStamped c.accept_log-entries.new.self.protocol.shape) l) (sym c.accept_log-entries.ensures.entries)
     (subst (λ (h : Shape). AllByRecursion (FitsStamped h) c.args.m.entries) (sym s.stands.represents.who.shape ∙ behind.represents.who.shape) c.requires.fits.entries)
 
 pub give_entries-requires-clause-stepping : goal.give_entries-requires-clause-stepping

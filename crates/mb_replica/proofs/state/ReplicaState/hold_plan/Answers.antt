@@ -9,5 +9,5 @@ use Rattle.mb_replica.proofs.state.ReplicaState.hold_plan.Goals as goal
 pub returns : goal.returns
 returns g c =
     wrote_then_held c.args.self.now _ c.learn.new.self (with_plan c.args.view c.args.plan) (λ s. s) (Some c.args.plan.base) (record { same = record { shape = refl; host = refl; secret = refl }; tables = refl })
-    (subst (λ (p : Plan). StandsWith c.args.self.now.agreement.change (with_plan c.args.view p) c.hold_plan.new.self) c.digested_plan-kept.ensures c.hold_plan.ensures.stands)
+    (subst (λ (p : Plan). StandsWith c.args.self.now.protocol.change (with_plan c.args.view p) c.hold_plan.new.self) c.digested_plan-kept.ensures c.hold_plan.ensures.stands)
     (learnt_same _ c.learn.new.self c.args.plan.base c.in_ok-base.base c.in_ok-base.ensures c.learn.ensures)

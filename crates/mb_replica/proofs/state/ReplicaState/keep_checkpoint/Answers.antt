@@ -8,13 +8,13 @@ keep-requires-clause-place g c = let b = c.requires.brings in place_there b.me c
 
 pub invariant_of-self-clause-normal_is : goal.invariant_of-self-clause-normal_is
 invariant_of-self-clause-normal_is g c =
-    let a = c.args.self.now.agreement in
+    let a = c.args.self.now.protocol in
     let left = keeping_left c.keep.result a.normal c.keep.new.self c.args.m c.keep.ensures.stands c.keep.ensures.err in
     (left.shape_is ∙ a.normal_is.0, left.host_is ∙ a.normal_is.1)
 
 pub invariant_of-self-clause-low_is : goal.invariant_of-self-clause-low_is
 invariant_of-self-clause-low_is g c =
-    let a = c.args.self.now.agreement in
+    let a = c.args.self.now.protocol in
     (keeping_left c.keep.result a.normal c.keep.new.self c.args.m c.keep.ensures.stands c.keep.ensures.err).low_is ∙ a.low_is
 
 pub learn_agreed-requires : goal.learn_agreed-requires

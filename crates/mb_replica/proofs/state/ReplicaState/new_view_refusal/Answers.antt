@@ -11,14 +11,14 @@ use Rattle.mb_replica.proofs.state.ReplicaState.new_view_refusal.Goals as goal
 pub returns-in-Ok : goal.returns-in-Ok
 returns-in-Ok g c = λ me d r.
     let m = c.args.m.now in
-    let a = c.args.self.now.agreement in
+    let a = c.args.self.now.protocol in
     follows me m m.body c.in-Ok._plan (for_host me m a.shape a.usig.secret r.who.shape r.who.secret (Ok c.in-Ok._plan) c.in-Ok.ensures)
     ∙ ap (λ (b : Bool). only_where b (fault_in me m m.body)) (c.if-not-is_current.ensures me d r)
 
 pub returns-in-Err-Unusable : goal.returns-in-Err-Unusable
 returns-in-Err-Unusable g c = λ me d r.
     let m = c.args.m.now in
-    let a = c.args.self.now.agreement in
+    let a = c.args.self.now.protocol in
     let x = c.in-Err-Unusable in
     let is : x.field-0 ≡ Unusable x.index x.reason = search rules in
     ap (λ (i : ℕ). Some (outcome.Unusable i x.reason)) c.from.ensures
@@ -28,7 +28,7 @@ returns-in-Err-Unusable g c = λ me d r.
 pub returns-in-Err-OtherPlan : goal.returns-in-Err-OtherPlan
 returns-in-Err-OtherPlan g c = λ me d r.
     let m = c.args.m.now in
-    let a = c.args.self.now.agreement in
+    let a = c.args.self.now.protocol in
     let is : c.in-Err-OtherPlan.field-0 ≡ OtherPlan = search rules in
     has_other_plan me m m.body (for_host me m a.shape a.usig.secret r.who.shape r.who.secret (Err OtherPlan) (subst (λ (f : NewViewFault). Follows a.shape a.usig.secret m m.body (Err f)) is c.in-Err-OtherPlan.ensures))
     ∙ ap (λ (b : Bool). only_where b (fault_in me m m.body)) (c.if-not-is_current.ensures me d r)

@@ -7,7 +7,7 @@ use Rattle.mb_replica.proofs.state.ReplicaState.reply.Goals as goal
 -- src/executing.rt
 pub returns-clause-fits : goal.returns-clause-fits
 returns-clause-fits g c =
-    let a = c.args.self.now.agreement in
+    let a = c.args.self.now.protocol in
     let text : c.from_vec.result ≡ c.args.answer.now = c.from_vec.ensures ∙ c.in_ok-from_slice.ensures.items in
     small_reply a.shape _ (record {
       host = a.host_in;

@@ -7,5 +7,5 @@ use Rattle.mb_replica.proofs.state.ReplicaState.send.Goals as goal
 -- src/sending.rt
 pub push-requires : goal.push-requires
 push-requires g c = record {
-  length = subst (λ (l : Bytes). (1 ≤ length l) × (length l ≤ MESSAGE_LIMIT)) (sym c.in_ok-encode.ensures.text) (message_long c.args.self.now.agreement.shape c.args.message.now c.requires.fits);
+  length = subst (λ (l : Bytes). (1 ≤ length l) × (length l ≤ MESSAGE_LIMIT)) (sym c.in_ok-encode.ensures.text) (message_long c.args.self.now.protocol.shape c.args.message.now c.requires.fits);
 }

@@ -12,7 +12,7 @@ use Rattle.mb_replica.proofs.state.ReplicaState.send_wish.Goals as goal
 pub send_own-requires-clause-fits : goal.send_own-requires-clause-fits
 send_own-requires-clause-fits g c =
     let w = c.requires in
-    subst (λ (m : Message). Fits c.args.self.now.agreement.shape m) (sym (c.wish.ensures w.me w.history w.represents)) (subst (λ (s : Shape). Fits s (wish w.me w.history)) w.represents.who.shape w.fits)
+    subst (λ (m : Message). Fits c.args.self.now.protocol.shape m) (sym (c.wish.ensures w.me w.history w.represents)) (subst (λ (s : Shape). Fits s (wish w.me w.history)) w.represents.who.shape w.fits)
 
 pub send_own-requires-clause-plain : goal.send_own-requires-clause-plain
 send_own-requires-clause-plain g c = let w = c.requires in ap as_stamped (c.wish.ensures w.me w.history w.represents)

@@ -1,6 +1,6 @@
 use Rattle.std.proofs.Common.{◌∙◌, ◌++◌, ◌∷◌, [], refl, ap}
 use Rattle.mb_msg.specs.Spelling.{spelling}
-use Rattle.mb_parties.proofs.MarkLaws.{goes_still}
+use Rattle.mb_members.proofs.MarkLaws.{goes_still}
 use Rattle.mb_world.proofs.WorldLaws.{if_both, made_one}
 use Rattle.mb_world.proofs.world.World.add.Goals as goal
 

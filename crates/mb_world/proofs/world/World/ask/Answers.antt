@@ -6,9 +6,9 @@ use Rattle.mb_msg.specs.declared.message.Message.TheVariants as message
 use Rattle.mb_msg.specs.Spelling.{spelling}
 use Rattle.mb_model.specs.Clients.{asks}
 use Rattle.mb_world_model.specs.World.{World as WorldState, stamps, update, request_of}
-use Rattle.mb_forged.specs.Ledgers.{Keeps}
-use Rattle.mb_parties.proofs.MemberLaws.{within_more}
-use Rattle.mb_parties.proofs.KeepLaws.{keeps_then}
+use Rattle.mb_forgery.specs.Ledgers.{Keeps}
+use Rattle.mb_members.proofs.MemberLaws.{within_more}
+use Rattle.mb_members.proofs.KeepLaws.{keeps_then}
 use Rattle.mb_world.proofs.WorldLaws.{if_both, made_one}
 use Rattle.mb_world.proofs.world.World.ask.Goals as goal
 

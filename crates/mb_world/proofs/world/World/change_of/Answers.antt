@@ -5,7 +5,7 @@ use Rattle.mb_base.specs.declared.limits.TheConstants.{MESSAGE_LIMIT}
 use Rattle.mb_base.specs.declared.shape.Shape.{Shape}
 use Rattle.mb_parts.specs.Counted.{counted}
 use Rattle.mb_msg.specs.Spelling.{stamped_bytes}
-use Rattle.mb_parties.proofs.SizeLaws.{too_many, too_long, sendable}
+use Rattle.mb_members.proofs.SizeLaws.{too_many, too_long, sendable}
 use Rattle.mb_world.proofs.world.World.change_of.Goals as goal
 
 pub returns-then-len-from-clause-stops : goal.returns-then-len-from-clause-stops

@@ -4,8 +4,8 @@ use Rattle.mb_msg.specs.Reading.{message_of}
 use Rattle.mb_model.specs.Clients.{Taken, takes}
 use Rattle.mb_world_model.specs.World.{World as WorldState, OfClient, heard, answered, update}
 use Rattle.mb_world.specs.Answers.{as_answer}
-use Rattle.mb_parties.specs.Replies.{reply_or}
-use Rattle.mb_parties.proofs.ReadLaws.{reads_reply, reads_other}
+use Rattle.mb_members.specs.Replies.{reply_or}
+use Rattle.mb_members.proofs.ReadLaws.{reads_reply, reads_other}
 use Rattle.mb_world.proofs.WorldLaws.{side_stands, also_heard, leaves_from, leaves_at, if_ok_more}
 use Rattle.mb_world.proofs.world.World.client_reads.Goals as goal
 

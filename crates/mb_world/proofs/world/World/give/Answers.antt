@@ -2,7 +2,7 @@ use Rattle.std.proofs.Common.{◌≡◌, ◌<◌, ◌∙◌, List, Some, None, s
 use Rattle.mb_base.specs.declared.shape.Shape.{Shape}
 use Rattle.mb_base.specs.Shapes.{Bytes, host_count}
 use Rattle.mb_world_model.specs.World.{give_host, numbered}
-use Rattle.mb_parties.specs.declared.marks.Mark.{Mark}
+use Rattle.mb_members.specs.declared.marks.Mark.{Mark}
 use Rattle.mb_world.proofs.StopLaws.{given_there}
 use Rattle.mb_world.proofs.GivenLaws.{given_clean}
 use Rattle.mb_world.proofs.SentLaws.{message_sends}

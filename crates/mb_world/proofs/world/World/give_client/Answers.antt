@@ -1,6 +1,6 @@
 use Rattle.std.proofs.Common.{◌≡◌, ◌<◌, ◌∙◌, false, true, length, arith}
 use Rattle.mb_schedule.specs.Limits.{is_faulty_client}
-use Rattle.mb_parties.proofs.LeftLaws.{marked}
+use Rattle.mb_members.proofs.LeftLaws.{marked}
 use Rattle.mb_world.proofs.WorldLaws.{client_lost, client_given}
 use Rattle.mb_world.proofs.world.World.give_client.Goals as goal
 

@@ -1,7 +1,7 @@
 use Rattle.std.proofs.Common.{◌≡◌, ◌<◌, ◌∙◌, Some, length, refl, ap, arith}
 use Rattle.std.specs.List.{slice_get}
 use Rattle.std.proofs.lemmas.Option.{slice_get_read}
-use Rattle.mb_parties.specs.declared.members.Member.TheVariants as member
+use Rattle.mb_members.specs.declared.members.Member.TheVariants as member
 use Rattle.mb_world.proofs.world.World.host.Goals as goal
 
 pub returns-in-Correct : goal.returns-in-Correct

@@ -1,10 +1,10 @@
 use Rattle.std.proofs.Common.{◌∙◌, [], refl, sym, subst}
 use Rattle.mb_base.specs.declared.shape.Shape.{Shape}
-use Rattle.mb_forged.specs.Ledgers.{Keeps}
+use Rattle.mb_forgery.specs.Ledgers.{Keeps}
 use Rattle.mb_world_model.specs.Refusals.{refusals}
 use Rattle.mb_world_model.specs.World.{nothing_happened}
-use Rattle.mb_parties.proofs.MarkLaws.{none_marked}
-use Rattle.mb_parties.proofs.KeepLaws.{nothing_kept}
+use Rattle.mb_members.proofs.MarkLaws.{none_marked}
+use Rattle.mb_members.proofs.KeepLaws.{nothing_kept}
 use Rattle.mb_world.proofs.world.World.make.Goals as goal
 
 pub returns-clause-stands : goal.returns-clause-stands

@@ -1,5 +1,5 @@
 use Rattle.std.proofs.Common.{sym, ◌∙◌}
-use Rattle.mb_parties.proofs.MarkLaws.{marked_more}
+use Rattle.mb_members.proofs.MarkLaws.{marked_more}
 use Rattle.mb_world.proofs.WorldLaws.{on_ok_more}
 use Rattle.mb_world.proofs.world.World.mark_clean.Goals as goal
 

@@ -1,11 +1,11 @@
 use Rattle.std.proofs.Common.{◌≡◌, ◌∙◌, ◌∷◌, true, false, refl, sym}
 use Rattle.mb_world_model.specs.World.{stamps, update}
-use Rattle.mb_parties.specs.declared.members.Stamp.{Stamp}
+use Rattle.mb_members.specs.declared.members.Stamp.{Stamp}
 use Rattle.mb_world.specs.Answers.{as_answer}
-use Rattle.mb_parties.specs.Stamping.{kept_stamp}
-use Rattle.mb_parties.proofs.AskerLaws.{asked_more}
-use Rattle.mb_parties.proofs.StampLaws.{bytes_are}
-use Rattle.mb_parties.proofs.KeepLaws.{keeps_then}
+use Rattle.mb_members.specs.Stamping.{kept_stamp}
+use Rattle.mb_members.proofs.AskerLaws.{asked_more}
+use Rattle.mb_members.proofs.StampLaws.{bytes_are}
+use Rattle.mb_members.proofs.KeepLaws.{keeps_then}
 use Rattle.mb_world.proofs.WorldLaws.{if_both, leaves_at, stamped_one}
 use Rattle.mb_world.proofs.world.World.stamp_raw.Goals as goal
 

@@ -1,4 +1,4 @@
-use Rattle.mb_parties.proofs.ListLaws.{some_is}
+use Rattle.mb_members.proofs.ListLaws.{some_is}
 use Rattle.mb_world.proofs.world.World.stamp_some.Goals as goal
 
 pub returns-in-Some-clause-stands : goal.returns-in-Some-clause-stands

@@ -1,7 +1,7 @@
 use Rattle.std.proofs.Common.{◌-◌, ◌<◌, ◌∷◌, [], length, take, drop, sym, ap, ◌∙◌, arith}
 use Rattle.mb_msg.specs.Fits.{FitsStamped}
 use Rattle.mb_steps.proofs.StepPlanBases.{all_append}
-use Rattle.mb_parties.proofs.ChangeLaws.{stamped_in, kept_more, kept_same, after_read, member_at, is_no_other}
+use Rattle.mb_members.proofs.ChangeLaws.{stamped_in, kept_more, kept_same, after_read, member_at, is_no_other}
 use Rattle.mb_world.proofs.world.World.stamped_after.Goals as goal
 use Rattle.mb_world.proofs.world.World.stamped_after.Goals.{in-Some+in_ok-push, in_default-2}
 

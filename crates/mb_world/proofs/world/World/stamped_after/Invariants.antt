@@ -2,7 +2,7 @@ use Rattle.std.proofs.Common.{◌≡◌, filter_map, take}
 use Rattle.std.specs.List.{AllByRecursion}
 use Rattle.mb_msg.specs.Fits.{FitsStamped}
 use Rattle.mb_world_model.specs.World.{System, World as WorldState}
-use Rattle.mb_parties.proofs.ChangeLaws.{stamped_in}
+use Rattle.mb_members.proofs.ChangeLaws.{stamped_in}
 use Rattle.mb_world.specs.Tables.{RepresentsWorld}
 use Rattle.mb_world.proofs.world.World.stamped_after.Given as goal
 

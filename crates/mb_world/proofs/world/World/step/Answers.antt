@@ -3,10 +3,10 @@ use Rattle.mb_base.specs.declared.shape.Shape.{Shape}
 use Rattle.mb_base.specs.Shapes.{host_count}
 use Rattle.mb_replica.specs.Told.{KnowsEvent}
 use Rattle.mb_world_model.specs.World.{self_of}
-use Rattle.mb_parties.specs.Members.{answer_at}
-use Rattle.mb_parties.proofs.MarkLaws.{goes_still}
+use Rattle.mb_members.specs.Members.{answer_at}
+use Rattle.mb_members.proofs.MarkLaws.{goes_still}
 use Rattle.mb_world.proofs.WorldLaws.{rest_of, all_rest, all_of}
-use Rattle.mb_parties.proofs.StampedLaws.{stamped_is_sent}
+use Rattle.mb_members.proofs.StampedLaws.{stamped_is_sent}
 use Rattle.mb_world.proofs.world.World.step.Goals as goal
 
 pub step_at-requires-clause-rest : goal.step_at-requires-clause-rest

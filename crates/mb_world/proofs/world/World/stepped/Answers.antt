@@ -3,8 +3,8 @@ use Rattle.std.specs.Prelude.{reverse, filter_map, fold}
 use Rattle.mb_base.specs.declared.shape.Shape.{Shape}
 use Rattle.mb_world_model.specs.World.{stamps, update, partway, with_tagged}
 use Rattle.mb_world.specs.Answers.{as_answer}
-use Rattle.mb_parties.specs.Stamps.{FitsWhereStamped, bare_in}
-use Rattle.mb_parties.proofs.KeepLaws.{keeps_then}
+use Rattle.mb_members.specs.Stamps.{FitsWhereStamped, bare_in}
+use Rattle.mb_members.proofs.KeepLaws.{keeps_then}
 use Rattle.mb_world.proofs.WorldLaws.{partway_stands, leaves_from, if_ok_more}
 use Rattle.mb_world.proofs.world.World.stepped.Goals as goal
 

@@ -3,7 +3,7 @@ use Rattle.mb_base.specs.Shapes.{IsShape}
 use Rattle.mb_base.specs.declared.shape.Shape.{Shape}
 use Rattle.mb_msg.specs.declared.change.ReqViewChange.{ReqViewChange}
 use Rattle.mb_msg.specs.Fits.{FitsWish}
-use Rattle.mb_fitting.proofs.Letters.{wish_message}
+use Rattle.mb_encodable.proofs.Letters.{wish_message}
 use Rattle.mb_world.proofs.world.World.tag_wish.Goals as goal
 
 shape_is : (s : Shape) → IsShape s

@@ -3,8 +3,8 @@ use Rattle.std.specs.List.{slice_get}
 use Rattle.std.proofs.lemmas.Option.{slice_get_read}
 use Rattle.mb_usig.specs.Trusted.{Trusted}
 use Rattle.mb_schedule.specs.Limits.{is_faulty}
-use Rattle.mb_parties.specs.declared.members.Member.TheVariants as member
-use Rattle.mb_parties.proofs.ChangeLaws.{member_at}
+use Rattle.mb_members.specs.declared.members.Member.TheVariants as member
+use Rattle.mb_members.proofs.ChangeLaws.{member_at}
 use Rattle.mb_world.proofs.world.World.trusted.Goals as goal
 
 pub returns-in-Correct-clause-faulty : goal.returns-in-Correct-clause-faulty

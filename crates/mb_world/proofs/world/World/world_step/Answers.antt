@@ -1,6 +1,6 @@
 use Rattle.std.proofs.Common.{refl}
 use Rattle.mb_world_model.specs.WorldSteps.{happens}
-use Rattle.mb_genuine.proofs.Reached.{reached_more}
+use Rattle.mb_unforged.proofs.Reached.{reached_more}
 use Rattle.mb_world.specs.Answers.{as_answer}
 use Rattle.mb_world.proofs.RunLaws.{still_stands, still_left, still_has}
 use Rattle.mb_world.proofs.world.World.world_step.Goals as goal

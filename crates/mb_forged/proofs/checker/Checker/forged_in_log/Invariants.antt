@@ -1,7 +1,0 @@
-use Rattle.std.specs.List.{flat_map}
-use Rattle.mb_model.specs.Inside.{shown_requests}
-use Rattle.mb_forged.proofs.Walks.{TagsLeft}
-use Rattle.mb_forged.proofs.checker.Checker.forged_in_log.Given as goal
-
-abbrev pub invariant-loop-entry : goal.invariant-loop-entry
-invariant-loop-entry l = TagsLeft l.self (flat_map shown_requests) l.entries l.entry-index

@@ -1,7 +1,0 @@
-use Rattle.std.specs.List.{flat_map}
-use Rattle.mb_model.specs.Inside.{shown_claims}
-use Rattle.mb_forged.proofs.Walks.{Left}
-use Rattle.mb_forged.proofs.checker.Checker.in_entries.Given as goal
-
-abbrev pub invariant-loop-entry : goal.invariant-loop-entry
-invariant-loop-entry l = Left l.self (λ s. flat_map (shown_claims s.shape)) l.entries l.entry-index

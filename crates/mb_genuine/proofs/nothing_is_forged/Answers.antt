@@ -1,5 +1,0 @@
-use Rattle.mb_genuine.proofs.NoneForged.{none_is_forged}
-use Rattle.mb_genuine.proofs.nothing_is_forged.Goals as goal
-
-pub returns : goal.returns
-returns g c = none_is_forged _

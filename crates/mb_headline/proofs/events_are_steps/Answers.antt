@@ -1,5 +1,0 @@
-use Rattle.mb_headline.proofs.Promised.{all_are_steps}
-use Rattle.mb_headline.proofs.events_are_steps.Goals as goal
-
-pub returns : goal.returns
-returns g c = all_are_steps _

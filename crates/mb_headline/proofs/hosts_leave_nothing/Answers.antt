@@ -1,5 +1,0 @@
-use Rattle.mb_headline.proofs.Promised.{nothing_left}
-use Rattle.mb_headline.proofs.hosts_leave_nothing.Goals as goal
-
-pub returns : goal.returns
-returns g c = nothing_left _

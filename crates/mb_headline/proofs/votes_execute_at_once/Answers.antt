@@ -1,5 +1,0 @@
-use Rattle.mb_headline.proofs.Promised.{all_execute_at_once}
-use Rattle.mb_headline.proofs.votes_execute_at_once.Goals as goal
-
-pub returns : goal.returns
-returns g c = all_execute_at_once _

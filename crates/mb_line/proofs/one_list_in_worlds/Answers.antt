@@ -1,5 +1,0 @@
-use Rattle.mb_line.proofs.InWorlds.{worlds_have_one_list}
-use Rattle.mb_line.proofs.one_list_in_worlds.Goals as goal
-
-pub returns : goal.returns
-returns g c = worlds_have_one_list _
