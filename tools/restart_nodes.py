@@ -99,8 +99,9 @@ def wanted_results(config, count):
 
 
 def not_right(config, lines):
-    """The lines with another result than that of the store, and those whose position is not above the one before. A request that is ordered again behind
-    a view change takes a position more and changes nothing, so positions may leave one out."""
+    """The lines with another result than that of the store, and those whose position is not above the one before. Where a LOG
+    raises a primary's stable position over a request that it ordered and did not execute, the request still waits there and is ordered again, at a position
+    more, where it changes nothing. So positions may leave one out."""
     words = [line.split(" ") for line in lines]
     others = [line for line, want in zip(lines, wanted_results(config, len(lines))) if line.split(" ")[-1] != want]
     places = [int(word[1]) if word[0] == "result" else 0 for word in words]
