@@ -253,7 +253,7 @@ module _ {V : Type 0} {g : Ghosts V} (y : System V) where
   message_there w x f o bytes r there left = rw there left
 
   -- Each correct host is of this size.
-  pub all_of : (w : World V g) (x : WorldState) → RepresentsWorld y w x → (h : ℕ) (r : Replica V) → slice_get w.members.items h ≡ Some (member.Correct r) → r.state.agreement.shape ≡ w.shape
+  pub all_of : (w : World V g) (x : WorldState) → RepresentsWorld y w x → (h : ℕ) (r : Replica V) → slice_get w.members.items h ≡ Some (member.Correct r) → r.state.protocol.shape ≡ w.shape
   all_of w x rep h r at =
       let host : IsCorrectHost y h r (x.histories h) = rep.members h (member.Correct r) at in
       sym host.represents.who.shape ∙ sym rep.rest.shape
