@@ -1,7 +1,6 @@
 pub mod Counts
 pub mod SameBatch
 pub mod LookedPlaces
-pub mod PlanDigests
 pub mod Marked
 pub mod TestLists
 pub mod Openings

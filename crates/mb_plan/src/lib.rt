@@ -39,7 +39,6 @@ mod last_openings;
 mod logs;
 mod looked;
 mod new_view;
-mod plan_digests;
 mod planning;
 mod shown;
 mod shown_votes;

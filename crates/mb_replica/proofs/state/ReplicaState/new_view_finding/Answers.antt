@@ -5,7 +5,7 @@ use Rattle.mb_plan.specs.declared.new_view.NewViewFault.{NewViewFault}
 use Rattle.mb_plan.specs.NewViews.{Follows}
 use Rattle.mb_plan.specs.declared.new_view.NewViewFault.TheVariants.{Unusable, OtherPlan}
 use Rattle.mb_replica.proofs.NewViewRefusals.{fault_in, for_host, follows, fails, has_other_plan}
-use Rattle.mb_replica.proofs.state.ReplicaState.new_view_refusal.Goals as goal
+use Rattle.mb_replica.proofs.state.ReplicaState.new_view_finding.Goals as goal
 
 -- src/new_views.rt
 pub returns-in-Ok : goal.returns-in-Ok
