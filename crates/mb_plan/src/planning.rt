@@ -141,8 +141,9 @@ fn batches_from(
     ensures { IfOk result (λ batches. batches ≡ batches_from (map shown voters.now) (base + 1) (span shape.now)) }
 {
     let votes = lowest_votes(voters, base);
+    let most = shape.span() as usize;
     let mut batches = Items::new(alloc);
-    for step in 0..shape.span() as usize {
+    for step in 0..most {
         let lowest = votes[step];
         let pos = base + 1 + step as u64;
         match lowest {

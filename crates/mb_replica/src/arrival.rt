@@ -36,21 +36,17 @@ pub(crate) struct Checked {
 }
 
 impl Finding {
-    ghost use Rattle.std.specs.Prelude.{◌≡◌, None, Ok, Err, IfOk, IfErr};
+    ghost use Rattle.std.specs.Prelude.{◌≡◌, None};
 
-    /// That of a message that announces no plan, where memory did not run out.
-    pub(crate) fn without_plan(
-        refusal: Result<Option<Outcome>, NoMemory>,
-    ) -> Result<Finding, NoMemory>
-        ensures refusal { IfOk result (λ f. refusal ≡ Ok f.refusal) }
-        ensures plan { IfOk result (λ f. f.plan ≡ None) }
-        ensures error { IfErr result (λ e. refusal ≡ Err e) }
+    /// That of a message that announces no plan.
+    pub(crate) fn without_plan(refusal: Option<Outcome>) -> Finding
+        ensures refusal { result.refusal ≡ refusal }
+        ensures plan { result.plan ≡ None }
     {
-        let refusal = refusal?;
-        Ok(Finding {
+        Finding {
             refusal,
             plan: None,
-        })
+        }
     }
 }
 

@@ -39,7 +39,7 @@ impl<V: Service + Drop> ReplicaState<V> {
         ensures plan { IfOk result (λ f. f.refusal ≡ None → Announces self.now (stamped.NewView m.now) f.plan) }
     {
         if !self.is_current(m.view) {
-            return Finding::without_plan(Ok(None));
+            return Ok(Finding::without_plan(None));
         }
         match check_new_view(alloc, &self.protocol.shape, &self.protocol.usig, m) {
             Ok(plan) => Ok(Finding {
@@ -49,11 +49,11 @@ impl<V: Service + Drop> ReplicaState<V> {
             Err(NewViewFault::Unusable { index, reason }) => {
                 let index = u16::from(index);
                 let refusal = Outcome::Unusable { index, reason };
-                Finding::without_plan(Ok(Some(refusal)))
+                Ok(Finding::without_plan(Some(refusal)))
             }
-            Err(NewViewFault::OtherPlan) => Finding::without_plan(Ok(Some(OTHER_PLAN))),
+            Err(NewViewFault::OtherPlan) => Ok(Finding::without_plan(Some(OTHER_PLAN))),
             // It came as the digest of its body.
-            Err(NewViewFault::Few) => Finding::without_plan(Ok(None)),
+            Err(NewViewFault::Few) => Ok(Finding::without_plan(None)),
             Err(NewViewFault::NoMemory) => Err(NoMemory),
         }
     }

@@ -18,6 +18,7 @@ impl<V: Service + Drop> ReplicaState<V> {
     ghost use Rattle.mb_msg.specs.declared.stamped.Stamped.TheVariants as stamped;
     ghost use Rattle.mb_msg.specs.Fits.{FitsStamped};
     ghost use Rattle.mb_model.specs.Histories.{Identity, History};
+    ghost use Rattle.mb_model.specs.GateChecks.{identifier_refusal};
     ghost use Rattle.mb_model.specs.KindChecks.{kind_refusal, stamped_refusal};
     ghost use Rattle.mb_replica.specs.Arrivals.{IsArrival};
     ghost use Rattle.mb_replica.specs.Told.{KnowsBody};
@@ -88,8 +89,8 @@ impl<V: Service + Drop> ReplicaState<V> {
         ensures refusal { (me : Identity V) (d : History) → Represents me self.now d → IfOk result (λ c. c.finding.refusal ≡ stamped_refusal me d c.arrival.message) }
         ensures plan { IfOk result (λ c. c.finding.refusal ≡ None → Announces self.now c.arrival.message c.finding.plan) }
     {
-        let refusal = self.identifier_refusal(alloc, &arrival);
-        let checked = arrival.with_finding(Finding::without_plan(refusal))?;
+        let finding = self.identifier_finding(alloc, &arrival);
+        let checked = arrival.with_finding(finding)?;
         if checked.finding.refusal.is_some() {
             return Ok(checked);
         }
@@ -97,6 +98,15 @@ impl<V: Service + Drop> ReplicaState<V> {
         let arrival = self.with_plan_digests(alloc, arrival)?;
         let finding = self.kind_finding(alloc, &arrival.message);
         arrival.with_finding(finding)
+    }
+
+    /// The same, of its identifier alone.
+    fn identifier_finding(&self, alloc: Global, arrival: &Arrival) -> Result<Finding, NoMemory>
+        requires { IsArrival self.now.protocol.shape arrival.now }
+        ensures { (me : Identity V) (d : History) → Represents me self.now d → IfOk result (λ f. f.refusal ≡ identifier_refusal me d arrival.now.message) }
+    {
+        let refusal = self.identifier_refusal(alloc, arrival)?;
+        Ok(Finding::without_plan(refusal))
     }
 
     /// A given message, of which an OPEN keeps the digests of its batches. An error is want of memory.
@@ -130,16 +140,18 @@ impl<V: Service + Drop> ReplicaState<V> {
     {
         match message {
             Stamped::Prepare(m) => {
-                Finding::without_plan(self.vote_refusal(alloc, m.view, m.pos, &m.body))
+                let refusal = self.vote_refusal(alloc, m.view, m.pos, &m.body)?;
+                Ok(Finding::without_plan(refusal))
             }
             Stamped::Commit(m) => {
-                Finding::without_plan(self.vote_refusal(alloc, m.view, m.pos, &m.body))
+                let refusal = self.vote_refusal(alloc, m.view, m.pos, &m.body)?;
+                Ok(Finding::without_plan(refusal))
             }
-            Stamped::Checkpoint(m) => Finding::without_plan(Ok(self.checkpoint_refusal(m.pos))),
-            Stamped::ViewChange(m) => Finding::without_plan(self.change_refusal(alloc, m)),
+            Stamped::Checkpoint(m) => Ok(Finding::without_plan(self.checkpoint_refusal(m.pos))),
+            Stamped::ViewChange(m) => Ok(Finding::without_plan(self.change_refusal(alloc, m)?)),
             Stamped::NewView(m) => self.new_view_finding(alloc, m),
-            Stamped::Open(m) => Finding::without_plan(self.open_refusal(alloc, m)),
-            Stamped::Enter(_) | Stamped::Join(_) => Finding::without_plan(Ok(None)),
+            Stamped::Open(m) => Ok(Finding::without_plan(self.open_refusal(alloc, m)?)),
+            Stamped::Enter(_) | Stamped::Join(_) => Ok(Finding::without_plan(None)),
         }
     }
 

@@ -35,11 +35,8 @@ check_members-requires c = record {
   places = none_found c.args.shape.now c.args.usig.now.secret 256;
 }
 
-pub plan_of_members-plan-requires : goal.plan_of_members-plan-requires
-plan_of_members-plan-requires c = record {
-  fits = search rules;
-  places = record { shape = c.args.shape.now; secret = c.args.usig.now.secret; found = c.in_ok-check_members.ensures.places };
-}
+pub plan_of_members-requires-clause-places : goal.plan_of_members-requires-clause-places
+plan_of_members-requires-clause-places c = record { shape = c.args.shape.now; secret = c.args.usig.now.secret; found = c.in_ok-check_members.ensures.places }
 
 pub announced-requires : goal.announced-requires
 announced-requires c =
