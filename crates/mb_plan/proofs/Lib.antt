@@ -1,6 +1,7 @@
 pub mod Counts
 pub mod SameBatch
 pub mod LookedPlaces
+pub mod PlanDigests
 pub mod Marked
 pub mod TestLists
 pub mod Openings

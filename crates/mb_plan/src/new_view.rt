@@ -12,7 +12,7 @@ use crate::looked::{PLACES, Place};
 use crate::planning::{PlanFault, plan_beside};
 use crate::shown::{BadProof, usable_beside};
 use mb_base::{NoMemory, Shape, View};
-use mb_msg::{Body, NewView, NewViewBody, Plan, ViewChange};
+use mb_msg::{Batch, Body, NewView, NewViewBody, Plan, ViewChange};
 use mb_usig::Usig;
 use std::alloc::Global;
 
@@ -57,11 +57,13 @@ fn is_member(
     Ok(member.view == view && usig.verify_ui(bare.as_slice(), &member.ui))
 }
 
-/// The reason that fails for a member: 10 where it is none. `places` is what was found of the votes of other members.
+/// The reason that fails for a member: 10 where it is none. `places` is what was found of the votes of other members, and `known` are batches that may
+/// keep their digests.
 fn member_fault<'a>(
     alloc: Global,
     shape: &Shape,
     usig: &Usig,
+    known: &[Batch],
     places: &mut [Place<'a>],
     view: View,
     member: &'a ViewChange,
@@ -74,7 +76,7 @@ fn member_fault<'a>(
     if !is_member(alloc, shape, usig, view, member)? {
         return Ok(Some(NO_MEMBER));
     }
-    match usable_beside(alloc, shape, usig, places, member) {
+    match usable_beside(alloc, shape, usig, known, places, member) {
         Ok(()) => Ok(None),
         Err(BadProof::At { reason, .. }) => Ok(Some(reason)),
         Err(BadProof::NoMemory) => Err(NoMemory),
@@ -86,6 +88,7 @@ fn check_members<'a>(
     alloc: Global,
     shape: &Shape,
     usig: &Usig,
+    known: &[Batch],
     places: &mut [Place<'a>],
     view: View,
     members: &'a [ViewChange],
@@ -97,7 +100,7 @@ fn check_members<'a>(
 {
     for index in 0..members.len() {
         let member = &members[index];
-        if let Some(reason) = member_fault(alloc, shape, usig, places, view, member)? {
+        if let Some(reason) = member_fault(alloc, shape, usig, known, places, view, member)? {
             let index = index as u8;
             return Err(NewViewFault::Unusable { index, reason });
         }
@@ -143,6 +146,7 @@ fn check_body(
     alloc: Global,
     shape: &Shape,
     usig: &Usig,
+    known: &[Batch],
     new_view: &NewView,
     body: &NewViewBody,
 ) -> Result<Plan, NewViewFault>
@@ -154,7 +158,8 @@ fn check_body(
         looked: None,
         stamped: None,
     }; PLACES];
-    check_members(alloc, shape, usig, &mut places, new_view.view, members)?;
+    let view = new_view.view;
+    check_members(alloc, shape, usig, known, &mut places, view, members)?;
     let plan = plan_of_members(alloc, shape, &places, members)?;
     announced(new_view, plan)
 }
@@ -168,13 +173,14 @@ pub fn check_new_view(
     alloc: Global,
     shape: &Shape,
     usig: &Usig,
+    known: &[Batch],
     new_view: &NewView,
 ) -> Result<Plan, NewViewFault>
     requires { (usig.now.shape ≡ shape.now) × FitsNewView shape.now new_view.now }
     ensures { Follows shape.now usig.now.secret new_view.now new_view.now.body result }
 {
     match &new_view.body {
-        Body::Whole(body) => check_body(alloc, shape, usig, new_view, body),
+        Body::Whole(body) => check_body(alloc, shape, usig, known, new_view, body),
         Body::Bare(_) => Err(NewViewFault::Few),
     }
 }

@@ -1,6 +1,6 @@
 -- What the check of a NEW_VIEW answers is what the history says of it, and its plan is the one that it announces.
 use Rattle.std.proofs.Common.{◌≡◌, ◌∙◌, ℕ, Bool, true, false, refl, Option, Some, None, sym, ap, subst, Result, Ok, Err}
-use Rattle.std.specs.Prelude.{IfSome, option_and_then, option_map, if◌then◌else◌}
+use Rattle.std.specs.Prelude.{option_and_then, option_map, if◌then◌else◌}
 use Rattle.mb_base.specs.Shapes.{Bytes}
 use Rattle.mb_msg.specs.declared.change.Plan.{Plan}
 use Rattle.mb_base.specs.declared.shape.Shape.{Shape}
@@ -55,6 +55,10 @@ module _ {V : Type 0} (r : ReplicaState V) where
       subst (Announces r m) (sym none) (record { hashed = tt; base = tt; is = λ me d rep. sym (nothing me d rep) })
 
   module _ (m : NewView) where
+    -- It is refused.
+    pub refused_announces : (plan : Option Plan) (o : Outcome) → Some o ≡ None → Announces r (stamped.NewView m) plan
+    refused_announces plan o never = absurd cc
+
     -- Its view is not current.
     pub past_announces : (plan : Option Plan) → plan ≡ None → ((me : Identity V) (d : History) → Represents me r d → is_current me d m.view ≡ false) → Announces r (stamped.NewView m) plan
     past_announces plan none past = none_announces (stamped.NewView m) plan none (λ me d rep. rw (past me d rep) refl)

@@ -21,7 +21,7 @@ impl<V: Service + Drop> ReplicaState<V> {
     ghost use Rattle.mb_replica.specs.Holding.{Holds};
 
     /// The view of the held evidence, 0 where there is none.
-    fn evidence_view(&self) -> View
+    pub(crate) fn evidence_view(&self) -> View
         ensures { (me : Identity V) (d : History) → Represents me self.now d → result ≡ evidence_view (evidence_of me d) }
     {
         match self.protocol.change.evidence() {

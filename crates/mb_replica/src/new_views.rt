@@ -41,7 +41,8 @@ impl<V: Service + Drop> ReplicaState<V> {
         if !self.is_current(m.view) {
             return Ok(Finding::without_plan(None));
         }
-        match check_new_view(alloc, &self.protocol.shape, &self.protocol.usig, m) {
+        let known = self.planned(self.evidence_view());
+        match check_new_view(alloc, &self.protocol.shape, &self.protocol.usig, known, m) {
             Ok(plan) => Ok(Finding {
                 refusal: None,
                 plan: Some(plan),

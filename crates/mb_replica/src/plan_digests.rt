@@ -7,25 +7,8 @@ ghost use Rattle.mb_parts.specs.Fits.{CanDigest};
 
 use mb_base::{Digest, Items, NoMemory};
 use mb_msg::Batch;
+use mb_plan::kept_by;
 use std::alloc::Global;
-
-/// The digest of a batch, where another one is the same and keeps it.
-fn kept_by_same(other: &Batch, batch: &Batch) -> Option<Digest>
-    ensures { IfSome result (λ digest. digest ≡ batch_digest batch.now) }
-{
-    if other == batch {
-        other.kept_digest()
-    } else {
-        None
-    }
-}
-
-/// The same of one that may be there.
-fn kept_by(other: Option<&Batch>, batch: &Batch) -> Option<Digest>
-    ensures { IfSome result (λ digest. digest ≡ batch_digest batch.now) }
-{
-    kept_by_same(other?, batch)
-}
 
 /// This batch, which keeps its digest. It is hashed where it is not known.
 fn keeping(batch: Batch, known: Option<Digest>) -> Batch

@@ -1,4 +1,4 @@
-use Rattle.std.proofs.Common.{◌≡◌, ◌∙◌, refl, sym, subst, Option, Some}
+use Rattle.std.proofs.Common.{◌∙◌, refl, sym, subst, Option}
 use Rattle.std.specs.Prelude.{IfSome}
 use Rattle.std.proofs.lemmas.Result.{on_ok_weaker}
 use Rattle.mb_parts.specs.Fits.{FitsStable}
