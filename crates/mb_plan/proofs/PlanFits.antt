@@ -1,5 +1,5 @@
 -- What stands in a plan of logs whose fields have allowed values has allowed values too.
-use Rattle.std.proofs.Common.{ℕ, zero, suc, ◌+◌, ◌≤◌, List, [], ◌∷◌, ◌++◌, length, map, Option, Some, None, sym, subst, inl, inr, arith}
+use Rattle.std.proofs.Common.{◌≡◌, ℕ, zero, suc, ◌+◌, ◌≤◌, List, [], ◌∷◌, ◌++◌, length, map, Option, Some, None, sym, subst, inl, inr, arith}
 use Rattle.std.specs.Prelude.{IfSome, ◌==◌, filter_map, nat_le, nat_lt, ◌-◌, option_map, slice_get}
 use Rattle.std.specs.List.{AllByRecursion, cons_option}
 use Rattle.std.proofs.lemmas.Bool.{cases_Bool}
@@ -71,7 +71,7 @@ module _ (s : Shape) where
   unfolding by_host
   by_host_fit cs fits = found_fit FitsLog (λ h. log_of (logs_of cs) h) _ (λ h. log_fits (logs_of cs) h (logs_fit cs fits))
 
-  of_view_fit : (u : Option ℕ) (logs : List ShownLog) → AreFit logs → AreFit (of_view u logs)
+  pub of_view_fit : (u : Option ℕ) (logs : List ShownLog) → AreFit logs → AreFit (of_view u logs)
   of_view_fit u [] fits = tt
   of_view_fit u (l ∷ logs) (here, fits) = elim (cases_Bool (same_view (opened_view l) u)) [
     | inl same ↦ rw same (here, of_view_fit u logs fits)
@@ -177,6 +177,10 @@ module _ (s : Shape) where
   unfolding batches_from
   batches_fit logs p zero fits = (omega arith, tt)
   batches_fit logs p (suc most) fits = voted_fit (lowest_vote p logs) most (batches_from logs (p + 1) most) (lowest_fit p logs fits) (batches_fit logs (p + 1) most fits)
+
+  -- The digest of a batch that is voted for can be taken.
+  pub voted_can_digest : (p : ℕ) (logs : List ShownLog) (v : ShownVote) → AreFit logs → lowest_vote p logs ≡ Some v → CanDigest v.1
+  voted_can_digest p logs v fits is = has_digest s v.1 (subst (λ (x : Option ShownVote). IfSome x FitsVote) is (lowest_fit p logs fits))
 
   -- Its digest and end can be taken.
   pub plan_fits : (logs : List ShownLog) → AreFit logs → CanHash (plan_in_order s logs)

@@ -50,3 +50,9 @@ pub record IsRight (s : Shape) (secret : Bytes) (place : Place) : Type 0 where
 
 abbrev pub AreFound : Shape → Bytes → List Place → Type 0
 AreFound s secret places = AllByRecursion (IsRight s secret) places
+
+-- So for some system and key: each digest there is that of its batch.
+pub record AreLooked (places : List Place) : Type 0 where
+  pub shape : Shape
+  pub secret : Bytes
+  pub found : AreFound shape secret places

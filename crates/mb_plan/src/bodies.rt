@@ -17,11 +17,11 @@ ghost use Rattle.mb_plan.specs.Looked.{IsVoteFound};
 
 use crate::certificates::{is_evidence, is_stable};
 use crate::looked::FoundVote;
+use crate::plan_digests::digest_beside;
 use crate::tags::are_batches_tagged;
 use mb_base::{Digest, NoMemory, Pos, Shape, Ui};
 use mb_msg::{
-    Body, Commit, Evidence, Join, OpenBody, Shown, Stamped, commit_bare, digest_of_plan,
-    prepare_bare,
+    Batch, Body, Commit, Evidence, Join, OpenBody, Shown, Stamped, commit_bare, prepare_bare,
 };
 use mb_usig::Usig;
 use std::alloc::Global;
@@ -47,6 +47,26 @@ fn is_comparable(
     are_batches_tagged(alloc, usig, body.batches.as_slice())
 }
 
+/// The same as [`check_open`] says. `known` are batches that may keep their digests: where one with the same index is the same, it is not hashed again.
+fn check_open_beside(
+    alloc: Global,
+    shape: &Shape,
+    usig: &Usig,
+    known: &[Batch],
+    evidence: &Evidence,
+    body: &OpenBody,
+) -> Result<bool, NoMemory>
+    requires { (usig.now.shape ≡ shape.now) × FitsEvidence shape.now evidence.now × FitsOpenParts shape.now body.now }
+    ensures { IfOk result (λ right. right ≡ is_plan_body shape.now usig.now.secret (verifies usig.now.secret) evidence.now.base evidence.now.end evidence.now.plan body.now) }
+{
+    if !is_comparable(alloc, shape, usig, evidence, body)? {
+        return Ok(false);
+    }
+    let batches = body.batches.as_slice();
+    let found = digest_beside(known, evidence.base, &body.stable.state, batches);
+    Ok(evidence.plan == found)
+}
+
 /// Whether the body of an OPEN is that of the plan of its evidence. The shape is that of the trusted part, and each field of both has an allowed
 /// value.
 pub fn check_open(
@@ -59,11 +79,7 @@ pub fn check_open(
     requires { (usig.now.shape ≡ shape.now) × FitsEvidence shape.now evidence.now × FitsOpenParts shape.now body.now }
     ensures { IfOk result (λ right. right ≡ is_plan_body shape.now usig.now.secret (verifies usig.now.secret) evidence.now.base evidence.now.end evidence.now.plan body.now) }
 {
-    if !is_comparable(alloc, shape, usig, evidence, body)? {
-        return Ok(false);
-    }
-    let found = digest_of_plan(evidence.base, &body.stable.state, body.batches.as_slice());
-    Ok(evidence.plan == found)
+    check_open_beside(alloc, shape, usig, &[], evidence, body)
 }
 
 /// Whether the primary stamped the PREPARE that a COMMIT names. `body` is the digest of its batch.
@@ -169,11 +185,12 @@ pub(crate) fn shown_inner_valid(
     }
 }
 
-/// Whether the body of an OPEN is that of its plan, where it is shown.
+/// Whether the body of an OPEN is that of its plan, where it is shown. `known` are batches that may keep their digests.
 fn is_sound_plan(
     alloc: Global,
     shape: &Shape,
     usig: &Usig,
+    known: &[Batch],
     evidence: &Evidence,
     body: &Body<OpenBody>,
 ) -> Result<bool, NoMemory>
@@ -181,16 +198,17 @@ fn is_sound_plan(
     ensures { IfOk result (λ right. right ≡ is_sound_plan shape.now usig.now.secret (verifies usig.now.secret) evidence.now.base evidence.now.end evidence.now.plan body.now) }
 {
     match body {
-        Body::Whole(body) => check_open(alloc, shape, usig, evidence, body),
+        Body::Whole(body) => check_open_beside(alloc, shape, usig, known, evidence, body),
         Body::Bare(_) => Ok(true),
     }
 }
 
-/// Whether what an entry shows beside its digest is right. `found` is what was found of it.
+/// Whether what an entry shows beside its digest is right. `found` is what was found of it, and `known` are batches that may keep their digests.
 pub(crate) fn is_sound_body(
     alloc: Global,
     shape: &Shape,
     usig: &Usig,
+    known: &[Batch],
     entry: &Shown,
     found: &FoundVote,
 ) -> Result<bool, NoMemory>
@@ -199,7 +217,7 @@ pub(crate) fn is_sound_body(
 {
     match entry {
         Shown::Prepare(_) | Shown::Commit(_) => Ok(found.batch.tagged),
-        Shown::Open(m) => is_sound_plan(alloc, shape, usig, &m.evidence, &m.body),
+        Shown::Open(m) => is_sound_plan(alloc, shape, usig, known, &m.evidence, &m.body),
         _ => Ok(true),
     }
 }

@@ -48,6 +48,7 @@ mod tags;
 pub use bodies::{check_open, inner_valid};
 pub use mb_msg::Plan;
 pub use new_view::{NewViewFault, check_new_view};
+pub use plan_digests::kept_by;
 pub use planning::{PlanFault, plan_of};
 pub use shown::{BadProof, usable};
 pub use tags::{are_tagged, is_tagged};

@@ -3,17 +3,16 @@
 ghost use Rattle.std.specs.Prelude.{◌≡◌, ◌<◌, length, IfOk};
 ghost use Rattle.std.specs.List.{AllByRecursion};
 ghost use Rattle.mb_msg.specs.Fits.{FitsViewChange, FitsMember, FitsNewViewBody, FitsNewView};
-ghost use Rattle.mb_msg.specs.Plans.{CanHash, plan_digest};
+ghost use Rattle.mb_msg.specs.Plans.{CanHash};
 ghost use Rattle.mb_model.specs.KindChecks.{is_member, member_fault, members_fault, announces};
-ghost use Rattle.mb_plan.specs.Looked.{AreFound};
+ghost use Rattle.mb_plan.specs.Looked.{AreFound, AreLooked};
 ghost use Rattle.mb_plan.specs.NewViews.{checker, AnswersMembers, Announced, OfMembers, FollowsFrom, Follows};
 
 use crate::looked::{PLACES, Place};
-use crate::plan_digests::digest_of_found;
-use crate::planning::{PlanFault, plan_of};
+use crate::planning::{PlanFault, plan_beside};
 use crate::shown::{BadProof, usable_beside};
-use mb_base::{Digest, NoMemory, Shape, View};
-use mb_msg::{Body, NewView, NewViewBody, Plan, ViewChange};
+use mb_base::{NoMemory, Shape, View};
+use mb_msg::{Batch, Body, NewView, NewViewBody, Plan, ViewChange};
 use mb_usig::Usig;
 use std::alloc::Global;
 
@@ -58,11 +57,13 @@ fn is_member(
     Ok(member.view == view && usig.verify_ui(bare.as_slice(), &member.ui))
 }
 
-/// The reason that fails for a member: 10 where it is none. `places` is what was found of the votes of other members.
+/// The reason that fails for a member: 10 where it is none. `places` is what was found of the votes of other members, and `known` are batches that may
+/// keep their digests.
 fn member_fault<'a>(
     alloc: Global,
     shape: &Shape,
     usig: &Usig,
+    known: &[Batch],
     places: &mut [Place<'a>],
     view: View,
     member: &'a ViewChange,
@@ -75,7 +76,7 @@ fn member_fault<'a>(
     if !is_member(alloc, shape, usig, view, member)? {
         return Ok(Some(NO_MEMBER));
     }
-    match usable_beside(alloc, shape, usig, places, member) {
+    match usable_beside(alloc, shape, usig, known, places, member) {
         Ok(()) => Ok(None),
         Err(BadProof::At { reason, .. }) => Ok(Some(reason)),
         Err(BadProof::NoMemory) => Err(NoMemory),
@@ -87,6 +88,7 @@ fn check_members<'a>(
     alloc: Global,
     shape: &Shape,
     usig: &Usig,
+    known: &[Batch],
     places: &mut [Place<'a>],
     view: View,
     members: &'a [ViewChange],
@@ -98,7 +100,7 @@ fn check_members<'a>(
 {
     for index in 0..members.len() {
         let member = &members[index];
-        if let Some(reason) = member_fault(alloc, shape, usig, places, view, member)? {
+        if let Some(reason) = member_fault(alloc, shape, usig, known, places, view, member)? {
             let index = index as u8;
             return Err(NewViewFault::Unusable { index, reason });
         }
@@ -106,14 +108,14 @@ fn check_members<'a>(
     Ok(())
 }
 
-/// The plan, where it is the one that the NEW_VIEW announces. `digest` is the plan's.
-fn announced(new_view: &NewView, plan: Plan, digest: &Digest) -> Result<Plan, NewViewFault>
-    requires { CanHash plan × (digest.now ≡ plan_digest plan) }
+/// The plan, where it is the one that the NEW_VIEW announces.
+fn announced(new_view: &NewView, plan: Plan) -> Result<Plan, NewViewFault>
+    requires { CanHash plan }
     ensures { Announced new_view.now plan result }
 {
     let is_announced = new_view.base == plan.base.pos
         && new_view.end == plan.end()
-        && new_view.plan == *digest;
+        && new_view.plan == plan.digest();
     if is_announced {
         Ok(plan)
     } else {
@@ -121,16 +123,18 @@ fn announced(new_view: &NewView, plan: Plan, digest: &Digest) -> Result<Plan, Ne
     }
 }
 
-/// The plan of members of which none fails.
+/// The plan of members of which none fails. `places` is what was found of their votes.
 fn plan_of_members(
     alloc: Global,
     shape: &Shape,
+    places: &[Place<'_>],
     members: &[ViewChange],
 ) -> Result<Plan, NewViewFault>
-    requires { AllByRecursion (FitsMember shape.now) members.now }
+    requires fits { AllByRecursion (FitsMember shape.now) members.now }
+    requires places { AreLooked places.now }
     ensures { OfMembers shape.now members.now result }
 {
-    match plan_of(alloc, shape, members) {
+    match plan_beside(alloc, shape, places, members) {
         Ok(plan) => Ok(plan),
         Err(PlanFault::Few) => Err(NewViewFault::Few),
         Err(PlanFault::NoMemory) => Err(NewViewFault::NoMemory),
@@ -142,6 +146,7 @@ fn check_body(
     alloc: Global,
     shape: &Shape,
     usig: &Usig,
+    known: &[Batch],
     new_view: &NewView,
     body: &NewViewBody,
 ) -> Result<Plan, NewViewFault>
@@ -153,27 +158,29 @@ fn check_body(
         looked: None,
         stamped: None,
     }; PLACES];
-    check_members(alloc, shape, usig, &mut places, new_view.view, members)?;
-    let plan = plan_of_members(alloc, shape, members)?;
-    let digest = digest_of_found(&places, &plan);
-    announced(new_view, plan, &digest)
+    let view = new_view.view;
+    check_members(alloc, shape, usig, known, &mut places, view, members)?;
+    let plan = plan_of_members(alloc, shape, &places, members)?;
+    announced(new_view, plan)
 }
 
 /// The plan of a NEW_VIEW's members, where each is usable and it is the one that the NEW_VIEW announces; else the first member that fails and the
-/// first reason that fails for it, which is 10 for one of another view or with a wrong tag; else that the NEW_VIEW announces another plan. `Few`
+/// first reason that fails for it, which is 10 for one of another view or with a wrong tag; else that the NEW_VIEW announces another plan. The
+/// batches of the plan keep their digests. `Few`
 /// tells that its body came as its digest. The shape is that of the trusted part, and each field has an allowed value, so a body that came
 /// whole has f+1 members of different hosts. `NoMemory` tells that memory ran out, and nothing of the NEW_VIEW.
 pub fn check_new_view(
     alloc: Global,
     shape: &Shape,
     usig: &Usig,
+    known: &[Batch],
     new_view: &NewView,
 ) -> Result<Plan, NewViewFault>
     requires { (usig.now.shape ≡ shape.now) × FitsNewView shape.now new_view.now }
     ensures { Follows shape.now usig.now.secret new_view.now new_view.now.body result }
 {
     match &new_view.body {
-        Body::Whole(body) => check_body(alloc, shape, usig, new_view, body),
+        Body::Whole(body) => check_body(alloc, shape, usig, known, new_view, body),
         Body::Bare(_) => Err(NewViewFault::Few),
     }
 }

@@ -25,7 +25,7 @@ use crate::entries::{has_body, height, is_normal, opened_from, shows_body};
 use crate::looked::{FoundVote, Place, find_vote};
 use mb_base::{Host, NoMemory, Pos, Shape, Ui, View};
 use mb_gate::{Gate, Offer};
-use mb_msg::{Body, ChangeBody, Shown, ViewChange};
+use mb_msg::{Batch, Body, ChangeBody, Shown, ViewChange};
 use mb_parts::{Floor, LOG_INTERVALS, OTHER_LIMIT, Phase};
 use mb_usig::Usig;
 use std::alloc::Global;
@@ -179,11 +179,13 @@ fn gate_reason(
     Ok(None)
 }
 
-/// The first reason that fails for the form, the height, and what the body shows. `last` says that no opening is behind the entry.
+/// The first reason that fails for the form, the height, and what the body shows. `last` says that no opening is behind the entry, and `known` are
+/// batches that may keep their digests.
 fn body_reason(
     alloc: Global,
     shape: &Shape,
     usig: &Usig,
+    known: &[Batch],
     stable: Pos,
     last: bool,
     entry: &Shown,
@@ -198,7 +200,7 @@ fn body_reason(
     if height(entry) > stable + u64::from(shape.span()) {
         return Ok(Some(7));
     }
-    if !is_sound_body(alloc, shape, usig, entry, found)? {
+    if !is_sound_body(alloc, shape, usig, known, entry, found)? {
         return Ok(Some(8));
     }
     Ok(None)
@@ -209,6 +211,7 @@ fn take_entries<'a>(
     alloc: Global,
     shape: &Shape,
     usig: &Usig,
+    known: &[Batch],
     places: &mut [Place<'a>],
     host: Host,
     stable: Pos,
@@ -231,7 +234,7 @@ fn take_entries<'a>(
             return Err(at(index, reason));
         }
         let last = index >= opened;
-        if let Some(reason) = body_reason(alloc, shape, usig, stable, last, entry, &found)? {
+        if let Some(reason) = body_reason(alloc, shape, usig, known, stable, last, entry, &found)? {
             return Err(at(index, reason));
         }
     }
@@ -258,6 +261,7 @@ fn check_entries<'a>(
     alloc: Global,
     shape: &Shape,
     usig: &Usig,
+    known: &[Batch],
     places: &mut [Place<'a>],
     change: &ViewChange,
     body: &'a ChangeBody,
@@ -275,6 +279,7 @@ fn check_entries<'a>(
         alloc,
         shape,
         usig,
+        known,
         places,
         host,
         body.stable.pos,
@@ -290,6 +295,7 @@ fn check_log<'a>(
     alloc: Global,
     shape: &Shape,
     usig: &Usig,
+    known: &[Batch],
     places: &mut [Place<'a>],
     change: &ViewChange,
     body: &'a ChangeBody,
@@ -308,7 +314,7 @@ fn check_log<'a>(
     if is_too_long(shape, usig, body.entries.as_slice()) {
         return Err(at(0, 9));
     }
-    check_entries(alloc, shape, usig, places, change, body, floor)
+    check_entries(alloc, shape, usig, known, places, change, body, floor)
 }
 
 /// Whether a VIEW_CHANGE is usable, as [`usable`] says. `places` is what was found of the votes of other logs.
@@ -316,6 +322,7 @@ pub(crate) fn usable_beside<'a>(
     alloc: Global,
     shape: &Shape,
     usig: &Usig,
+    known: &[Batch],
     places: &mut [Place<'a>],
     change: &'a ViewChange,
 ) -> Result<(), BadProof>
@@ -325,22 +332,24 @@ pub(crate) fn usable_beside<'a>(
     ensures fault { Answers (option_and_then (log_fault shape.now usig.now.secret (verifies usig.now.secret) change.now.ui.host change.now.view change.now.ui.counter) (whole_body change.now.body)) result }
 {
     match &change.body {
-        Body::Whole(body) => check_log(alloc, shape, usig, places, change, body.as_part()),
+        Body::Whole(body) => check_log(alloc, shape, usig, known, places, change, body.as_part()),
         Body::Bare(_) => Ok(()),
     }
 }
 
 /// Whether a VIEW_CHANGE is usable: yes exactly where it has no fault, or else the first entry that fails, and the first reason that fails for
 /// it. One whose body came as its digest shows nothing, so nothing fails. The shape is that of the trusted part, and each field has an allowed
-/// value. `NoMemory` tells that memory ran out, and nothing of the VIEW_CHANGE.
+/// value. `known` are batches that may keep their digests, as those of a plan that is held: of the same batches in an OPEN these are taken.
+/// `NoMemory` tells that memory ran out, and nothing of the VIEW_CHANGE.
 pub fn usable(
     alloc: Global,
     shape: &Shape,
     usig: &Usig,
+    known: &[Batch],
     change: &ViewChange,
 ) -> Result<(), BadProof>
     requires { (usig.now.shape ≡ shape.now) × FitsViewChange shape.now change.now }
     ensures { Answers (option_and_then (log_fault shape.now usig.now.secret (verifies usig.now.secret) change.now.ui.host change.now.view change.now.ui.counter) (whole_body change.now.body)) result }
 {
-    usable_beside(alloc, shape, usig, &mut [], change)
+    usable_beside(alloc, shape, usig, known, &mut [], change)
 }

@@ -1,6 +1,6 @@
 -- What is written into the table of view changes and what is learnt, put together; and behind an entry the tables stand.
 use Rattle.std.proofs.Common.{◌≡◌, ℕ, ◌<◌, Bool, true, false, ◌∷◌, refl, sym, ap, subst, ◌∙◌, Option, Some, None}
-use Rattle.std.specs.Prelude.{◌&&◌, if◌then◌else◌}
+use Rattle.std.specs.Prelude.{◌&&◌, if◌then◌else◌, option_map}
 use Rattle.mb_base.specs.Shapes.{host_count}
 use Rattle.mb_base.specs.declared.shape.Shape.{Shape}
 use Rattle.mb_parts.specs.declared.certificates.StableCert.{StableCert}
@@ -18,7 +18,7 @@ use Rattle.mb_msg.specs.declared.stamped.Stamped.TheVariants as stamped
 use Rattle.mb_msg.specs.Fits.{FitsOpen}
 use Rattle.mb_msg.specs.Stamps.{as_message}
 use Rattle.mb_model.specs.Histories.{Entry, Accepted, History, Identity, view_of}
-use Rattle.mb_model.specs.Held.{is_current, new_view_in, gives_plan, plan_held, plan_from, plan_in_new_view}
+use Rattle.mb_model.specs.Held.{is_current, new_view_in, gives_plan, plan_held, plan_from}
 use Rattle.mb_model.specs.KindChecks.{stamped_refusal}
 use Rattle.mb_model.specs.UsableLogs.{is_whole}
 use Rattle.mb_model.specs.Stable.{stable_of, further, plan_base}
@@ -44,7 +44,7 @@ use Rattle.mb_refinement.proofs.PositionsVoted.{join_learnt}
 use Rattle.mb_replica.specs.declared.state.ReplicaState.{ReplicaState}
 use Rattle.mb_replica.specs.Represents.{Represents, tables_of}
 use Rattle.mb_replica.specs.Between.{WritesNormal, WritesChange, WritesLearnt, AwaitsGate}
-use Rattle.mb_replica.specs.Holding.{Holds, HoldsEntry, HoldsBody, plan_in_body, kept_behind, Counts, CountsOpens, StandsCounting}
+use Rattle.mb_replica.specs.Holding.{Holds, announced, HoldsEntry, HoldsBody, plan_in_body, kept_behind, Counts, CountsOpens, StandsCounting}
 use Rattle.mb_replica.proofs.Learnt.{KeptStands, kept_learnt, stable_learnt}
 use Rattle.mb_replica.proofs.Accepted.{LeavesOthers, same_again, same_table, awaits}
 use Rattle.mb_replica.proofs.OpenVotes.{none_written}
@@ -117,38 +117,43 @@ module _ {V : Type 0} where
   -- ---- a NEW_VIEW and an OPEN
 
   module _ (me : Identity V) (d : History) where
-    -- Nothing is held of a NEW_VIEW that is not current, or came without its body.
-    nothing_announced : (r : ReplicaState V) (m : NewView) → brought me d (Accepted (message.NewView m)) ≡ None → new_view_in me d (Accepted (message.NewView m)) ≡ None → HoldsEntry me d (Accepted (message.NewView m)) r r
-    nothing_announced r m no_plan none =
+    -- what an entry brings and is held of a NEW_VIEW, by what it announces
+    module _ (m : NewView) where
+      abbrev plan_in : Bool → Body NewViewBody → Option Plan
+      plan_in current b = if current then option_map (λ x. plan_from me x.changes) (whole_body b) else None
+
+      abbrev with_view : Bool → Body NewViewBody → Option (ℕ × Plan)
+      with_view current b = if current then option_map (λ x. (m.view, plan_from me x.changes)) (whole_body b) else None
+
+      brings_as : (current : Bool) (b : Body NewViewBody) → with_view current b ≡ option_map (λ p. (m.view, p)) (plan_in current b)
+      brings_as true (Whole x) = refl
+      brings_as true (Short x) = refl
+      brings_as false b = refl
+
+      holds_as : (current : Bool) (b : Body NewViewBody) → (if is_whole b && current then Some m else None) ≡ option_map (λ p. m) (plan_in current b)
+      holds_as true (Whole x) = refl
+      holds_as true (Short x) = refl
+      holds_as false (Whole x) = refl
+      holds_as false (Short x) = refl
+
+    -- Nothing is held of a NEW_VIEW that announces no plan.
+    pub none_announced : (r : ReplicaState V) (m : NewView) → announced me d (stamped.NewView m) ≡ None → HoldsEntry me d (Accepted (message.NewView m)) r r
+    none_announced r m none =
         let P : Option (ℕ × Plan) → Option NewView → Type 0 = λ x n. Holds (λ s. with_planned x (with_announced n s)) (plan_base x) r r in
-        subst (λ (x : Option (ℕ × Plan)). P x (new_view_in me d (Accepted (message.NewView m)))) (sym no_plan)
-        (subst (λ (n : Option NewView). P None n) (sym none) (wrote_alone r r (λ s. s) (wrote_nothing r) (λ s y. y)))
-
-    pub none_current : (r : ReplicaState V) (m : NewView) → is_current me d m.view ≡ false → HoldsEntry me d (Accepted (message.NewView m)) r r
-    none_current r m past = nothing_announced r m (rw past refl) (by_body m.body past) where
-      by_body : (b : Body NewViewBody) → is_current me d m.view ≡ false → (if is_whole b && is_current me d m.view then Some m else None) ≡ None
-      by_body (Whole x) past = rw past refl
-      by_body (Short x) past = refl
-
-    pub none_whole : (r : ReplicaState V) (m : NewView) → whole_body m.body ≡ None → HoldsEntry me d (Accepted (message.NewView m)) r r
-    none_whole r m short = nothing_announced r m (by_test (is_current me d m.view)) (by_body m.body short) where
-      by_test : (b : Bool) → (if b then plan_in_new_view me m else None) ≡ None
-      by_test true = rw short refl
-      by_test false = refl
-
-      by_body : (b : Body NewViewBody) → whole_body b ≡ None → (if is_whole b && is_current me d m.view then Some m else None) ≡ None
-      by_body (Whole x) short = absurd cc
-      by_body (Short x) short = refl
+        let brings : brought me d (Accepted (message.NewView m)) ≡ None = brings_as m (is_current me d m.view) m.body ∙ ap (option_map (λ (p : Plan). (m.view, p))) none in
+        let held : new_view_in me d (Accepted (message.NewView m)) ≡ None = holds_as m (is_current me d m.view) m.body ∙ ap (option_map (λ (p : Plan). m)) none in
+        subst (λ (x : Option (ℕ × Plan)). P x (new_view_in me d (Accepted (message.NewView m)))) (sym brings)
+        (subst (λ (n : Option NewView). P None n) (sym held) (wrote_alone r r (λ s. s) (wrote_nothing r) (λ s y. y)))
 
     -- Else it is, with its plan.
-    pub announced_held : (old mid new : ReplicaState V) (m : NewView) (b : NewViewBody) (plan : Plan) → is_current me d m.view ≡ true → m.body ≡ Whole b → plan ≡ plan_from me b.changes → WritesChange old mid
-        → StandsWith old.protocol.change (with_new_view m) mid.protocol.change → Holds (with_plan m.view plan) (Some plan.base) mid new → HoldsEntry me d (Accepted (message.NewView m)) old new
-    announced_held old mid new m b plan current whole is writes stands holds =
+    pub announced_held : (old mid new : ReplicaState V) (m : NewView) (plan : Plan) → announced me d (stamped.NewView m) ≡ Some plan → WritesChange old mid → StandsWith old.protocol.change (with_new_view m) mid.protocol.change
+        → Holds (with_plan m.view plan) (Some plan.base) mid new → HoldsEntry me d (Accepted (message.NewView m)) old new
+    announced_held old mid new m plan some writes stands holds =
         let P : Option (ℕ × Plan) → Option NewView → Type 0 = λ x n. Holds (λ s. with_planned x (with_announced n s)) (plan_base x) old new in
-        let held : P (Some (m.view, plan)) (Some m) = wrote_then_held old mid new (with_new_view m) (with_plan m.view plan) (Some plan.base) writes stands holds in
-        let brings : brought me d (Accepted (message.NewView m)) ≡ Some (m.view, plan) = rw (current, whole, sym is) refl in
-        let announces : new_view_in me d (Accepted (message.NewView m)) ≡ Some m = rw (whole, current) refl in
-        subst (λ (x : Option (ℕ × Plan)). P x (new_view_in me d (Accepted (message.NewView m)))) (sym brings) (subst (λ (n : Option NewView). P (Some (m.view, plan)) n) (sym announces) held)
+        let both : P (Some (m.view, plan)) (Some m) = wrote_then_held old mid new (with_new_view m) (with_plan m.view plan) (Some plan.base) writes stands holds in
+        let brings : brought me d (Accepted (message.NewView m)) ≡ Some (m.view, plan) = brings_as m (is_current me d m.view) m.body ∙ ap (option_map (λ (p : Plan). (m.view, p))) some in
+        let held : new_view_in me d (Accepted (message.NewView m)) ≡ Some m = holds_as m (is_current me d m.view) m.body ∙ ap (option_map (λ (p : Plan). m)) some in
+        subst (λ (x : Option (ℕ × Plan)). P x (new_view_in me d (Accepted (message.NewView m)))) (sym brings) (subst (λ (n : Option NewView). P (Some (m.view, plan)) n) (sym held) both)
 
     -- An OPEN that is kept, and of which the evidence is held where it is news.
     module _ (old shown opened : ReplicaState V) (m : Open) (first : WritesChange old shown) (shows : StandsWith old.protocol.change (with_shown me d (Some m.evidence)) shown.protocol.change)

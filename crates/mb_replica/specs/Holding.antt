@@ -1,6 +1,6 @@
 -- What a given message of a view change makes a host hold: what it writes into the table of view changes, and the certificate that it learns; then the
 -- votes of OPENs, which are counted again where a plan, an OPEN or another view came.
-use Rattle.std.specs.Prelude.{◌≡◌, ℕ, ◌+◌, ◌≤◌, Bool, true, false, nat_lt, length, Option, Some, None, option_map, if◌then◌else◌}
+use Rattle.std.specs.Prelude.{◌≡◌, ℕ, ◌+◌, ◌≤◌, Bool, true, false, nat_lt, length, Option, Some, None, IfSome, option_map, if◌then◌else◌}
 use Rattle.mb_base.specs.Limits.{plan_limit}
 use Rattle.mb_base.specs.declared.shape.Shape.{Shape}
 use Rattle.mb_base.specs.Shapes.{host_count}
@@ -8,11 +8,15 @@ use Rattle.mb_parts.specs.declared.certificates.StableCert.{StableCert}
 use Rattle.mb_msg.specs.declared.change.OpenBody.{OpenBody}
 use Rattle.mb_msg.specs.declared.change.Plan.{Plan}
 use Rattle.mb_msg.specs.declared.message.Body.{Body}
+use Rattle.mb_msg.specs.declared.stamped.Stamped.{Stamped as StampedMessage}
+use Rattle.mb_msg.specs.declared.stamped.Stamped.TheVariants as stamped
 use Rattle.mb_msg.specs.Bodies.{whole_body}
 use Rattle.mb_msg.specs.Fits.{FitsOpenParts}
+use Rattle.mb_msg.specs.Plans.{CanHash}
+use Rattle.mb_parts.specs.Fits.{FitsStable}
 use Rattle.mb_model.specs.Sending.{Progress}
 use Rattle.mb_model.specs.Histories.{Entry, History, Identity, view_of}
-use Rattle.mb_model.specs.Held.{opened_by}
+use Rattle.mb_model.specs.Held.{is_current, plan_from, opened_by}
 use Rattle.mb_model.specs.Stable.{low_of, further, plan_base}
 use Rattle.mb_change.specs.declared.opened.Opened.{Opened}
 use Rattle.mb_change.specs.Searches.{Searches as ChangeSearches, opened_in}
@@ -25,7 +29,7 @@ use Rattle.mb_refinement.specs.Positions.{Learns, AreOpens, counting, hosts_belo
 use Rattle.mb_refinement.specs.Stands.{ChangeStands}
 use Rattle.mb_replica.specs.declared.state.ReplicaState.{ReplicaState}
 use Rattle.mb_replica.specs.declared.sending.StepOutput.{StepOutput}
-use Rattle.mb_replica.specs.Represents.{tables_of, StandsAt}
+use Rattle.mb_replica.specs.Represents.{Represents, tables_of, StandsAt}
 use Rattle.mb_replica.specs.Between.{IsSame}
 
 -- what is left of snapshots and parts where a certificate is learnt, if any
@@ -60,6 +64,19 @@ module _ {V : Type 0} where
   -- All that an entry writes there is written, and the base of the plan that it brings is learnt.
   abbrev pub HoldsEntry : Identity V → History → Entry → ReplicaState V → ReplicaState V → Type 0
   HoldsEntry me d e = Holds (written me d e) (plan_base (brought me d e))
+
+-- ---- the plan that a given message announces
+
+-- that of the members of a NEW_VIEW that is current and came whole
+abbrev pub announced : {S : Type 0} → Identity S → History → StampedMessage → Option Plan
+announced me d (stamped.NewView m) = if is_current me d m.view then option_map (λ b. plan_from me b.changes) (whole_body m.body) else None
+announced me d m = None
+
+-- It is this plan, which may be held.
+pub record Announces {V : Type 0} (r : ReplicaState V) (m : StampedMessage) (plan : Option Plan) : Type 0 where
+  pub hashed : IfSome plan CanHash
+  pub base : IfSome plan (λ p. FitsStable r.protocol.shape p.base)
+  pub is : (me : Identity V) (d : History) → Represents me r d → plan ≡ announced me d m
 
 -- ---- the body of an OPEN
 

@@ -6,7 +6,7 @@ ghost use Rattle.mb_msg.specs.AsStamped.{stamped_digest};
 ghost use Rattle.mb_replica.specs.Told.{KnowsBody};
 
 use mb_base::{Digest, NoMemory, Shape, Ui};
-use mb_msg::{Mark, Outcome, Stamped};
+use mb_msg::{Mark, Outcome, Plan, Stamped};
 use std::alloc::Global;
 
 /// A given stamped message.
@@ -19,11 +19,35 @@ pub(crate) struct Arrival {
     pub(crate) body: Digest,
 }
 
-/// A given stamped message, and why it is refused, where it is.
+/// What is found of a given stamped message.
+#[derive(Drop)]
+pub(crate) struct Finding {
+    /// Why it is refused, where it is.
+    pub(crate) refusal: Option<Outcome>,
+    /// The plan that it announces, where it is not refused: that of the members of a whole NEW_VIEW of a current view.
+    pub(crate) plan: Option<Plan>,
+}
+
+/// A given stamped message, and what was found of it.
 #[derive(Drop)]
 pub(crate) struct Checked {
     pub(crate) arrival: Arrival,
-    pub(crate) refusal: Option<Outcome>,
+    pub(crate) finding: Finding,
+}
+
+impl Finding {
+    ghost use Rattle.std.specs.Prelude.{◌≡◌, None};
+
+    /// That of a message that announces no plan.
+    pub(crate) fn without_plan(refusal: Option<Outcome>) -> Finding
+        ensures refusal { result.refusal ≡ refusal }
+        ensures plan { result.plan ≡ None }
+    {
+        Finding {
+            refusal,
+            plan: None,
+        }
+    }
 }
 
 impl Arrival {
@@ -59,19 +83,19 @@ impl Arrival {
         }
     }
 
-    /// This message, and why it is refused, where it is. Where memory ran out, it is dropped.
-    pub(crate) fn with_refusal(
+    /// This message, and what was found of it. Where memory ran out, it is dropped.
+    pub(crate) fn with_finding(
         self,
-        refusal: Result<Option<Outcome>, NoMemory>,
+        finding: Result<Finding, NoMemory>,
     ) -> Result<Checked, NoMemory>
         ensures arrival { IfOk result (λ c. c.arrival ≡ self) }
-        ensures refusal { IfOk result (λ c. refusal ≡ Ok c.refusal) }
-        ensures error { IfErr result (λ e. refusal ≡ Err e) }
+        ensures finding { IfOk result (λ c. finding ≡ Ok c.finding) }
+        ensures error { IfErr result (λ e. finding ≡ Err e) }
     {
-        match refusal {
-            Ok(refusal) => Ok(Checked {
+        match finding {
+            Ok(finding) => Ok(Checked {
                 arrival: self,
-                refusal,
+                finding,
             }),
             Err(cause) => {
                 drop(self);

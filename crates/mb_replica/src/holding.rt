@@ -1,6 +1,5 @@
 //! Evidence and plans that come to be held.
 
-use crate::plan_digests::digested_plan;
 use crate::state::ReplicaState;
 use mb_base::{Duplicate, NoMemory, View};
 use mb_msg::{Evidence, Plan};
@@ -22,7 +21,7 @@ impl<V: Service + Drop> ReplicaState<V> {
     ghost use Rattle.mb_replica.specs.Holding.{Holds};
 
     /// The view of the held evidence, 0 where there is none.
-    fn evidence_view(&self) -> View
+    pub(crate) fn evidence_view(&self) -> View
         ensures { (me : Identity V) (d : History) → Represents me self.now d → result ≡ evidence_view (evidence_of me d) }
     {
         match self.protocol.change.evidence() {
@@ -74,15 +73,14 @@ impl<V: Service + Drop> ReplicaState<V> {
             && self.protocol.change.plan_at(view).is_none()
     }
 
-    /// A plan is held, whose batches keep their digests, and the certificate of its base learnt.
+    /// A plan is held, and the certificate of its base learnt.
     pub fn hold_plan(&mut self, alloc: Global, view: View, plan: Plan) -> Result<(), NoMemory>
         requires hashed { CanHash plan }
         requires base { FitsStable self.old.protocol.shape plan.base }
         ensures { OnOk result (Holds (with_plan view plan) (Some plan.base) self.old self.new) }
     {
         let base = plan.base.duplicate(alloc)?;
-        let kept = digested_plan(plan);
-        self.protocol.change.hold_plan(view, kept);
+        self.protocol.change.hold_plan(view, plan);
         self.learn(base);
         Ok(())
     }

@@ -1,8 +1,9 @@
 //! NEW_VIEW: the primary of a view announces the plan of f+1 VIEW_CHANGEs.
 
+use crate::arrival::Finding;
 use crate::state::ReplicaState;
 use mb_base::{Digest, NoMemory};
-use mb_msg::{Body, NewView, Outcome, Plan, ViewChange};
+use mb_msg::{NewView, Outcome, Plan, ViewChange};
 use mb_plan::{NewViewFault, PlanFault, check_new_view, plan_of};
 use mb_service::Service;
 use std::alloc::Global;
@@ -28,30 +29,32 @@ impl<V: Service + Drop> ReplicaState<V> {
     ghost use Rattle.mb_plan.specs.Planned.{are_quorum};
     ghost use Rattle.std.specs.Option.{IfSome};
     ghost use Rattle.mb_parts.specs.Fits.{FitsStable};
-    ghost use Rattle.mb_replica.specs.Holding.{HoldsEntry};
+    ghost use Rattle.mb_replica.specs.Holding.{Announces, HoldsEntry};
     ghost use Rattle.mb_msg.specs.declared.message.Message.TheVariants as message;
 
     /// Its members one by one, then its plan, where it is whole and current.
-    pub(crate) fn new_view_refusal(
-        &self,
-        alloc: Global,
-        m: &NewView,
-    ) -> Result<Option<Outcome>, NoMemory>
+    pub(crate) fn new_view_finding(&self, alloc: Global, m: &NewView) -> Result<Finding, NoMemory>
         requires { FitsNewView self.now.protocol.shape m.now }
-        ensures { (me : Identity V) (d : History) → Represents me self.now d → IfOk result (λ o. o ≡ new_view_refusal me d m.now) }
+        ensures refusal { (me : Identity V) (d : History) → Represents me self.now d → IfOk result (λ f. f.refusal ≡ new_view_refusal me d m.now) }
+        ensures plan { IfOk result (λ f. f.refusal ≡ None → Announces self.now (stamped.NewView m.now) f.plan) }
     {
         if !self.is_current(m.view) {
-            return Ok(None);
+            return Ok(Finding::without_plan(None));
         }
-        match check_new_view(alloc, &self.protocol.shape, &self.protocol.usig, m) {
-            Ok(_plan) => Ok(None),
-            Err(NewViewFault::Unusable { index, reason }) => Ok(Some(Outcome::Unusable {
-                index: u16::from(index),
-                reason,
-            })),
-            Err(NewViewFault::OtherPlan) => Ok(Some(OTHER_PLAN)),
+        let known = self.planned(self.evidence_view());
+        match check_new_view(alloc, &self.protocol.shape, &self.protocol.usig, known, m) {
+            Ok(plan) => Ok(Finding {
+                refusal: None,
+                plan: Some(plan),
+            }),
+            Err(NewViewFault::Unusable { index, reason }) => {
+                let index = u16::from(index);
+                let refusal = Outcome::Unusable { index, reason };
+                Ok(Finding::without_plan(Some(refusal)))
+            }
+            Err(NewViewFault::OtherPlan) => Ok(Finding::without_plan(Some(OTHER_PLAN))),
             // It came as the digest of its body.
-            Err(NewViewFault::Few) => Ok(None),
+            Err(NewViewFault::Few) => Ok(Finding::without_plan(None)),
             Err(NewViewFault::NoMemory) => Err(NoMemory),
         }
     }
@@ -62,38 +65,39 @@ impl<V: Service + Drop> ReplicaState<V> {
         alloc: Global,
         m: NewView,
         digest: Digest,
+        plan: Option<Plan>,
     ) -> Result<(), NoMemory>
-        requires fits { FitsNewView self.old.protocol.shape m }
         requires digest { digest ≡ stamped_digest (stamped.NewView m) }
+        requires plan { Announces self.old (stamped.NewView m) plan }
         ensures { (me : Identity V) (d : History) → Represents me self.old d → stamped_refusal me d (stamped.NewView m) ≡ None → OnOk result (AwaitsGate me self.old self.new (stamped.NewView m) d) }
     {
         let here = self.view();
-        self.hold_announced(alloc, m, digest)?;
+        self.hold_announced(alloc, m, digest, plan)?;
         self.count_opens(here);
         Ok(())
     }
 
-    /// A whole NEW_VIEW of a current view is held, with the plan of its members.
-    fn hold_announced(&mut self, alloc: Global, m: NewView, digest: Digest) -> Result<(), NoMemory>
-        requires fits { FitsNewView self.old.protocol.shape m }
+    /// A NEW_VIEW that announces a plan is held, and the plan.
+    fn hold_announced(
+        &mut self,
+        alloc: Global,
+        m: NewView,
+        digest: Digest,
+        plan: Option<Plan>,
+    ) -> Result<(), NoMemory>
         requires digest { digest ≡ stamped_digest (stamped.NewView m) }
+        requires plan { Announces self.old (stamped.NewView m) plan }
         ensures { (me : Identity V) (d : History) → Represents me self.old d → OnOk result (HoldsEntry me d (Accepted (message.NewView m)) self.old self.new) }
     {
-        if !self.is_current(m.view) {
-            return Ok(());
-        }
-        let Body::Whole(body) = &m.body else {
+        let Some(plan) = plan else {
             return Ok(());
         };
         let view = m.view;
-        let Some(plan) = self.plan_from(alloc, body.changes.as_slice())? else {
-            return Ok(());
-        };
         self.protocol.change.hold_new_view(m, digest);
         self.hold_plan(alloc, view, plan)
     }
 
-    /// The plan of f+1 VIEW_CHANGEs of different hosts.
+    /// The plan of f+1 VIEW_CHANGEs of different hosts. Its batches keep their digests.
     pub fn plan_from(&self, alloc: Global, changes: &[ViewChange]) -> Result<Option<Plan>, NoMemory>
         requires { AllByRecursion (FitsMember self.now.protocol.shape) changes.now }
         ensures fits { IfOk result (λ p. IfSome p (λ plan. CanHash plan × FitsStable self.now.protocol.shape plan.base)) }

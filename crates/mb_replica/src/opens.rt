@@ -30,7 +30,7 @@ impl<V: Service + Drop> ReplicaState<V> {
     // ---- its digests
 
     /// The batches of the plan of a view, none where it is not held.
-    fn planned(&self, view: View) -> &[Batch] {
+    pub(crate) fn planned(&self, view: View) -> &[Batch] {
         match self.protocol.change.plan_at(view) {
             Some(held) => held.plan().batches.as_slice(),
             None => &[],

@@ -4,53 +4,11 @@ ghost use Rattle.std.specs.Prelude.{◌≡◌, IfOk, IfSome};
 ghost use Rattle.std.specs.List.{AllByRecursion};
 ghost use Rattle.mb_parts.specs.Bares.{batch_digest};
 ghost use Rattle.mb_parts.specs.Fits.{CanDigest};
-ghost use Rattle.mb_msg.specs.Plans.{CanHash};
 
 use mb_base::{Digest, Items, NoMemory};
-use mb_msg::{Batch, Plan};
+use mb_msg::Batch;
+use mb_plan::kept_by;
 use std::alloc::Global;
-
-/// These batches, each of which keeps its digest.
-fn digested(batches: Items<Batch>) -> Items<Batch>
-    requires { AllByRecursion CanDigest batches }
-    ensures { result ≡ batches }
-{
-    let mut kept = batches.into_vec();
-    for batch in kept.iter_mut() {
-        batch.keep_digest();
-    }
-    Items::from_vec(kept)
-}
-
-/// This plan, each of whose batches keeps its digest.
-pub(crate) fn digested_plan(plan: Plan) -> Plan
-    requires { CanHash plan }
-    ensures { result ≡ plan }
-{
-    let Plan { base, batches } = plan;
-    Plan {
-        base,
-        batches: digested(batches),
-    }
-}
-
-/// The digest of a batch, where another one is the same and keeps it.
-fn kept_by_same(other: &Batch, batch: &Batch) -> Option<Digest>
-    ensures { IfSome result (λ digest. digest ≡ batch_digest batch.now) }
-{
-    if other == batch {
-        other.kept_digest()
-    } else {
-        None
-    }
-}
-
-/// The same of one that may be there.
-fn kept_by(other: Option<&Batch>, batch: &Batch) -> Option<Digest>
-    ensures { IfSome result (λ digest. digest ≡ batch_digest batch.now) }
-{
-    kept_by_same(other?, batch)
-}
 
 /// This batch, which keeps its digest. It is hashed where it is not known.
 fn keeping(batch: Batch, known: Option<Digest>) -> Batch

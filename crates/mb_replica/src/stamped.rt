@@ -1,9 +1,9 @@
 //! A given stamped message: why it is refused, and what it does where it is not.
 
-use crate::arrival::{Arrival, Checked};
+use crate::arrival::{Arrival, Checked, Finding};
 use crate::state::ReplicaState;
 use mb_base::{Counter, Digest, Host, NoMemory, Ui};
-use mb_msg::{Body, Commit, Mark, Outcome, Stamped};
+use mb_msg::{Body, Commit, Mark, Outcome, Plan, Stamped};
 use mb_service::Service;
 use std::alloc::Global;
 
@@ -18,9 +18,11 @@ impl<V: Service + Drop> ReplicaState<V> {
     ghost use Rattle.mb_msg.specs.declared.stamped.Stamped.TheVariants as stamped;
     ghost use Rattle.mb_msg.specs.Fits.{FitsStamped};
     ghost use Rattle.mb_model.specs.Histories.{Identity, History};
+    ghost use Rattle.mb_model.specs.GateChecks.{identifier_refusal};
     ghost use Rattle.mb_model.specs.KindChecks.{kind_refusal, stamped_refusal};
     ghost use Rattle.mb_replica.specs.Arrivals.{IsArrival};
     ghost use Rattle.mb_replica.specs.Told.{KnowsBody};
+    ghost use Rattle.mb_replica.specs.Holding.{Announces};
     ghost use Rattle.mb_gate.specs.Marks.{is_stamped_kind};
     ghost use Rattle.mb_replica.specs.Between.{AwaitsGate, IsNoCommit, LetsPass, GateFollows, GateCloses};
     ghost use Rattle.mb_msg.specs.AsStamped.{stamped_digest};
@@ -40,9 +42,9 @@ impl<V: Service + Drop> ReplicaState<V> {
         let known = self.known_body(&message, known);
         let arrival = Arrival::of(alloc, &self.protocol.shape, message, &known)?;
         let checked = self.checked(alloc, arrival)?;
-        match checked.refusal {
+        match checked.finding.refusal {
             None => {
-                self.accept(alloc, checked.arrival)?;
+                self.accept(alloc, checked.arrival, checked.finding.plan)?;
                 Ok(Outcome::Took)
             }
             Some(outcome) => {
@@ -79,23 +81,32 @@ impl<V: Service + Drop> ReplicaState<V> {
         }
     }
 
-    /// A stamped message, and why it is refused, where it is. Once its identifier has passed, a VIEW_CHANGE, a NEW_VIEW or an OPEN keeps
-    /// digests.
+    /// A stamped message, and what is found of it. Once its identifier has passed, a VIEW_CHANGE, a NEW_VIEW or an OPEN keeps digests.
     #[tactic(auto, unfolding(mb_model::specs::KindChecks::stamped_refusal))]
     fn checked(&self, alloc: Global, arrival: Arrival) -> Result<Checked, NoMemory>
         requires { IsArrival self.now.protocol.shape arrival }
         ensures arrives { IfOk result (λ c. IsArrival self.now.protocol.shape c.arrival × (c.arrival.message ≡ arrival.message)) }
-        ensures refusal { (me : Identity V) (d : History) → Represents me self.now d → IfOk result (λ c. c.refusal ≡ stamped_refusal me d c.arrival.message) }
+        ensures refusal { (me : Identity V) (d : History) → Represents me self.now d → IfOk result (λ c. c.finding.refusal ≡ stamped_refusal me d c.arrival.message) }
+        ensures plan { IfOk result (λ c. c.finding.refusal ≡ None → Announces self.now c.arrival.message c.finding.plan) }
     {
-        let refusal = self.identifier_refusal(alloc, &arrival);
-        let checked = arrival.with_refusal(refusal)?;
-        if checked.refusal.is_some() {
+        let finding = self.identifier_finding(alloc, &arrival);
+        let checked = arrival.with_finding(finding)?;
+        if checked.finding.refusal.is_some() {
             return Ok(checked);
         }
         let arrival = checked.arrival.with_digests(alloc, &self.protocol.shape)?;
         let arrival = self.with_plan_digests(alloc, arrival)?;
-        let refusal = self.kind_refusal(alloc, &arrival.message);
-        arrival.with_refusal(refusal)
+        let finding = self.kind_finding(alloc, &arrival.message);
+        arrival.with_finding(finding)
+    }
+
+    /// The same, of its identifier alone.
+    fn identifier_finding(&self, alloc: Global, arrival: &Arrival) -> Result<Finding, NoMemory>
+        requires { IsArrival self.now.protocol.shape arrival.now }
+        ensures { (me : Identity V) (d : History) → Represents me self.now d → IfOk result (λ f. f.refusal ≡ identifier_refusal me d arrival.now.message) }
+    {
+        let refusal = self.identifier_refusal(alloc, arrival)?;
+        Ok(Finding::without_plan(refusal))
     }
 
     /// A given message, of which an OPEN keeps the digests of its batches. An error is want of memory.
@@ -122,18 +133,25 @@ impl<V: Service + Drop> ReplicaState<V> {
     }
 
     /// Of an ENTER and of a JOIN the gate asks all that there is.
-    fn kind_refusal(&self, alloc: Global, message: &Stamped) -> Result<Option<Outcome>, NoMemory>
+    fn kind_finding(&self, alloc: Global, message: &Stamped) -> Result<Finding, NoMemory>
         requires { FitsStamped self.now.protocol.shape message.now }
-        ensures { (me : Identity V) (d : History) → Represents me self.now d → IfOk result (λ o. o ≡ kind_refusal me d message.now) }
+        ensures refusal { (me : Identity V) (d : History) → Represents me self.now d → IfOk result (λ f. f.refusal ≡ kind_refusal me d message.now) }
+        ensures plan { IfOk result (λ f. f.refusal ≡ None → Announces self.now message.now f.plan) }
     {
         match message {
-            Stamped::Prepare(m) => self.vote_refusal(alloc, m.view, m.pos, &m.body),
-            Stamped::Commit(m) => self.vote_refusal(alloc, m.view, m.pos, &m.body),
-            Stamped::Checkpoint(m) => Ok(self.checkpoint_refusal(m.pos)),
-            Stamped::ViewChange(m) => self.change_refusal(alloc, m),
-            Stamped::NewView(m) => self.new_view_refusal(alloc, m),
-            Stamped::Open(m) => self.open_refusal(alloc, m),
-            Stamped::Enter(_) | Stamped::Join(_) => Ok(None),
+            Stamped::Prepare(m) => {
+                let refusal = self.vote_refusal(alloc, m.view, m.pos, &m.body)?;
+                Ok(Finding::without_plan(refusal))
+            }
+            Stamped::Commit(m) => {
+                let refusal = self.vote_refusal(alloc, m.view, m.pos, &m.body)?;
+                Ok(Finding::without_plan(refusal))
+            }
+            Stamped::Checkpoint(m) => Ok(Finding::without_plan(self.checkpoint_refusal(m.pos))),
+            Stamped::ViewChange(m) => Ok(Finding::without_plan(self.change_refusal(alloc, m)?)),
+            Stamped::NewView(m) => self.new_view_finding(alloc, m),
+            Stamped::Open(m) => Ok(Finding::without_plan(self.open_refusal(alloc, m)?)),
+            Stamped::Enter(_) | Stamped::Join(_) => Ok(Finding::without_plan(None)),
         }
     }
 
@@ -167,10 +185,16 @@ impl<V: Service + Drop> ReplicaState<V> {
 
     // ---- what is accepted
 
-    /// Accepts a message that passed the checks: its sender's gate takes it, and its kind does what it does.
-    fn accept(&mut self, alloc: Global, arrival: Arrival) -> Result<(), NoMemory>
+    /// Accepts a message that passed the checks: its sender's gate takes it, and its kind does what it does. The plan is the one that it announces.
+    fn accept(
+        &mut self,
+        alloc: Global,
+        arrival: Arrival,
+        plan: Option<Plan>,
+    ) -> Result<(), NoMemory>
         requires arrives { IsArrival self.old.protocol.shape arrival }
         requires passes { LetsPass self.old arrival.message }
+        requires plan { Announces self.old arrival.message plan }
         ensures { (me : Identity V) (x : Progress) → (done : StepOutput) → Goes me x (stamped_refusal me x.history arrival.message ≡ None) (accept me arrival.message x) result self.old done self.new done }
     {
         let Arrival {
@@ -183,16 +207,23 @@ impl<V: Service + Drop> ReplicaState<V> {
             self.accept_commit(m, body, &mark);
             return Ok(());
         }
-        self.accept_kind(alloc, message, body)?;
+        self.accept_kind(alloc, message, body, plan)?;
         self.gate_follows(ui.host, &mark);
         Ok(())
     }
 
     /// What a message of a kind other than COMMIT does, but for its sender's gate.
-    fn accept_kind(&mut self, alloc: Global, message: Stamped, body: Digest) -> Result<(), NoMemory>
+    fn accept_kind(
+        &mut self,
+        alloc: Global,
+        message: Stamped,
+        body: Digest,
+        plan: Option<Plan>,
+    ) -> Result<(), NoMemory>
         requires fits { FitsStamped self.old.protocol.shape message }
         requires body { body ≡ stamped_digest message }
         requires passes { LetsPass self.old message }
+        requires plan { Announces self.old message plan }
         ensures { (me : Identity V) (d : History) → Represents me self.old d → IsNoCommit message → stamped_refusal me d message ≡ None → OnOk result (AwaitsGate me self.old self.new message d) }
     {
         match message {
@@ -203,7 +234,7 @@ impl<V: Service + Drop> ReplicaState<V> {
             Stamped::Commit(_) => Ok(()),
             Stamped::Checkpoint(m) => self.accept_checkpoint(alloc, m),
             Stamped::ViewChange(m) => self.accept_change(m),
-            Stamped::NewView(m) => self.accept_new_view(alloc, m, body),
+            Stamped::NewView(m) => self.accept_new_view(alloc, m, body, plan),
             Stamped::Enter(m) => {
                 self.accept_enter(m);
                 Ok(())

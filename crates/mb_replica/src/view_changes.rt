@@ -33,7 +33,8 @@ impl<V: Service + Drop> ReplicaState<V> {
         if !self.is_current(m.view) {
             return Ok(None);
         }
-        match usable(alloc, &self.protocol.shape, &self.protocol.usig, m) {
+        let known = self.planned(self.evidence_view());
+        match usable(alloc, &self.protocol.shape, &self.protocol.usig, known, m) {
             Ok(()) => Ok(None),
             Err(BadProof::At { index, reason }) => Ok(Some(Outcome::Unusable { index, reason })),
             Err(BadProof::NoMemory) => Err(NoMemory),

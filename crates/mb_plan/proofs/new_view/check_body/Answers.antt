@@ -35,20 +35,14 @@ check_members-requires c = record {
   places = none_found c.args.shape.now c.args.usig.now.secret 256;
 }
 
-pub digest_of_found-digest-requires : goal.digest_of_found-digest-requires
-digest_of_found-digest-requires c =
-    let s = c.args.shape.now in
-    plan_can_hash s c.args.usig.now.secret c.args.new_view.now c.args.body.now c.requires.1 c.in_ok-plan.plan
-    (c.in_ok-plan.ensures ∙ ap (λ ms. plan_of s (logs_of ms)) c.as_slice-members.ensures)
+pub plan_of_members-requires-clause-places : goal.plan_of_members-requires-clause-places
+plan_of_members-requires-clause-places c = record { shape = c.args.shape.now; secret = c.args.usig.now.secret; found = c.in_ok-check_members.ensures.places }
 
 pub announced-requires : goal.announced-requires
 announced-requires c =
     let s = c.args.shape.now in
-    let secret = c.args.usig.now.secret in (
-      plan_can_hash s secret c.args.new_view.now c.args.body.now c.requires.1 c.in_ok-plan.plan
-          (c.in_ok-plan.ensures ∙ ap (λ ms. plan_of s (logs_of ms)) c.as_slice-members.ensures),
-      c.digest_of_found-digest.ensures s secret c.in_ok-check_members.ensures.places,
-    )
+    plan_can_hash s c.args.usig.now.secret c.args.new_view.now c.args.body.now c.requires.1 c.in_ok-plan.plan
+    (c.in_ok-plan.ensures ∙ ap (λ ms. plan_of s (logs_of ms)) c.as_slice-members.ensures)
 
 pub returns : goal.returns
 returns c =

@@ -1,12 +1,8 @@
-use Rattle.std.proofs.Common.{List, length, map, sym, ap, subst, arith}
-use Rattle.mb_plan.specs.declared.logs.ShownLog.{ShownLog as LentLog}
-use Rattle.mb_plan.specs.Lent.{shown}
-use Rattle.mb_plan.proofs.PlanFits.{AreFit, by_host_fit}
+use Rattle.std.proofs.Common.{[]}
 use Rattle.mb_plan.proofs.planning.plan_of.Goals as goal
 
-pub plan_in_order-requires : goal.plan_in_order-requires
-plan_in_order-requires c =
-    let s = c.args.shape.now in (
-      omega (arith, c.are_quorum.ensures.some c.if-not-are_quorum.false, ap length c.as_slice.ensures.value, ap length c.as_slice-2.ensures.value),
-      subst (λ (l : List LentLog). AreFit s (map shown l)) (sym c.as_slice-2.ensures.value) (subst (AreFit s) (sym c.in_ok-logs.ensures) (by_host_fit s c.args.changes.now c.requires)),
-    )
+pub plan_beside-requires : goal.plan_beside-requires
+plan_beside-requires c = record {
+  fits = c.requires;
+  places = record { shape = c.args.shape.now; secret = []; found = tt };
+}

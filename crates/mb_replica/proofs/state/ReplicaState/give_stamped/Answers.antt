@@ -11,6 +11,9 @@ accept-requires-clause-passes g c =
     let h = c.requires.stands in
     record { me = h.me; history = h.history; represents = h.represents; passes = sym (c.in_ok-checked.ensures.refusal h.me h.history h.represents) ∙ c.in-None.is }
 
+pub accept-requires-clause-plan : goal.accept-requires-clause-plan
+accept-requires-clause-plan g c = c.in_ok-checked.ensures.plan c.in-None.is
+
 pub returns-in_ok-accept-in-None : goal.returns-in_ok-accept-in-None
 returns-in_ok-accept-in-None g c = λ me x done s.
     let a = c.in_ok-checked.checked.arrival in

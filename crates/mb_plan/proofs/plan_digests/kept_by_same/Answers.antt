@@ -3,7 +3,7 @@ use Rattle.std.specs.Prelude.{IfSome}
 use Rattle.mb_parts.specs.declared.batch.Batch.{Batch}
 use Rattle.mb_parts.specs.Bares.{batch_digest}
 use Rattle.mb_plan.proofs.SameBatch.{same_batch}
-use Rattle.mb_replica.proofs.plan_digests.kept_by_same.Goals as goal
+use Rattle.mb_plan.proofs.plan_digests.kept_by_same.Goals as goal
 
 -- src/plan_digests.rt
 pub returns-then-eq : goal.returns-then-eq
