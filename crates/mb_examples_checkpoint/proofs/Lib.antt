@@ -1,0 +1,9 @@
+mod Messages
+mod Histories
+mod System
+mod Steps
+mod Worlds
+mod Course
+mod Reached
+mod Strings
+mod PastCheckpoint
