@@ -6,7 +6,7 @@ use Rattle.mb_msg.specs.declared.event.Outcome.TheVariants.{Took}
 use Rattle.mb_model.specs.Histories.{Accepted, Stamped, Served, Executed, History}
 use Rattle.mb_model.specs.Sending.{to_all, to_client}
 use Rattle.mb_model.specs.Given.{Answer}
-use Rattle.mb_examples_checkpoint.proofs.Messages.{request_1, prepare_1, commit_1_1, reply_1_1, reply_0_1, request_2, prepare_2, commit_1_2, reply_1_2, reply_0_2, request_3, prepare_3, commit_1_3, reply_1_3, reply_0_3, request_4, prepare_4, commit_1_4, reply_1_4, checkpoint_1_4, reply_0_4, checkpoint_0_4, request_5, prepare_5, commit_1_5, reply_1_5, placed_1, placed_2, placed_3, placed_4, placed_5, slot_1, slot_2, slot_3, slot_4, slot_5, parts_4, list_4}
+use Rattle.mb_examples_checkpoint.proofs.Messages.{request_1, prepare_1, commit_1_1, reply_1_1, reply_0_1, request_2, prepare_2, commit_1_2, reply_1_2, reply_0_2, request_3, prepare_3, commit_1_3, reply_1_3, reply_0_3, request_4, prepare_4, commit_1_4, reply_1_4, checkpoint_1_4, reply_0_4, checkpoint_0_4, request_5, prepare_5, commit_1_5, reply_1_5, reply_0_5, request_6, prepare_6, commit_1_6, reply_1_6, reply_0_6, request_7, prepare_7, commit_1_7, reply_1_7, reply_0_7, request_8, prepare_8, commit_1_8, reply_1_8, checkpoint_1_8, reply_0_8, checkpoint_0_8, request_9, prepare_9, commit_1_9, reply_1_9, placed_1, placed_2, placed_3, placed_4, placed_5, placed_6, placed_7, placed_8, placed_9, slot_1, slot_2, slot_3, slot_4, slot_5, slot_6, slot_7, slot_8, slot_9, parts_4, list_4, parts_8, list_8}
 
 abbrev pub history_0_0 : History
 history_0_0 = []
@@ -125,3 +125,101 @@ history_1_6 = Executed slot_5 ∷ Served 5 placed_5 ∷ Stamped (stamped.Commit 
 
 abbrev pub answer_1_6 : Answer
 answer_1_6 = record { outcome = Took; left = record { history = history_1_6; sent = to_all (message.Commit commit_1_5) ∷ to_client 0 (message.Reply reply_1_5) ∷ []; executed = slot_5 ∷ []; installed = None; hashed = [] } }
+
+-- behind event 22, which gives it the COMMIT of h1 for position 5
+abbrev pub history_0_11 : History
+history_0_11 = Executed slot_5 ∷ Served 5 placed_5 ∷ Accepted (message.Commit commit_1_5) ∷ history_0_10
+
+abbrev pub answer_0_11 : Answer
+answer_0_11 = record { outcome = Took; left = record { history = history_0_11; sent = to_client 0 (message.Reply reply_0_5) ∷ []; executed = slot_5 ∷ []; installed = None; hashed = [] } }
+
+-- behind event 24, which gives it request 6
+abbrev pub history_0_12 : History
+history_0_12 = Stamped (stamped.Prepare prepare_6) ∷ Accepted (message.Request request_6) ∷ history_0_11
+
+abbrev pub answer_0_12 : Answer
+answer_0_12 = record { outcome = Took; left = record { history = history_0_12; sent = to_all (message.Prepare prepare_6) ∷ []; executed = []; installed = None; hashed = [] } }
+
+-- behind event 25, which gives it the PREPARE of h0 for position 6
+abbrev pub history_1_7 : History
+history_1_7 = Executed slot_6 ∷ Served 6 placed_6 ∷ Stamped (stamped.Commit commit_1_6) ∷ Accepted (message.Prepare prepare_6) ∷ history_1_6
+
+abbrev pub answer_1_7 : Answer
+answer_1_7 = record { outcome = Took; left = record { history = history_1_7; sent = to_all (message.Commit commit_1_6) ∷ to_client 0 (message.Reply reply_1_6) ∷ []; executed = slot_6 ∷ []; installed = None; hashed = [] } }
+
+-- behind event 26, which gives it the COMMIT of h1 for position 6
+abbrev pub history_0_13 : History
+history_0_13 = Executed slot_6 ∷ Served 6 placed_6 ∷ Accepted (message.Commit commit_1_6) ∷ history_0_12
+
+abbrev pub answer_0_13 : Answer
+answer_0_13 = record { outcome = Took; left = record { history = history_0_13; sent = to_client 0 (message.Reply reply_0_6) ∷ []; executed = slot_6 ∷ []; installed = None; hashed = [] } }
+
+-- behind event 28, which gives it request 7
+abbrev pub history_0_14 : History
+history_0_14 = Stamped (stamped.Prepare prepare_7) ∷ Accepted (message.Request request_7) ∷ history_0_13
+
+abbrev pub answer_0_14 : Answer
+answer_0_14 = record { outcome = Took; left = record { history = history_0_14; sent = to_all (message.Prepare prepare_7) ∷ []; executed = []; installed = None; hashed = [] } }
+
+-- behind event 29, which gives it the PREPARE of h0 for position 7
+abbrev pub history_1_8 : History
+history_1_8 = Executed slot_7 ∷ Served 7 placed_7 ∷ Stamped (stamped.Commit commit_1_7) ∷ Accepted (message.Prepare prepare_7) ∷ history_1_7
+
+abbrev pub answer_1_8 : Answer
+answer_1_8 = record { outcome = Took; left = record { history = history_1_8; sent = to_all (message.Commit commit_1_7) ∷ to_client 0 (message.Reply reply_1_7) ∷ []; executed = slot_7 ∷ []; installed = None; hashed = [] } }
+
+-- behind event 30, which gives it the COMMIT of h1 for position 7
+abbrev pub history_0_15 : History
+history_0_15 = Executed slot_7 ∷ Served 7 placed_7 ∷ Accepted (message.Commit commit_1_7) ∷ history_0_14
+
+abbrev pub answer_0_15 : Answer
+answer_0_15 = record { outcome = Took; left = record { history = history_0_15; sent = to_client 0 (message.Reply reply_0_7) ∷ []; executed = slot_7 ∷ []; installed = None; hashed = [] } }
+
+-- behind event 32, which gives it request 8
+abbrev pub history_0_16 : History
+history_0_16 = Stamped (stamped.Prepare prepare_8) ∷ Accepted (message.Request request_8) ∷ history_0_15
+
+abbrev pub answer_0_16 : Answer
+answer_0_16 = record { outcome = Took; left = record { history = history_0_16; sent = to_all (message.Prepare prepare_8) ∷ []; executed = []; installed = None; hashed = [] } }
+
+-- behind event 33, which gives it the PREPARE of h0 for position 8
+abbrev pub history_1_9 : History
+history_1_9 = Stamped (stamped.Checkpoint checkpoint_1_8) ∷ Executed slot_8 ∷ Served 8 placed_8 ∷ Stamped (stamped.Commit commit_1_8) ∷ Accepted (message.Prepare prepare_8) ∷ history_1_8
+
+abbrev pub answer_1_9 : Answer
+answer_1_9 = record { outcome = Took; left = record { history = history_1_9; sent = to_all (message.Commit commit_1_8) ∷ to_client 0 (message.Reply reply_1_8) ∷ to_all (message.Checkpoint checkpoint_1_8) ∷ []; executed = slot_8 ∷ []; installed = None; hashed = parts_8 ++ list_8 ∷ [] } }
+
+-- behind event 34, which gives it the COMMIT of h1 for position 8
+abbrev pub history_0_17 : History
+history_0_17 = Stamped (stamped.Checkpoint checkpoint_0_8) ∷ Executed slot_8 ∷ Served 8 placed_8 ∷ Accepted (message.Commit commit_1_8) ∷ history_0_16
+
+abbrev pub answer_0_17 : Answer
+answer_0_17 = record { outcome = Took; left = record { history = history_0_17; sent = to_client 0 (message.Reply reply_0_8) ∷ to_all (message.Checkpoint checkpoint_0_8) ∷ []; executed = slot_8 ∷ []; installed = None; hashed = parts_8 ++ list_8 ∷ [] } }
+
+-- behind event 35, which gives it the CHECKPOINT of h0
+abbrev pub history_1_10 : History
+history_1_10 = Accepted (message.Checkpoint checkpoint_0_8) ∷ history_1_9
+
+abbrev pub answer_1_10 : Answer
+answer_1_10 = record { outcome = Took; left = record { history = history_1_10; sent = []; executed = []; installed = None; hashed = [] } }
+
+-- behind event 36, which gives it the CHECKPOINT of h1
+abbrev pub history_0_18 : History
+history_0_18 = Accepted (message.Checkpoint checkpoint_1_8) ∷ history_0_17
+
+abbrev pub answer_0_18 : Answer
+answer_0_18 = record { outcome = Took; left = record { history = history_0_18; sent = []; executed = []; installed = None; hashed = [] } }
+
+-- behind event 38, which gives it request 9
+abbrev pub history_0_19 : History
+history_0_19 = Stamped (stamped.Prepare prepare_9) ∷ Accepted (message.Request request_9) ∷ history_0_18
+
+abbrev pub answer_0_19 : Answer
+answer_0_19 = record { outcome = Took; left = record { history = history_0_19; sent = to_all (message.Prepare prepare_9) ∷ []; executed = []; installed = None; hashed = [] } }
+
+-- behind event 39, which gives it the PREPARE of h0 for position 9
+abbrev pub history_1_11 : History
+history_1_11 = Executed slot_9 ∷ Served 9 placed_9 ∷ Stamped (stamped.Commit commit_1_9) ∷ Accepted (message.Prepare prepare_9) ∷ history_1_10
+
+abbrev pub answer_1_11 : Answer
+answer_1_11 = record { outcome = Took; left = record { history = history_1_11; sent = to_all (message.Commit commit_1_9) ∷ to_client 0 (message.Reply reply_1_9) ∷ []; executed = slot_9 ∷ []; installed = None; hashed = [] } }

@@ -1,7 +1,8 @@
 mod Messages
 mod Histories
 mod System
-mod Steps
+mod FirstSteps
+mod LaterSteps
 mod Worlds
 mod Course
 mod Reached

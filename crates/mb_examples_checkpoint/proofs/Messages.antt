@@ -1,10 +1,12 @@
 -- What the client and the hosts say in the run, with the tags and certificates that they have. These were made outside these definitions: the prover makes them
 -- anew in `Steps` and `Course`.
-use Rattle.std.specs.Prelude.{List, [], ◌∷◌, ◌++◌, codes, true, replicate, None}
+use Rattle.std.specs.Prelude.{List, [], ◌∷◌, ◌++◌, codes, true, replicate, Some, None}
 use Rattle.std.specs.List.{flat_map}
 use Rattle.mb_base.specs.Shapes.{Bytes}
 use Rattle.mb_parts.specs.declared.request.Request.{Request}
 use Rattle.mb_parts.specs.declared.batch.Batch.{Batch}
+use Rattle.mb_parts.specs.declared.floor.Floor.{Floor}
+use Rattle.mb_parts.specs.declared.floor.Phase.TheVariants as phase
 use Rattle.mb_msg.specs.declared.event.Placed.{Placed}
 use Rattle.mb_msg.specs.declared.event.Slot.{Slot}
 use Rattle.mb_msg.specs.declared.message.Body.TheVariants.{Whole}
@@ -177,3 +179,141 @@ commit_1_5 = record { view = 0; pos = 5; counter = 6; cert = prepare_5.ui.cert; 
 
 abbrev pub reply_1_5 : Reply
 reply_1_5 = record { host = 1; client = 0; seq = 5; pos = 5; result = 0 ∷ []; tag = unhex (codes "48a39f5cb675892bd262c4e27c6b07ea09a8b21ee78b6c25e6a17395cb75feb2") }
+
+abbrev pub reply_0_5 : Reply
+reply_0_5 = record { host = 0; client = 0; seq = 5; pos = 5; result = 0 ∷ []; tag = unhex (codes "9b38a23bc8aaadcc9577a7753b92112f3da3f78cc4c09b88e0fc688ab6411532") }
+
+-- ---- the client puts 6 under the key a
+
+abbrev pub put_6 : Bytes
+put_6 = 1 ∷ 1 ∷ 97 ∷ 0 ∷ 1 ∷ 54 ∷ []
+
+abbrev pub request_6 : Request
+request_6 = record { client = 0; seq = 6; op = put_6; tag = unhex (codes "be780d0968c320b825f1cc1e1a3d4d7c094c1cd50105b3ab1ae15ef7355b2e27") }
+
+abbrev batch_6 : Batch
+batch_6 = record { requests = request_6 ∷ [] }
+
+abbrev pub placed_6 : Placed
+placed_6 = record { request = request_6; fresh = true }
+
+abbrev pub slot_6 : Slot
+slot_6 = record { pos = 6; requests = placed_6 ∷ [] }
+
+abbrev pub prepare_6 : Prepare
+prepare_6 = record { view = 0; pos = 6; body = Whole batch_6; ui = record { host = 0; counter = 7; cert = unhex (codes "9856ecaa1a62e92106764108b3bb95a436a1df0c60457481b73706621a7e61f7") } }
+
+abbrev pub commit_1_6 : Commit
+commit_1_6 = record { view = 0; pos = 6; counter = 7; cert = prepare_6.ui.cert; body = Whole batch_6; ui = record { host = 1; counter = 7; cert = unhex (codes "dcc7f3513a2733c136f1d6cc3f1cc21e0fd267018e15252cd6b9e7d4fa01d658") } }
+
+abbrev pub reply_1_6 : Reply
+reply_1_6 = record { host = 1; client = 0; seq = 6; pos = 6; result = 0 ∷ []; tag = unhex (codes "37305a2e77364465a59c3a15a695bca7e847b917ba892dfae864fca5ca63ba5e") }
+
+abbrev pub reply_0_6 : Reply
+reply_0_6 = record { host = 0; client = 0; seq = 6; pos = 6; result = 0 ∷ []; tag = unhex (codes "59f648777677f8bc097b90e97607ee88704591413c2e95660d90e1f6f0f8900c") }
+
+-- ---- the client puts 7 under the key a
+
+abbrev pub put_7 : Bytes
+put_7 = 1 ∷ 1 ∷ 97 ∷ 0 ∷ 1 ∷ 55 ∷ []
+
+abbrev pub request_7 : Request
+request_7 = record { client = 0; seq = 7; op = put_7; tag = unhex (codes "20633af270b9a3ba50861b904937c0519afcd20c152c902713976c5f2462bdb3") }
+
+abbrev batch_7 : Batch
+batch_7 = record { requests = request_7 ∷ [] }
+
+abbrev pub placed_7 : Placed
+placed_7 = record { request = request_7; fresh = true }
+
+abbrev pub slot_7 : Slot
+slot_7 = record { pos = 7; requests = placed_7 ∷ [] }
+
+abbrev pub prepare_7 : Prepare
+prepare_7 = record { view = 0; pos = 7; body = Whole batch_7; ui = record { host = 0; counter = 8; cert = unhex (codes "f77c3fdebe5d47d6a969eb88d4b99f8eee91ce99e7330117fd9646ada09d59a0") } }
+
+abbrev pub commit_1_7 : Commit
+commit_1_7 = record { view = 0; pos = 7; counter = 8; cert = prepare_7.ui.cert; body = Whole batch_7; ui = record { host = 1; counter = 8; cert = unhex (codes "684e61bade3a9807ed1a9921c436658cfde7f619e1b0db0ec4a16b7e32ad5807") } }
+
+abbrev pub reply_1_7 : Reply
+reply_1_7 = record { host = 1; client = 0; seq = 7; pos = 7; result = 0 ∷ []; tag = unhex (codes "b8734314fe99ec48abbcef5ef509b4b61643ae42cd5b63351f8d7a378e371970") }
+
+abbrev pub reply_0_7 : Reply
+reply_0_7 = record { host = 0; client = 0; seq = 7; pos = 7; result = 0 ∷ []; tag = unhex (codes "4cdf92d359020691c05d779fc4e811b4ca47e87605c59c146360f079c844bcbf") }
+
+-- ---- the client puts 8 under the key a
+
+abbrev pub put_8 : Bytes
+put_8 = 1 ∷ 1 ∷ 97 ∷ 0 ∷ 1 ∷ 56 ∷ []
+
+abbrev pub request_8 : Request
+request_8 = record { client = 0; seq = 8; op = put_8; tag = unhex (codes "8dcbc4267748a5809be1d3e2b470732ac5e1c2d96459f23fee7b4a1c45ed7a16") }
+
+abbrev batch_8 : Batch
+batch_8 = record { requests = request_8 ∷ [] }
+
+abbrev pub placed_8 : Placed
+placed_8 = record { request = request_8; fresh = true }
+
+abbrev pub slot_8 : Slot
+slot_8 = record { pos = 8; requests = placed_8 ∷ [] }
+
+abbrev pub prepare_8 : Prepare
+prepare_8 = record { view = 0; pos = 8; body = Whole batch_8; ui = record { host = 0; counter = 9; cert = unhex (codes "8b72dd63cd48b75b5251e293f226763583e979076347a3c8e41e2fb0a9a1c830") } }
+
+abbrev pub commit_1_8 : Commit
+commit_1_8 = record { view = 0; pos = 8; counter = 9; cert = prepare_8.ui.cert; body = Whole batch_8; ui = record { host = 1; counter = 9; cert = unhex (codes "12c5f829ef1b2c0cc603f6d2f9f3f42cf5e7691773becb3a89419a7c18716a4c") } }
+
+abbrev pub reply_1_8 : Reply
+reply_1_8 = record { host = 1; client = 0; seq = 8; pos = 8; result = 0 ∷ []; tag = unhex (codes "0c14d7e63256ded4fe792f92f8e07f662914f816be088cb15aa7f4e3addb9573") }
+
+-- ---- the state behind position 8: 64 parts, of which that of number 10 has the key, and the client table
+
+abbrev pub parts_8 : List Bytes
+parts_8 = replicate 10 (0 ∷ 0 ∷ []) ++ (0 ∷ 1 ∷ 1 ∷ 97 ∷ 0 ∷ 1 ∷ 56 ∷ []) ∷ replicate 53 (0 ∷ 0 ∷ []) ++ (0 ∷ 0 ∷ 0 ∷ 0 ∷ 0 ∷ 0 ∷ 0 ∷ 8 ∷ 0 ∷ 0 ∷ 0 ∷ 0 ∷ 0 ∷ 0 ∷ 0 ∷ 8 ∷ 0 ∷ 1 ∷ 0 ∷ []) ∷ []
+
+-- what its digest is of: those of the parts, and the position
+abbrev pub list_8 : Bytes
+list_8 = flat_map (λ d. d) (replicate 10 of_no_keys ++ unhex (codes "2ddded9e9a4dd09efe0671ec4f4ea4efd5bd52a817964e1b57e48ab49f382ab3") ∷ replicate 53 of_no_keys ++ unhex (codes "cca98dcbb486f03310c96c0f418566d770e580a3b78462a665d98dd77afa4c6d") ∷ []) ++ unhex (codes "0000000000000008")
+
+abbrev pub state_8 : Bytes
+state_8 = unhex (codes "cc2b69651f43046fa626eef82f0199cd86d784c1e10b1c5c985685a813faa8db")
+
+-- where the gates for h0 and h1 stand behind their CHECKPOINTs at position 4
+abbrev pub floor_4 : Floor
+floor_4 = record { counter = 5; view = 0; phase = phase.Open; last = 4; top = 4; point = 4 }
+
+abbrev pub checkpoint_1_8 : Checkpoint
+checkpoint_1_8 = record { pos = 8; state = state_8; body = Whole (record { floors = Some floor_4 ∷ Some floor_4 ∷ None ∷ [] }); ui = record { host = 1; counter = 10; cert = unhex (codes "15d347b2d60d72d79c3f773311cc8779f3efdf470c8fb3242c8db5dbd83d9999") } }
+
+abbrev pub reply_0_8 : Reply
+reply_0_8 = record { host = 0; client = 0; seq = 8; pos = 8; result = 0 ∷ []; tag = unhex (codes "7a38d8e14d9bd5cf3467191b551100904dec4a541b02662d3645e536b324f36d") }
+
+abbrev pub checkpoint_0_8 : Checkpoint
+checkpoint_0_8 = record { pos = 8; state = state_8; body = Whole (record { floors = Some floor_4 ∷ Some floor_4 ∷ None ∷ [] }); ui = record { host = 0; counter = 10; cert = unhex (codes "15451de8512cd83b2b4b1d732936c07d566f20951e3be404af06a8708a140f39") } }
+
+-- ---- the client puts 9 under the key a
+
+abbrev pub put_9 : Bytes
+put_9 = 1 ∷ 1 ∷ 97 ∷ 0 ∷ 1 ∷ 57 ∷ []
+
+abbrev pub request_9 : Request
+request_9 = record { client = 0; seq = 9; op = put_9; tag = unhex (codes "3f65b93e5c7b052ecca160f767d17156643a8a637f69c6d5fd3dddb7467df8bf") }
+
+abbrev batch_9 : Batch
+batch_9 = record { requests = request_9 ∷ [] }
+
+abbrev pub placed_9 : Placed
+placed_9 = record { request = request_9; fresh = true }
+
+abbrev pub slot_9 : Slot
+slot_9 = record { pos = 9; requests = placed_9 ∷ [] }
+
+abbrev pub prepare_9 : Prepare
+prepare_9 = record { view = 0; pos = 9; body = Whole batch_9; ui = record { host = 0; counter = 11; cert = unhex (codes "6c651637709a43e6e6e1574784f111f588b79425764a2244cbf864773c523dc0") } }
+
+abbrev pub commit_1_9 : Commit
+commit_1_9 = record { view = 0; pos = 9; counter = 11; cert = prepare_9.ui.cert; body = Whole batch_9; ui = record { host = 1; counter = 11; cert = unhex (codes "a94971333ca9f11c14fe9935c8459facc7d19945531bc8b2d2523cfedac621d5") } }
+
+abbrev pub reply_1_9 : Reply
+reply_1_9 = record { host = 1; client = 0; seq = 9; pos = 9; result = 0 ∷ []; tag = unhex (codes "44da490893ad26f8046e19802ad406490071c762ff2229b5f6d64752adb28db0") }

@@ -1,6 +1,6 @@
--- A run of the program's own system past a checkpoint, which meets each premise of the promise about all hosts; so the promise is made of it. A client puts
--- 1, 2, 3 and 4 under one key; h0 orders and h1 commits each, and both execute it. Behind the fourth both stamp a CHECKPOINT, and are given that of the other:
--- so position 4 is stable. A fifth PUT is ordered and executed by h1 alone.
+-- A run of the program's own system past two checkpoints, which meets each premise of the promise about all hosts; so the promise is made of it. A client puts
+-- 1 to 8 under one key, one after the other; h0 orders and h1 commits each, and both execute it. Behind the fourth and the eighth both stamp a CHECKPOINT, and are
+-- given that of the other: so position 8 is stable, and both cut their logs behind the first CHECKPOINT. A ninth PUT is executed by h1 alone.
 use Rattle.std.proofs.Common.{◌≡◌, ◌≤◌, ◌<◌, ℕ, zero, suc, Bool, true, false, List, [], ◌∷◌, length, map, refl, sym, ap, subst, ◌∙◌, arith, Some}
 use Rattle.std.specs.Prelude.{slice_get, ◌&&◌, nat_lt, nat_le}
 use Rattle.std.proofs.lemmas.Bool.{and_parts, ltb-true, leb-true}
@@ -22,10 +22,10 @@ use Rattle.mb_promise.specs.Headline.{Promises}
 use Rattle.mb_promise.specs.Safety.{after_line}
 use Rattle.mb_top.specs.Systems.{system_of, world}
 use Rattle.mb_top.proofs.Promised.{hold_at_each_event}
-use Rattle.mb_examples_checkpoint.proofs.Messages.{slot_1, slot_2, slot_3, slot_4, slot_5}
+use Rattle.mb_examples_checkpoint.proofs.Messages.{slot_1, slot_2, slot_3, slot_4, slot_5, slot_6, slot_7, slot_8, slot_9}
 use Rattle.mb_examples_checkpoint.proofs.System.{events, one_client, past_checkpoint, system}
-use Rattle.mb_examples_checkpoint.proofs.Worlds.{world_21}
-use Rattle.mb_examples_checkpoint.proofs.Reached.{reached_21}
+use Rattle.mb_examples_checkpoint.proofs.Worlds.{world_39}
+use Rattle.mb_examples_checkpoint.proofs.Reached.{reached_39}
 use Rattle.mb_examples_checkpoint.proofs.Strings.{hashes_are_apart}
 
 -- ---- the schedule is one
@@ -53,24 +53,24 @@ is_schedule =
 
 -- behind all events
 abbrev last_world : World
-last_world = world past_checkpoint 21
+last_world = world past_checkpoint 39
 
-in_last : {A : Type 0} (f : World → A) → f last_world ≡ f world_21
-in_last f = ap f reached_21.is
+in_last : {A : Type 0} (f : World → A) → f last_world ≡ f world_39
+in_last f = ap f reached_39.is
 
 pub promised : Promises (system_of past_checkpoint) last_world
 promised =
-    let all : 21 ≤ 21 = omega arith in
-    hold_at_each_event past_checkpoint is_schedule 21 all reached_21.free (subst (λ (w : World). HashesApart w.hashed) (sym reached_21.is) hashes_are_apart)
+    let all : 39 ≤ 39 = omega arith in
+    hold_at_each_event past_checkpoint is_schedule 39 all reached_39.free (subst (λ (w : World). HashesApart w.hashed) (sym reached_39.is) hashes_are_apart)
 
 -- ---- what it says there
 
-of_line : world_21.line ≡ slot_1 ∷ slot_2 ∷ slot_3 ∷ slot_4 ∷ slot_5 ∷ []
+of_line : world_39.line ≡ slot_1 ∷ slot_2 ∷ slot_3 ∷ slot_4 ∷ slot_5 ∷ slot_6 ∷ slot_7 ∷ slot_8 ∷ slot_9 ∷ []
 unfolding worlds_on_literals
 of_line = refl
 
 -- The one list has a slot for each PUT.
-pub line_is : last_world.line ≡ slot_1 ∷ slot_2 ∷ slot_3 ∷ slot_4 ∷ slot_5 ∷ []
+pub line_is : last_world.line ≡ slot_1 ∷ slot_2 ∷ slot_3 ∷ slot_4 ∷ slot_5 ∷ slot_6 ∷ slot_7 ∷ slot_8 ∷ slot_9 ∷ []
 line_is = in_last (λ (w : World). w.line) ∙ of_line
 
 -- how far a host executed, what is stable for it, the counter behind which its log begins, and the pairs of its state
@@ -93,16 +93,16 @@ hosts = 0 ∷ 1 ∷ 2 ∷ []
 
 abbrev pub places : List Place
 places =
-    record { executed = 4; stable = 4; log = 0; pairs = (97 ∷ [], 52 ∷ []) ∷ [] } ∷
-    record { executed = 5; stable = 4; log = 0; pairs = (97 ∷ [], 53 ∷ []) ∷ [] } ∷
+    record { executed = 8; stable = 8; log = 5; pairs = (97 ∷ [], 56 ∷ []) ∷ [] } ∷
+    record { executed = 9; stable = 8; log = 5; pairs = (97 ∷ [], 57 ∷ []) ∷ [] } ∷
     record { executed = 0; stable = 0; log = 0; pairs = [] } ∷
     []
 
-there : map (place world_21) hosts ≡ places
+there : map (place world_39) hosts ≡ places
 unfolding worlds_on_literals operation_at operation_of
 there = refl
 
--- There the hosts are.
+-- h0 executed the first eight, h1 all nine, position 8 is stable for both, and their logs begin behind counter 5; h2 was given nothing.
 pub hosts_are_there : map (place last_world) hosts ≡ places
 hosts_are_there = in_last (λ (w : World). map (place w) hosts) ∙ there
 

@@ -9,10 +9,10 @@ use Rattle.mb_world_model.specs.Stops.{stop_of}
 use Rattle.mb_top.specs.Systems.{world}
 use Rattle.mb_top.specs.Runs.{AreUnstopped}
 use Rattle.mb_top.proofs.RunLaws.{world_more, unstopped_more}
-use Rattle.mb_examples_checkpoint.proofs.Messages.{put_1, put_2, put_3, put_4, put_5}
+use Rattle.mb_examples_checkpoint.proofs.Messages.{put_1, put_2, put_3, put_4, put_5, put_6, put_7, put_8, put_9}
 use Rattle.mb_examples_checkpoint.proofs.System.{events, past_checkpoint, system}
-use Rattle.mb_examples_checkpoint.proofs.Worlds.{world_0, world_1, world_2, world_3, world_4, world_5, world_6, world_7, world_8, world_9, world_10, world_11, world_12, world_13, world_14, world_15, world_16, world_17, world_18, world_19, world_20, world_21}
-use Rattle.mb_examples_checkpoint.proofs.Course.{free_0, free_1, free_2, free_3, free_4, free_5, free_6, free_7, free_8, free_9, free_10, free_11, free_12, free_13, free_14, free_15, free_16, free_17, free_18, free_19, free_20, makes_0, makes_1, makes_2, makes_3, makes_4, makes_5, makes_6, makes_7, makes_8, makes_9, makes_10, makes_11, makes_12, makes_13, makes_14, makes_15, makes_16, makes_17, makes_18, makes_19, makes_20}
+use Rattle.mb_examples_checkpoint.proofs.Worlds.{world_0, world_1, world_2, world_3, world_4, world_5, world_6, world_7, world_8, world_9, world_10, world_11, world_12, world_13, world_14, world_15, world_16, world_17, world_18, world_19, world_20, world_21, world_22, world_23, world_24, world_25, world_26, world_27, world_28, world_29, world_30, world_31, world_32, world_33, world_34, world_35, world_36, world_37, world_38, world_39}
+use Rattle.mb_examples_checkpoint.proofs.Course.{free_0, free_1, free_2, free_3, free_4, free_5, free_6, free_7, free_8, free_9, free_10, free_11, free_12, free_13, free_14, free_15, free_16, free_17, free_18, free_19, free_20, free_21, free_22, free_23, free_24, free_25, free_26, free_27, free_28, free_29, free_30, free_31, free_32, free_33, free_34, free_35, free_36, free_37, free_38, makes_0, makes_1, makes_2, makes_3, makes_4, makes_5, makes_6, makes_7, makes_8, makes_9, makes_10, makes_11, makes_12, makes_13, makes_14, makes_15, makes_16, makes_17, makes_18, makes_19, makes_20, makes_21, makes_22, makes_23, makes_24, makes_25, makes_26, makes_27, makes_28, makes_29, makes_30, makes_31, makes_32, makes_33, makes_34, makes_35, makes_36, makes_37, makes_38}
 
 -- Behind the first k events, none of which is stopped, this is the world.
 pub record Reached (k : ℕ) (w : World) : Type 0 where
@@ -92,5 +92,59 @@ reached_19 = one_more 18 (Ask 0 put_5) world_18 world_19 refl free_18 makes_18 r
 reached_20 : Reached 20 world_20
 reached_20 = one_more 19 (Give 23 0) world_19 world_20 refl free_19 makes_19 reached_19
 
-pub reached_21 : Reached 21 world_21
+reached_21 : Reached 21 world_21
 reached_21 = one_more 20 (Give 24 1) world_20 world_21 refl free_20 makes_20 reached_20
+
+reached_22 : Reached 22 world_22
+reached_22 = one_more 21 (Give 25 0) world_21 world_22 refl free_21 makes_21 reached_21
+
+reached_23 : Reached 23 world_23
+reached_23 = one_more 22 (Ask 0 put_6) world_22 world_23 refl free_22 makes_22 reached_22
+
+reached_24 : Reached 24 world_24
+reached_24 = one_more 23 (Give 28 0) world_23 world_24 refl free_23 makes_23 reached_23
+
+reached_25 : Reached 25 world_25
+reached_25 = one_more 24 (Give 29 1) world_24 world_25 refl free_24 makes_24 reached_24
+
+reached_26 : Reached 26 world_26
+reached_26 = one_more 25 (Give 30 0) world_25 world_26 refl free_25 makes_25 reached_25
+
+reached_27 : Reached 27 world_27
+reached_27 = one_more 26 (Ask 0 put_7) world_26 world_27 refl free_26 makes_26 reached_26
+
+reached_28 : Reached 28 world_28
+reached_28 = one_more 27 (Give 33 0) world_27 world_28 refl free_27 makes_27 reached_27
+
+reached_29 : Reached 29 world_29
+reached_29 = one_more 28 (Give 34 1) world_28 world_29 refl free_28 makes_28 reached_28
+
+reached_30 : Reached 30 world_30
+reached_30 = one_more 29 (Give 35 0) world_29 world_30 refl free_29 makes_29 reached_29
+
+reached_31 : Reached 31 world_31
+reached_31 = one_more 30 (Ask 0 put_8) world_30 world_31 refl free_30 makes_30 reached_30
+
+reached_32 : Reached 32 world_32
+reached_32 = one_more 31 (Give 38 0) world_31 world_32 refl free_31 makes_31 reached_31
+
+reached_33 : Reached 33 world_33
+reached_33 = one_more 32 (Give 39 1) world_32 world_33 refl free_32 makes_32 reached_32
+
+reached_34 : Reached 34 world_34
+reached_34 = one_more 33 (Give 40 0) world_33 world_34 refl free_33 makes_33 reached_33
+
+reached_35 : Reached 35 world_35
+reached_35 = one_more 34 (Give 44 1) world_34 world_35 refl free_34 makes_34 reached_34
+
+reached_36 : Reached 36 world_36
+reached_36 = one_more 35 (Give 42 0) world_35 world_36 refl free_35 makes_35 reached_35
+
+reached_37 : Reached 37 world_37
+reached_37 = one_more 36 (Ask 0 put_9) world_36 world_37 refl free_36 makes_36 reached_36
+
+reached_38 : Reached 38 world_38
+reached_38 = one_more 37 (Give 45 0) world_37 world_38 refl free_37 makes_37 reached_37
+
+pub reached_39 : Reached 39 world_39
+reached_39 = one_more 38 (Give 46 1) world_38 world_39 refl free_38 makes_38 reached_38

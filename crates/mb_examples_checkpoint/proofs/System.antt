@@ -9,11 +9,11 @@ use Rattle.mb_kv.specs.Pairs.{Pairs}
 use Rattle.mb_world_model.specs.World.{System}
 use Rattle.mb_kv.specs.Machine.{kv_machine}
 use Rattle.mb_cache.specs.Represents.{machine_of, snapshots_of}
-use Rattle.mb_examples_checkpoint.proofs.Messages.{put_1, put_2, put_3, put_4, put_5}
+use Rattle.mb_examples_checkpoint.proofs.Messages.{put_1, put_2, put_3, put_4, put_5, put_6, put_7, put_8, put_9}
 
 abbrev pub events : List WorldEvent
 events =
-    Ask 0 put_1 ∷ Give 1 0 ∷ Give 2 1 ∷ Give 3 0 ∷ Ask 0 put_2 ∷ Give 6 0 ∷ Give 7 1 ∷ Give 8 0 ∷ Ask 0 put_3 ∷ Give 11 0 ∷ Give 12 1 ∷ Give 13 0 ∷ Ask 0 put_4 ∷ Give 16 0 ∷ Give 17 1 ∷ Give 18 0 ∷ Give 22 1 ∷ Give 20 0 ∷ Ask 0 put_5 ∷ Give 23 0 ∷ Give 24 1 ∷ []
+    Ask 0 put_1 ∷ Give 1 0 ∷ Give 2 1 ∷ Give 3 0 ∷ Ask 0 put_2 ∷ Give 6 0 ∷ Give 7 1 ∷ Give 8 0 ∷ Ask 0 put_3 ∷ Give 11 0 ∷ Give 12 1 ∷ Give 13 0 ∷ Ask 0 put_4 ∷ Give 16 0 ∷ Give 17 1 ∷ Give 18 0 ∷ Give 22 1 ∷ Give 20 0 ∷ Ask 0 put_5 ∷ Give 23 0 ∷ Give 24 1 ∷ Give 25 0 ∷ Ask 0 put_6 ∷ Give 28 0 ∷ Give 29 1 ∷ Give 30 0 ∷ Ask 0 put_7 ∷ Give 33 0 ∷ Give 34 1 ∷ Give 35 0 ∷ Ask 0 put_8 ∷ Give 38 0 ∷ Give 39 1 ∷ Give 40 0 ∷ Give 44 1 ∷ Give 42 0 ∷ Ask 0 put_9 ∷ Give 45 0 ∷ Give 46 1 ∷ []
 
 abbrev pub one_client : Shape
 one_client = record { f = 1; k = 4; clients = 1; faults_in = (omega arith, omega arith); interval_in = (omega arith, omega arith); clients_in = (omega arith, omega arith) }

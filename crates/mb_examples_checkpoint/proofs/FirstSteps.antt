@@ -1,4 +1,4 @@
--- Each step of a host, computed from the history before it.
+-- Each step of a host up to the first stable position, computed from the history before it.
 use Rattle.std.proofs.Common.{◌≡◌, ℕ, refl}
 use Rattle.mb_msg.specs.declared.message.Message.{Message}
 use Rattle.mb_msg.specs.declared.message.Message.TheVariants as message
@@ -11,8 +11,8 @@ use Rattle.mb_model.proofs.StepOnLiterals.{host_on_literals}
 use Rattle.mb_world_model.specs.World.{self_of}
 use Rattle.mb_kv.specs.Operations.{operation_at, operation_of}
 use Rattle.mb_kv.specs.Snapshots.{bucket_of, part_of}
-use Rattle.mb_examples_checkpoint.proofs.Messages.{request_1, prepare_1, commit_1_1, request_2, prepare_2, commit_1_2, request_3, prepare_3, commit_1_3, request_4, prepare_4, commit_1_4, checkpoint_1_4, checkpoint_0_4, request_5, prepare_5}
-use Rattle.mb_examples_checkpoint.proofs.Histories.{history_0_0, history_0_1, history_0_2, history_0_3, history_0_4, history_0_5, history_0_6, history_0_7, history_0_8, history_0_9, history_1_0, history_1_1, history_1_2, history_1_3, history_1_4, history_1_5, answer_0_1, answer_1_1, answer_0_2, answer_0_3, answer_1_2, answer_0_4, answer_0_5, answer_1_3, answer_0_6, answer_0_7, answer_1_4, answer_0_8, answer_1_5, answer_0_9, answer_0_10, answer_1_6}
+use Rattle.mb_examples_checkpoint.proofs.Messages.{request_1, prepare_1, commit_1_1, request_2, prepare_2, commit_1_2, request_3, prepare_3, commit_1_3, request_4, prepare_4, commit_1_4, checkpoint_1_4, checkpoint_0_4}
+use Rattle.mb_examples_checkpoint.proofs.Histories.{history_0_0, history_0_1, history_0_2, history_0_3, history_0_4, history_0_5, history_0_6, history_0_7, history_0_8, history_1_0, history_1_1, history_1_2, history_1_3, history_1_4, answer_0_1, answer_1_1, answer_0_2, answer_0_3, answer_1_2, answer_0_4, answer_0_5, answer_1_3, answer_0_6, answer_0_7, answer_1_4, answer_0_8, answer_1_5, answer_0_9}
 use Rattle.mb_examples_checkpoint.proofs.System.{system}
 
 -- what a host answers that is given a message, and what that leaves
@@ -74,11 +74,3 @@ step_1_5 = refl
 pub step_0_9 : takes 0 history_0_8 (message.Checkpoint checkpoint_1_4) ≡ answer_0_9
 unfolding host_on_literals transition operation_at operation_of bucket_of part_of
 step_0_9 = refl
-
-pub step_0_10 : takes 0 history_0_9 (message.Request request_5) ≡ answer_0_10
-unfolding host_on_literals transition operation_at operation_of bucket_of part_of
-step_0_10 = refl
-
-pub step_1_6 : takes 1 history_1_5 (message.Prepare prepare_5) ≡ answer_1_6
-unfolding host_on_literals transition operation_at operation_of bucket_of part_of
-step_1_6 = refl
