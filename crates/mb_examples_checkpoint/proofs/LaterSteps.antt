@@ -1,23 +1,13 @@
 -- Each step of a host behind the first stable position, computed from the history before it.
-use Rattle.std.proofs.Common.{◌≡◌, ℕ, refl}
-use Rattle.mb_msg.specs.declared.message.Message.{Message}
+use Rattle.std.proofs.Common.{◌≡◌, refl}
 use Rattle.mb_msg.specs.declared.message.Message.TheVariants as message
-use Rattle.mb_msg.specs.declared.event.Event.TheVariants.{Given}
-use Rattle.mb_msg.specs.Spelling.{spelling}
-use Rattle.mb_model.specs.Histories.{History}
-use Rattle.mb_model.specs.Given.{Answer}
 use Rattle.mb_model.specs.HostStep.{transition}
 use Rattle.mb_model.proofs.StepOnLiterals.{host_on_literals}
-use Rattle.mb_world_model.specs.World.{self_of}
 use Rattle.mb_kv.specs.Operations.{operation_at, operation_of}
 use Rattle.mb_kv.specs.Snapshots.{bucket_of, part_of}
 use Rattle.mb_examples_checkpoint.proofs.Messages.{request_5, prepare_5, commit_1_5, request_6, prepare_6, commit_1_6, request_7, prepare_7, commit_1_7, request_8, prepare_8, commit_1_8, checkpoint_1_8, checkpoint_0_8, request_9, prepare_9}
 use Rattle.mb_examples_checkpoint.proofs.Histories.{history_0_9, history_0_10, history_0_11, history_0_12, history_0_13, history_0_14, history_0_15, history_0_16, history_0_17, history_0_18, history_1_5, history_1_6, history_1_7, history_1_8, history_1_9, history_1_10, answer_0_10, answer_1_6, answer_0_11, answer_0_12, answer_1_7, answer_0_13, answer_0_14, answer_1_8, answer_0_15, answer_0_16, answer_1_9, answer_0_17, answer_1_10, answer_0_18, answer_0_19, answer_1_11}
-use Rattle.mb_examples_checkpoint.proofs.System.{system}
-
--- what a host answers that is given a message, and what that leaves
-abbrev takes : ℕ → History → Message → Answer
-takes h d m = transition (self_of system h) d (Given (spelling m))
+use Rattle.mb_examples_checkpoint.proofs.System.{takes}
 
 pub step_0_10 : takes 0 history_0_9 (message.Request request_5) ≡ answer_0_10
 unfolding host_on_literals transition operation_at operation_of bucket_of part_of

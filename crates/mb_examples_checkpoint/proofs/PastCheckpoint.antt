@@ -51,6 +51,9 @@ is_schedule =
 
 -- ---- so the promise is made of it
 
+pub is_of_program : system ≡ system_of past_checkpoint
+is_of_program = refl
+
 -- behind all events
 abbrev last_world : World
 last_world = world past_checkpoint 39

@@ -1,12 +1,18 @@
 -- The schedule of the run, and the system of the program.
-use Rattle.std.proofs.Common.{List, [], ◌∷◌, arith, false}
+use Rattle.std.proofs.Common.{ℕ, List, [], ◌∷◌, arith, false}
 use Rattle.std.specs.Prelude.{replicate}
 use Rattle.mb_base.specs.declared.shape.Shape.{Shape}
 use Rattle.mb_schedule.specs.declared.schedule.WorldEvent.{WorldEvent}
 use Rattle.mb_schedule.specs.declared.schedule.WorldEvent.TheVariants.{Ask, Give}
 use Rattle.mb_schedule.specs.declared.schedule.Schedule.{Schedule}
 use Rattle.mb_kv.specs.Pairs.{Pairs}
-use Rattle.mb_world_model.specs.World.{System}
+use Rattle.mb_msg.specs.declared.message.Message.{Message}
+use Rattle.mb_msg.specs.declared.event.Event.TheVariants.{Given}
+use Rattle.mb_msg.specs.Spelling.{spelling}
+use Rattle.mb_model.specs.Histories.{History}
+use Rattle.mb_model.specs.Given.{Answer}
+use Rattle.mb_model.specs.HostStep.{transition}
+use Rattle.mb_world_model.specs.World.{System, self_of}
 use Rattle.mb_kv.specs.Machine.{kv_machine}
 use Rattle.mb_cache.specs.Represents.{machine_of, snapshots_of}
 use Rattle.mb_examples_checkpoint.proofs.Messages.{put_1, put_2, put_3, put_4, put_5, put_6, put_7, put_8, put_9}
@@ -22,6 +28,10 @@ one_client = record { f = 1; k = 4; clients = 1; faults_in = (omega arith, omega
 abbrev pub past_checkpoint : Schedule
 past_checkpoint = record { shape = one_client; secret = replicate 32 0; faulty_hosts = replicate 3 false; faulty_clients = false ∷ []; events = events }
 
--- The program has this one of the schedule (`PastCheckpoint`).
+-- three hosts with the key-value store of no keys, which is that of the program (`is_of_program` of `PastCheckpoint`)
 abbrev pub system : System Pairs
 system = record { machine = machine_of kv_machine; snapshots = snapshots_of kv_machine; initial = []; schedule = past_checkpoint }
+
+-- what a host answers that is given a message, and what that leaves
+abbrev pub takes : ℕ → History → Message → Answer
+takes h d m = transition (self_of system h) d (Given (spelling m))
