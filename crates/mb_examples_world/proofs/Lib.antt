@@ -3,7 +3,7 @@ mod FaultyWorlds
 mod ForgedTags
 mod BadWorlds
 mod InsideOfMessages
-mod Apart
+pub mod Apart
 mod WholeRun
 mod RunFacts
 mod TwoRequests
