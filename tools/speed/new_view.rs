@@ -60,7 +60,7 @@ fn is_sound(rt: &HostRuntime, shape: &Shape, usig: &Usig, bytes: &[u8]) -> bool
     requires { usig.now.shape ≡ shape.now }
 {
     match new_view_of(rt, shape, bytes) {
-        Ok(m) => check_new_view(rt.alloc(), shape, usig, &[], &m).is_ok(),
+        Ok(m) => check_new_view(rt.alloc(), shape, usig, &m).is_ok(),
         Err(_) => false,
     }
 }
@@ -107,7 +107,7 @@ fn checking(rt: &HostRuntime, shape: &Shape, usig: &Usig, new_view: &NewView) ->
     let mut least = Least::none();
     for _ in 0..CALLS {
         let start = Instant::now(rt)?;
-        let is_done = check_new_view(rt.alloc(), shape, usig, &[], new_view).is_ok();
+        let is_done = check_new_view(rt.alloc(), shape, usig, new_view).is_ok();
         least.take(start.elapsed(rt)?);
         if !is_done {
             return Err(ErrorKind::InvalidData.into());
@@ -144,7 +144,7 @@ fn checking_first(
     let mut least = Least::none();
     for _ in 0..CALLS {
         let start = Instant::now(rt)?;
-        let is_done = usable(rt.alloc(), shape, usig, &[], &change).is_ok();
+        let is_done = usable(rt.alloc(), shape, usig, &change).is_ok();
         least.take(start.elapsed(rt)?);
         if !is_done {
             return Err(ErrorKind::InvalidData.into());

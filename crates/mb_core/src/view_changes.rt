@@ -116,9 +116,7 @@ fn is_usable<V: Service + Drop>(
     requires { FitsViewChange replica.now.protocol.shape m.now }
     ensures { (me : Identity V) → IsHost me replica.now → IfOk result (λ b. b ≡ is_none (change_fault me m.now)) }
 {
-    let protocol = &replica.protocol;
-    // The batches of an own OPEN keep their digests.
-    match usable(alloc, &protocol.shape, &protocol.usig, &[], m) {
+    match usable(alloc, &replica.protocol.shape, &replica.protocol.usig, m) {
         Ok(()) => Ok(true),
         Err(BadProof::At { .. }) => Ok(false),
         Err(BadProof::NoMemory) => Err(NoMemory),

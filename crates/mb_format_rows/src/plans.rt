@@ -29,7 +29,7 @@ pub fn usable_text(alloc: Global, shape: &Shape, message: &Message) -> Result<St
         return Err(Stop::Unfit);
     }
     let usig = Usig::new(*shape, 0, &SECRET);
-    match usable(alloc, shape, &usig, &[], change) {
+    match usable(alloc, shape, &usig, change) {
         Ok(()) => Ok(String::from_str(alloc, "usable")?),
         Err(BadProof::NoMemory) => Err(Stop::NoMemory),
         Err(BadProof::At { index, reason }) => {
@@ -47,7 +47,7 @@ pub fn follow_text(alloc: Global, shape: &Shape, message: &Message) -> Result<St
         return Err(Stop::Unfit);
     }
     let usig = Usig::new(*shape, 0, &SECRET);
-    match check_new_view(alloc, shape, &usig, &[], new_view) {
+    match check_new_view(alloc, shape, &usig, new_view) {
         Ok(plan) => plan_told(alloc, plan),
         Err(fault) => follow_fault_text(alloc, fault),
     }

@@ -47,8 +47,8 @@ mod tags;
 
 pub use bodies::{check_open, inner_valid};
 pub use mb_msg::Plan;
-pub use new_view::{NewViewFault, check_new_view};
+pub use new_view::{NewViewFault, check_new_view, check_new_view_knowing};
 pub use plan_digests::kept_by;
 pub use planning::{PlanFault, plan_of};
-pub use shown::{BadProof, usable};
+pub use shown::{BadProof, usable, usable_knowing};
 pub use tags::{are_tagged, is_tagged};

@@ -166,10 +166,23 @@ fn check_body(
 
 /// The plan of a NEW_VIEW's members, where each is usable and it is the one that the NEW_VIEW announces; else the first member that fails and the
 /// first reason that fails for it, which is 10 for one of another view or with a wrong tag; else that the NEW_VIEW announces another plan. The
-/// batches of the plan keep their digests. `Few`
-/// tells that its body came as its digest. The shape is that of the trusted part, and each field has an allowed value, so a body that came
-/// whole has f+1 members of different hosts. `NoMemory` tells that memory ran out, and nothing of the NEW_VIEW.
+/// batches of the plan keep their digests. `Few` tells that its body came as its digest. The shape is that of the trusted part, and each field has
+/// an allowed value, so a body that came whole has f+1 members of different hosts. `NoMemory` tells that memory ran out, and nothing of the NEW_VIEW.
 pub fn check_new_view(
+    alloc: Global,
+    shape: &Shape,
+    usig: &Usig,
+    new_view: &NewView,
+) -> Result<Plan, NewViewFault>
+    requires { (usig.now.shape ≡ shape.now) × FitsNewView shape.now new_view.now }
+    ensures { Follows shape.now usig.now.secret new_view.now new_view.now.body result }
+{
+    check_new_view_knowing(alloc, shape, usig, &[], new_view)
+}
+
+/// The same, by who may know batches of it: `known` are some that may keep their digests, as those of a plan that is held. Of the same batches in an OPEN
+/// these digests are taken.
+pub fn check_new_view_knowing(
     alloc: Global,
     shape: &Shape,
     usig: &Usig,

@@ -339,9 +339,22 @@ pub(crate) fn usable_beside<'a>(
 
 /// Whether a VIEW_CHANGE is usable: yes exactly where it has no fault, or else the first entry that fails, and the first reason that fails for
 /// it. One whose body came as its digest shows nothing, so nothing fails. The shape is that of the trusted part, and each field has an allowed
-/// value. `known` are batches that may keep their digests, as those of a plan that is held: of the same batches in an OPEN these are taken.
-/// `NoMemory` tells that memory ran out, and nothing of the VIEW_CHANGE.
+/// value. `NoMemory` tells that memory ran out, and nothing of the VIEW_CHANGE.
 pub fn usable(
+    alloc: Global,
+    shape: &Shape,
+    usig: &Usig,
+    change: &ViewChange,
+) -> Result<(), BadProof>
+    requires { (usig.now.shape ≡ shape.now) × FitsViewChange shape.now change.now }
+    ensures { Answers (option_and_then (log_fault shape.now usig.now.secret (verifies usig.now.secret) change.now.ui.host change.now.view change.now.ui.counter) (whole_body change.now.body)) result }
+{
+    usable_knowing(alloc, shape, usig, &[], change)
+}
+
+/// The same, by who may know batches of it: `known` are some that may keep their digests, as those of a plan that is held. Of the same batches in an OPEN
+/// these digests are taken.
+pub fn usable_knowing(
     alloc: Global,
     shape: &Shape,
     usig: &Usig,

@@ -4,7 +4,7 @@ use crate::arrival::Finding;
 use crate::state::ReplicaState;
 use mb_base::{Digest, NoMemory};
 use mb_msg::{NewView, Outcome, Plan, ViewChange};
-use mb_plan::{NewViewFault, PlanFault, check_new_view, plan_of};
+use mb_plan::{NewViewFault, PlanFault, check_new_view_knowing, plan_of};
 use mb_service::Service;
 use std::alloc::Global;
 
@@ -42,7 +42,7 @@ impl<V: Service + Drop> ReplicaState<V> {
             return Ok(Finding::without_plan(None));
         }
         let known = self.planned(self.evidence_view());
-        match check_new_view(alloc, &self.protocol.shape, &self.protocol.usig, known, m) {
+        match check_new_view_knowing(alloc, &self.protocol.shape, &self.protocol.usig, known, m) {
             Ok(plan) => Ok(Finding {
                 refusal: None,
                 plan: Some(plan),

@@ -6,7 +6,7 @@ ghost use Rattle.mb_model.specs.UsableLogs.{is_whole};
 use crate::state::ReplicaState;
 use mb_base::NoMemory;
 use mb_msg::{Body, Outcome, ViewChange};
-use mb_plan::{BadProof, usable};
+use mb_plan::{BadProof, usable_knowing};
 use mb_service::Service;
 use std::alloc::Global;
 
@@ -34,7 +34,7 @@ impl<V: Service + Drop> ReplicaState<V> {
             return Ok(None);
         }
         let known = self.planned(self.evidence_view());
-        match usable(alloc, &self.protocol.shape, &self.protocol.usig, known, m) {
+        match usable_knowing(alloc, &self.protocol.shape, &self.protocol.usig, known, m) {
             Ok(()) => Ok(None),
             Err(BadProof::At { index, reason }) => Ok(Some(Outcome::Unusable { index, reason })),
             Err(BadProof::NoMemory) => Err(NoMemory),
