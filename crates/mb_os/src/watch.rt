@@ -53,10 +53,6 @@ impl Watch {
         }
     }
 
-    pub(crate) fn socket(&self) -> &UdpSocket {
-        &self.socket
-    }
-
     /// One receive. None is a quiet.
     pub(crate) fn receive<R: Clock>(&mut self, rt: &R, into: &mut [u8]) -> io::Result<Option<usize>>
         ensures { IfOk result (λ count. IfSome count (λ n. n ≤ length into.new)) }
