@@ -6,7 +6,8 @@
 #include <time.h>
 #include <unistd.h>
 
-typedef ssize_t send_call(int, const void *, size_t, int, const struct sockaddr *, socklen_t);
+typedef ssize_t send_call(int, const void *, size_t, int);
+typedef ssize_t sendto_call(int, const void *, size_t, int, const struct sockaddr *, socklen_t);
 
 static int is_lost(void) {
     static unsigned seed;
@@ -19,9 +20,16 @@ static int is_lost(void) {
     return rand_r(&seed) % one_in == 0;
 }
 
-ssize_t sendto(int socket, const void *bytes, size_t size, int flags, const struct sockaddr *to, socklen_t length) {
+ssize_t send(int socket, const void *bytes, size_t size, int flags) {
     static send_call *real;
     if (!real)
-        real = (send_call *)dlsym(RTLD_NEXT, "sendto");
+        real = (send_call *)dlsym(RTLD_NEXT, "send");
+    return is_lost() ? (ssize_t)size : real(socket, bytes, size, flags);
+}
+
+ssize_t sendto(int socket, const void *bytes, size_t size, int flags, const struct sockaddr *to, socklen_t length) {
+    static sendto_call *real;
+    if (!real)
+        real = (sendto_call *)dlsym(RTLD_NEXT, "sendto");
     return is_lost() ? (ssize_t)size : real(socket, bytes, size, flags, to, length);
 }

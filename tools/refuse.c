@@ -1,6 +1,6 @@
 /* Loaded before the C library: refuses one call, or each from one on, of a program.
 
-   REFUSE names the kind: allocation (malloc, calloc, realloc, aligned_alloc, posix_memalign), read (read, recvfrom), write (write, sendto).
+   REFUSE names the kind: allocation (malloc, calloc, realloc, aligned_alloc, posix_memalign), read (read, recv, recvfrom), write (write, send, sendto).
    REFUSE_AT is the number of the call that fails, from 1 on; REFUSE_ALL, where it is set, lets all behind it fail too.
    REFUSE_WORD, where it is set, is the first word of the programs that are meant; children with another one are left alone.
    REFUSE_TELL names a file to which the count of calls of this kind is written at the end. */
@@ -102,12 +102,32 @@ ssize_t write(int file, const void *from, size_t size) {
     return -1;
 }
 
+ssize_t recv(int file, void *into, size_t size, int flags) {
+    static __typeof__(&recv) real;
+    if (!real)
+        real = REAL(recv);
+    if (!is_refused('r'))
+        return real(file, into, size, flags);
+    errno = EIO;
+    return -1;
+}
+
 ssize_t recvfrom(int file, void *into, size_t size, int flags, struct sockaddr *who, socklen_t *length) {
     static __typeof__(&recvfrom) real;
     if (!real)
         real = REAL(recvfrom);
     if (!is_refused('r'))
         return real(file, into, size, flags, who, length);
+    errno = EIO;
+    return -1;
+}
+
+ssize_t send(int file, const void *from, size_t size, int flags) {
+    static __typeof__(&send) real;
+    if (!real)
+        real = REAL(send);
+    if (!is_refused('w'))
+        return real(file, from, size, flags);
     errno = EIO;
     return -1;
 }

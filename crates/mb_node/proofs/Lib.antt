@@ -12,3 +12,4 @@ pub mod Kept
 pub mod KeptRounds
 pub mod Replayed
 pub mod OfBytes
+pub mod Nothing

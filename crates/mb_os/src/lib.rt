@@ -3,12 +3,14 @@
 //! This is the edge that is trusted. What is a value in it has a clause: the address of a peer, the words of a child, the status of an end.
 #![tactic(auto)]
 
+mod addresses;
 mod children;
 mod files;
 mod program;
 mod sockets;
 mod streams;
 mod watch;
+mod ways;
 
 pub use children::ChildSpawner;
 pub use files::FileDisk;

@@ -1,23 +1,18 @@
 //! Sockets of this machine as a link.
 
-ghost use Rattle.std.specs.Prelude.{◌≡◌, ◌≤◌, ◌<◌, ◌+◌, ◌^◌, length, None, IfOk, IfSome, IsSome};
+ghost use Rattle.std.specs.Prelude.{◌≡◌, ◌≤◌, None};
 ghost use Rattle.mb_edge.specs.Faults.{one_more};
-ghost use Rattle.mb_os.specs.Addresses.{above, IsHere};
 
+use crate::addresses::known_address;
 use crate::watch::Watch;
+use crate::ways::Ways;
 use mb_edge::{Failed, Got, Link};
 use std::io::ErrorKind;
-use std::net::{Ipv4Addr, Net, SocketAddr, SocketAddrV4, UdpSocket};
+use std::net::{Net, SocketAddr, UdpSocket};
 use std::os::unix::process::parent_id;
 use std::process::Process;
 use std::time::{Clock, Duration};
 use std::{io, thread};
-
-/// The peer that is the client program.
-const CLIENT: u8 = 255;
-
-/// How far the client program's port is above the first host's.
-const CLIENT_PORT: u16 = 100;
 
 /// How long a receive waits, in milliseconds.
 const RECEIVE_WAIT: u64 = 50;
@@ -39,7 +34,7 @@ pub struct UdpLink<R> {
     /// The number of the process that started this one, if its end is to end the link.
     starter: Option<u32>,
     socket: Option<Watch>,
-    port: u16,
+    ways: Option<Ways>,
     faults: u64,
 }
 
@@ -53,7 +48,7 @@ impl<R> UdpLink<R> {
             process,
             starter,
             socket: None,
-            port: 0,
+            ways: None,
             faults: 0,
         }
     }
@@ -73,37 +68,6 @@ impl<R> UdpLink<R> {
             Some(starter) => parent_id(self.process) != starter,
             None => false,
         }
-    }
-}
-
-/// How far the port of a peer is above the first host's: each host has its number, and the client program 100.
-fn above(peer: u8) -> u16
-    ensures { result ≡ above peer }
-{
-    if peer == CLIENT {
-        CLIENT_PORT
-    } else {
-        u16::from(peer)
-    }
-}
-
-/// The address of a peer, where there is a port that high.
-fn address(port: u16, peer: u8) -> Option<SocketAddr>
-    ensures here { IfSome result (λ a. IsHere a (port + above peer)) }
-    ensures some { port + above peer < 2 ^ 16 → IsSome result }
-{
-    let port = port.checked_add(above(peer))?;
-    let here = Ipv4Addr::new(127, 0, 0, 1);
-    Some(SocketAddr::V4(SocketAddrV4::new(here, port)))
-}
-
-/// The address of a peer, or that no port is that high.
-fn known_address(port: u16, peer: u8) -> io::Result<SocketAddr>
-    ensures { IfOk result (λ a. IsHere a (port + above peer)) }
-{
-    match address(port, peer) {
-        Some(address) => Ok(address),
-        None => Err(io::Error::from(ErrorKind::InvalidInput)),
     }
 }
 
@@ -137,7 +101,7 @@ impl<R: Net + Clock> Link for UdpLink<R> {
         match opened(&self.rt, port, own) {
             Ok(socket) => {
                 self.socket = Some(Watch::new(socket));
-                self.port = port;
+                self.ways = Some(Ways::new(port));
                 Ok(())
             }
             Err(_) => Err(self.failed()),
@@ -163,28 +127,12 @@ impl<R: Net + Clock> Link for UdpLink<R> {
         if self.is_left() {
             return Err(self.failed());
         }
-        let Some(watch) = &self.socket else {
+        let Some(ways) = &mut self.ways else {
             return Err(self.failed());
         };
-        match sent(watch.socket(), self.port, to, bytes) {
+        match ways.send(&self.rt, to, bytes) {
             Ok(()) => Ok(()),
             Err(_) => Err(self.failed()),
         }
     }
-}
-
-/// One send, made again as long as it is interrupted, or the system has no room for it.
-fn sent(socket: &UdpSocket, port: u16, to: u8, bytes: &[u8]) -> io::Result<()> {
-    let address = known_address(port, to)?;
-    for _ in 0..u64::MAX {
-        match socket.send_to(bytes, address) {
-            Ok(_) => return Ok(()),
-            Err(e) => match e.kind() {
-                ErrorKind::Interrupted => {}
-                ErrorKind::WouldBlock => thread::yield_now(),
-                _ => return Err(e),
-            },
-        }
-    }
-    Err(io::Error::from(ErrorKind::Interrupted))
 }

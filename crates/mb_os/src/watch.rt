@@ -20,12 +20,18 @@ const LOOK_TIME: u64 = 200;
 /// After so many microseconds somebody else had the processor between two looks: a process that has work for more than a few datagrams.
 const CROWDED: u64 = 1_000;
 
-/// How many datagrams are waited for before a receive looks again, once the processor was crowded. To find out costs some milliseconds, which is little in the
-/// time of so many.
-const REST: u32 = 8_192;
+/// How many datagrams are waited for before a receive looks again, once the processor was crowded. So many are the time of some 350 requests: what a task of
+/// the system that comes now and then may cost.
+const REST: u32 = 1_024;
 
-/// Where it is crowded again and again, that number is doubled each time, up to this.
+/// Where it is soon crowded again, so many times as many.
+const GROWTH: u32 = 8;
+
+/// Up to this. To find out that it is crowded costs some milliseconds, which is little in the time of so many.
 const LONGEST_REST: u32 = 131_072;
+
+/// Behind so many datagrams that were found while looking it is not soon.
+const CALM: u32 = 4_096;
 
 /// The most looks of a receive, also where the clock stands still.
 const LOOKS: u32 = 10_000;
@@ -38,8 +44,10 @@ pub(crate) struct Watch {
     looks: bool,
     /// How many datagrams are waited for before it looks again.
     rest: u32,
-    /// How many that will be when it next finds the processor crowded.
+    /// How many that will be when it is soon crowded again.
     next_rest: u32,
+    /// How many datagrams were found while looking since it was crowded.
+    found: u32,
 }
 
 impl Watch {
@@ -50,11 +58,8 @@ impl Watch {
             looks: false,
             rest: 0,
             next_rest: REST,
+            found: 0,
         }
-    }
-
-    pub(crate) fn socket(&self) -> &UdpSocket {
-        &self.socket
     }
 
     /// One receive. None is a quiet.
@@ -90,7 +95,7 @@ impl Watch {
                 break;
             }
             if let Some(count) = taken(&self.socket, into)? {
-                self.next_rest = REST;
+                self.found = self.found.saturating_add(1);
                 return Ok(Some(count));
             }
             if spent >= Duration::from_micros(LOOK_TIME) {
@@ -102,8 +107,12 @@ impl Watch {
 
     /// The processor is crowded.
     fn crowd(&mut self) {
+        if self.found >= CALM {
+            self.next_rest = REST;
+        }
+        self.found = 0;
         self.rest = self.next_rest;
-        self.next_rest = self.rest.saturating_mul(2).min(LONGEST_REST);
+        self.next_rest = self.rest.saturating_mul(GROWTH).min(LONGEST_REST);
     }
 
     /// A datagram came while it waited: it looks for the next one, unless it rests.

@@ -112,6 +112,21 @@ fn datagrams_come_whole_and_in_order(rt: HostRuntime) {
 }
 
 #[test]
+fn what_is_sent_to_nobody_is_lost(rt: HostRuntime) {
+    let mut first = UdpLink::new(&rt, rt.process(), None);
+    let mut second = UdpLink::new(&rt, rt.process(), None);
+    let mut into = [0u8; ROOM];
+    assert!(rt; first.open(40_030, 0) == Ok(()));
+    for _ in 0..3 {
+        assert!(rt; first.send(1, b"abc") == Ok(()));
+    }
+    assert!(rt; second.open(40_030, 1) == Ok(()));
+    assert!(rt; first.send(9, b"abc") == Ok(()));
+    assert!(rt; first.send(1, b"abcd") == Ok(()));
+    assert!(rt; next_datagram(&mut second, &mut into) == Got::Datagram(4));
+}
+
+#[test]
 fn a_port_that_is_taken_or_too_high_is_a_fault(rt: HostRuntime) {
     let mut first = UdpLink::new(&rt, rt.process(), None);
     let mut second = UdpLink::new(&rt, rt.process(), None);

@@ -1,7 +1,9 @@
 //! Records: what one host was given, and what it sent.
 
-ghost use Rattle.std.specs.Prelude.{ℕ, Bool, List, ◌≡◌, ◌≤◌, ◌<◌, ◌+◌, ◌^◌, ◌==◌, ◌∷◌, [], codes, ◌++◌, drop, length, slice_get, IfOk, OnOk, IfSome, string_bytes};
+ghost use Rattle.std.specs.Prelude.{ℕ, Bool, List, ◌≡◌, ◌≤◌, ◌<◌, ◌+◌, ◌^◌, ◌==◌, ◌∷◌, [], codes, ◌++◌, drop, length, slice_get, IfOk, OnOk, IfSome};
+ghost use Rattle.std.specs.Fmt.{decimal};
 ghost use Rattle.std.specs.Option.{option_copied};
+ghost use Rattle.hex.specs.Hex.{encode_lower};
 ghost use Rattle.mb_base.specs.Shapes.{Bytes, max_faults};
 ghost use Rattle.mb_sched.specs.Spellings.{SpellsRecord};
 ghost use Rattle.mb_sched.specs.Words.{words};
@@ -21,6 +23,7 @@ use crate::printing::hex_word;
 use crate::settings::{print_settings, read_settings};
 use crate::text_lines::{read_number, word_behind};
 use crate::words::{bytes_of, digest_of, is_word, number_in, words_of};
+use itoa::Buffer;
 use mb_base::{Digest, Host, Items, NoMemory, Shape};
 use mb_msg::Event;
 use std::alloc::Global;
@@ -228,37 +231,64 @@ pub fn print_record_head(alloc: Global, config: &Config, id: Host) -> Result<Vec
     Ok(out.into_bytes())
 }
 
+/// Room for all of an entry's lines and the line `end`, but for what was given.
+const LINES_ROOM: usize = 128;
+
 /// The two lines of an entry, with the digest in lower case. `NoMemory` comes where memory runs out,
 /// and nowhere else.
 #[tactic(auto, unfolding(crate::specs::Records::entry_text))]
 pub fn print_entry(alloc: Global, entry: &Entry) -> Result<Vec<u8>, NoMemory>
     ensures { IfOk result (λ text. text.items ≡ entry_text entry.now) }
 {
-    let mut out = String::new(alloc);
-    print_event(alloc, &mut out, &entry.event)?;
-    let digest = hex::encode(alloc, entry.digest.as_slice())?;
-    writeln!(out, "sent {} {digest}", entry.count)?;
-    Ok(out.into_bytes())
+    let mut text = Vec::with_capacity(alloc, room_of(&entry.event))?;
+    put_event(alloc, &mut text, &entry.event)?;
+    put_sent(alloc, &mut text, entry.count, &entry.digest)?;
+    Ok(text)
 }
 
-/// An event's line.
-fn print_event(alloc: Global, out: &mut String, event: &Event) -> Result<(), NoMemory>
-    ensures { OnOk result (string_bytes out.new ≡ string_bytes out.old ++ line_text (event_words event.now)) }
+/// Room for the lines of an entry with this event, so that they take memory once.
+fn room_of(event: &Event) -> usize {
+    match event {
+        Event::Given(bytes) => bytes.len().saturating_mul(2).saturating_add(LINES_ROOM),
+        Event::Patience | Event::Nudge => LINES_ROOM,
+    }
+}
+
+/// Appends an event's line.
+fn put_event(alloc: Global, text: &mut Vec<u8>, event: &Event) -> Result<(), NoMemory>
+    ensures { OnOk result (text.new.items ≡ text.old.items ++ line_text (event_words event.now)) }
 {
     match event {
-        Event::Given(bytes) => print_given(alloc, out, bytes.as_slice())?,
-        Event::Patience => writeln!(out, "patience")?,
-        Event::Nudge => writeln!(out, "nudge")?,
+        Event::Given(bytes) => put_given(alloc, text, bytes.as_slice())?,
+        Event::Patience => text.extend_from_slice(b"patience\n")?,
+        Event::Nudge => text.extend_from_slice(b"nudge\n")?,
     }
     Ok(())
 }
 
-fn print_given(alloc: Global, out: &mut String, bytes: &[u8]) -> Result<(), NoMemory>
-    ensures { OnOk result (string_bytes out.new
-        ≡ string_bytes out.old ++ line_text (codes "given" ∷ hex_word bytes.now ∷ [])) }
+fn put_given(alloc: Global, text: &mut Vec<u8>, bytes: &[u8]) -> Result<(), NoMemory>
+    ensures { OnOk result (text.new.items
+        ≡ text.old.items ++ line_text (codes "given" ∷ hex_word bytes.now ∷ [])) }
 {
-    let bytes = hex_word(alloc, bytes)?;
-    writeln!(out, "given {bytes}")?;
+    let word = hex_word(alloc, bytes)?;
+    text.extend_from_slice(b"given ")?;
+    text.extend_from_slice(word.as_bytes())?;
+    text.extend_from_slice(b"\n")?;
+    Ok(())
+}
+
+/// Appends the line of what was sent.
+fn put_sent(alloc: Global, text: &mut Vec<u8>, count: u32, digest: &Digest) -> Result<(), NoMemory>
+    ensures { OnOk result (text.new.items
+        ≡ text.old.items ++ line_text (codes "sent" ∷ decimal count ∷ encode_lower digest.now ∷ [])) }
+{
+    let digest = hex::encode(alloc, digest.as_slice())?;
+    let mut number = Buffer::new();
+    text.extend_from_slice(b"sent ")?;
+    text.extend_from_slice(number.format(count).as_bytes())?;
+    text.extend_from_slice(b" ")?;
+    text.extend_from_slice(digest.as_bytes())?;
+    text.extend_from_slice(b"\n")?;
     Ok(())
 }
 
