@@ -1,7 +1,6 @@
 -- What a primary orders: of each client the request that waits, from the lowest client on, none left out, and as many as go into one batch.
 use Rattle.std.specs.Prelude.{◌≡◌, ℕ, ◌≤◌, ◌<◌, ◌⊎◌, [], ◌∷◌, ◌++◌, length, slice_get, Some, Contains}
 use Rattle.std.specs.List.{flat_map}
-use Rattle.mb_base.specs.Limits.{batch_limit, batch_bytes_limit}
 use Rattle.mb_base.specs.Shapes.{client_count}
 use Rattle.mb_parts.specs.declared.request.Request.{Request}
 use Rattle.mb_parts.specs.declared.batch.Batch.{Batch}
@@ -35,9 +34,9 @@ module _ {S : Type 0} (self : Identity S) (d : History) where
     pub rising : (i j : ℕ) (x y : Request) → i < j → slice_get b.requests i ≡ Some x → slice_get b.requests j ≡ Some y → x.client < y.client
     pub none_left : (c : ℕ) (r q : Request) → Waits c r → Contains b.requests q → c ≤ q.client → Contains b.requests r
     pub some : 1 ≤ length b.requests
-    pub few : length b.requests ≤ batch_limit
-    pub short : length (flat_map request_bytes b.requests) ≤ batch_bytes_limit
-    pub full : (c : ℕ) (r : Request) → IsNextBehind b c r → (length b.requests ≡ batch_limit) ⊎ (batch_bytes_limit < length (flat_map request_bytes (b.requests ++ r ∷ [])))
+    pub few : length b.requests ≤ 16
+    pub short : length (flat_map request_bytes b.requests) ≤ 2048
+    pub full : (c : ℕ) (r : Request) → IsNextBehind b c r → (length b.requests ≡ 16) ⊎ (2048 < length (flat_map request_bytes (b.requests ++ r ∷ [])))
 
 -- So it is of each PREPARE that a host stamped, behind what stood before it.
 abbrev pub OrdersAllInTurn : {S : Type 0} → Identity S → History → Type 0

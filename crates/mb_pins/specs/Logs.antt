@@ -1,7 +1,6 @@
 -- What a LOG gives, how long the own log may get, and how long it ever was: each in numbers, and of what the host stamped.
 use Rattle.std.specs.Prelude.{◌≡◌, ℕ, ◌+◌, ◌-◌, ◌*◌, ◌≤◌, ◌<◌, ◌⊎◌, not, count_by, List, [], ◌∷◌, ◌++◌, length, slice_get, Some, Ok, Contains}
 use Rattle.std.specs.List.{flat_map}
-use Rattle.mb_base.specs.Limits.{entry_limit, entry_bytes_limit, log_intervals, other_limit}
 use Rattle.mb_base.specs.Shapes.{Bytes, interval}
 use Rattle.mb_msg.specs.declared.message.Message.TheVariants as message
 use Rattle.mb_msg.specs.declared.transfer.Resend.{Resend}
@@ -28,9 +27,9 @@ pub record IsFilled (all some : List StampedMessage) : Type 0 where
   pub rest : List StampedMessage
   pub begins : all ≡ some ++ rest
   pub first : 1 ≤ length all → 1 ≤ length some
-  pub few : length some ≤ entry_limit
-  pub short : (length some ≤ 1) ⊎ (bytes_of some ≤ entry_bytes_limit)
-  pub full : (m : StampedMessage) (more : List StampedMessage) → rest ≡ m ∷ more → (length some ≡ entry_limit) ⊎ (entry_bytes_limit < bytes_of (some ++ m ∷ []))
+  pub few : length some ≤ 64
+  pub short : (length some ≤ 1) ⊎ (bytes_of some ≤ 800000)
+  pub full : (m : StampedMessage) (more : List StampedMessage) → rest ≡ m ∷ more → (length some ≡ 64) ⊎ (800000 < bytes_of (some ++ m ∷ []))
 
 -- how long the log of a host was as it stamped the next message, with it, and before what it cuts
 abbrev pub length_with : {S : Type 0} → Identity S → History → ℕ
@@ -55,8 +54,8 @@ module _ {S : Type 0} (self : Identity S) (d : History) where
 
   -- six intervals of PREPAREs, COMMITs and CHECKPOINTs, and 768 others
   pub record IsShort : Type 0 where
-    pub normal : count_by is_normal (own_log self d) ≤ log_intervals * interval self.shape
-    pub others : count_by (λ m. not (is_normal m)) (own_log self d) ≤ other_limit
+    pub normal : count_by is_normal (own_log self d) ≤ 6 * interval self.shape
+    pub others : count_by (λ m. not (is_normal m)) (own_log self d) ≤ 768
 
   -- What a report tells is the greatest of these lengths, and 0 where nothing was stamped.
   pub record TellsLongest : Type 0 where

@@ -3,7 +3,6 @@
 use Rattle.std.specs.Prelude.{◌≡◌, ℕ, ◌+◌, ◌-◌, ◌^◌, ◌≤◌, ◌<◌, ◌⊎◌, true, false, ◌∷◌, ◌++◌, length, min, slice_get, is_some, Some, None, Ok, Err, Contains}
 use Rattle.std.specs.List.{AllByRecursion}
 use Rattle.sha2.specs.Sha256.{sha256}
-use Rattle.mb_base.specs.Limits.{part_count}
 use Rattle.mb_base.specs.Shapes.{Bytes, span}
 use Rattle.mb_usig.specs.Tags.{wish_tag, stop_tag}
 use Rattle.mb_parts.specs.declared.certificates.FloorCert.{FloorCert}
@@ -133,9 +132,9 @@ module _ {S : Type 0} (self : Identity S) where
     abbrev pub last_number : ℕ → ℕ
     last_number c = (reply_of (state_of self d) c).seq
 
-    -- A part of a STATE has not the digest that its list has; their count stands for the list.
+    -- A part of a STATE has not the digest that its list has; 65 stands for the list.
     abbrev pub IsWrongPart : Message → ℕ → Type 0
-    IsWrongPart (message.State m) part = ((part ≡ part_count) × (sha256 (digest_string m.digests m.pos) ≡ (stable_of self d).state → ⊥))
+    IsWrongPart (message.State m) part = ((part ≡ 65) × (sha256 (digest_string m.digests m.pos) ≡ (stable_of self d).state → ⊥))
         ⊎ ((m.first ≤ part) × (part < m.first + length m.parts) × ((p : Bytes) → slice_get m.parts (part - m.first) ≡ Some p → slice_get m.digests part ≡ Some (sha256 p) → ⊥))
     IsWrongPart m part = ⊥
 
