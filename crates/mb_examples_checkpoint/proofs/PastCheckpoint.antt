@@ -1,20 +1,14 @@
 -- A run of the program's own system past two checkpoints, which meets each premise of the promise about all hosts; so the promise is made of it. A client puts
 -- 1 to 8 under one key, one after the other; h0 orders and h1 commits each, and both execute it. Behind the fourth and the eighth both stamp a CHECKPOINT, and are
 -- given that of the other: so position 8 is stable, and both cut their logs behind the first CHECKPOINT. A ninth PUT is executed by h1 alone.
-use Rattle.std.proofs.Common.{◌≡◌, ◌≤◌, ◌<◌, ℕ, zero, suc, Bool, true, false, List, [], ◌∷◌, length, map, refl, sym, ap, subst, ◌∙◌, arith, Some}
-use Rattle.std.specs.Prelude.{slice_get, ◌&&◌, nat_lt, nat_le}
-use Rattle.std.proofs.lemmas.Bool.{and_parts, ltb-true, leb-true}
-use Rattle.std.proofs.lemmas.List.Sums.{AllPass-from_list_all}
-use Rattle.std.proofs.lemmas.Option.{slice_get_within, get_or_from_slice_get}
+use Rattle.std.proofs.Common.{◌≡◌, ◌≤◌, ◌<◌, ℕ, zero, suc, false, List, [], ◌∷◌, map, refl, sym, ap, subst, ◌∙◌, arith}
 use Rattle.mb_kv.specs.Pairs.{Pairs}
 use Rattle.mb_kv.specs.Operations.{operation_at, operation_of}
 use Rattle.mb_model.specs.Positions.{exec_of}
 use Rattle.mb_model.specs.Stable.{low_of}
 use Rattle.mb_model.specs.OwnLog.{log_start}
 use Rattle.mb_model.specs.Execution.{state_of}
-use Rattle.mb_schedule.specs.declared.schedule.WorldEvent.{WorldEvent}
-use Rattle.mb_schedule.specs.declared.schedule.WorldEvent.TheVariants.{Ask, Give}
-use Rattle.mb_schedule.specs.Limits.{EventFits, IsSchedule, is_faulty}
+use Rattle.mb_schedule.specs.Limits.{is_faulty}
 use Rattle.mb_world_model.specs.World.{World, self_of}
 use Rattle.mb_world_model.specs.Hashed.{HashesApart}
 use Rattle.mb_world_model.proofs.WorldsOnLiterals.{worlds_on_literals}
@@ -22,32 +16,13 @@ use Rattle.mb_promise.specs.Headline.{Promises}
 use Rattle.mb_promise.specs.Safety.{after_line}
 use Rattle.mb_top.specs.Systems.{system_of, world}
 use Rattle.mb_top.proofs.Promised.{hold_at_each_event}
-use Rattle.mb_examples_checkpoint.proofs.Messages.{slot_1, slot_2, slot_3, slot_4, slot_5, slot_6, slot_7, slot_8, slot_9}
-use Rattle.mb_examples_checkpoint.proofs.System.{events, one_client, past_checkpoint, system}
-use Rattle.mb_examples_checkpoint.proofs.Worlds.{world_39}
-use Rattle.mb_examples_checkpoint.proofs.Reached.{reached_39}
-use Rattle.mb_examples_checkpoint.proofs.Strings.{hashes_are_apart}
-
--- ---- the schedule is one
-
--- an event of a client below 1, or of a host below 3, with a short operation
-abbrev is_small : WorldEvent → Bool
-is_small (Ask c op) = nat_lt c 1 && nat_le (length op) 1024
-is_small (Give m h) = nat_lt h 3
-is_small _ = false
-
-small_fits : (e : WorldEvent) → is_small e ≡ true → EventFits one_client e
-small_fits (Ask c op) small = let parts = and_parts (nat_lt c 1) (nat_le (length op) 1024) small in (ltb-true c 1 parts.0, leb-true (length op) 1024 parts.1)
-small_fits (Give m h) small = ltb-true h 3 small
-small_fits _ small = absurd cc
-
-small_at : (k : ℕ) (e : WorldEvent) → slice_get events k ≡ Some e → is_small e ≡ true
-small_at k e at = subst (λ (x : WorldEvent). is_small x ≡ true) (get_or_from_slice_get events k e e at) (AllPass-from_list_all is_small events refl k e (slice_get_within events k e at))
-
-is_schedule : IsSchedule past_checkpoint
-is_schedule =
-    let none : 0 ≤ 1 = omega arith in
-    record { hosts = refl; clients = refl; few = none; events = λ k e at. small_fits e (small_at k e at); count = omega arith }
+use Rattle.mb_examples_course.proofs.Messages.{slot}
+use Rattle.mb_examples_course.proofs.Schedule.{is_schedule, past_checkpoint}
+use Rattle.mb_examples_course.proofs.Worlds.{end}
+use Rattle.mb_examples_course.proofs.Finds.{line_at_end}
+use Rattle.mb_examples_course.proofs.Strings.{hashes_are_apart}
+use Rattle.mb_examples_checkpoint.proofs.System.{system}
+use Rattle.mb_examples_checkpoint.proofs.Reached.{reached}
 
 -- ---- so the promise is made of it
 
@@ -58,23 +33,19 @@ is_of_program = refl
 abbrev last_world : World
 last_world = world past_checkpoint 39
 
-in_last : {A : Type 0} (f : World → A) → f last_world ≡ f world_39
-in_last f = ap f reached_39.is
+in_last : {A : Type 0} (f : World → A) → f last_world ≡ f end
+in_last f = ap f reached.is
 
 pub promised : Promises (system_of past_checkpoint) last_world
 promised =
     let all : 39 ≤ 39 = omega arith in
-    hold_at_each_event past_checkpoint is_schedule 39 all reached_39.free (subst (λ (w : World). HashesApart w.hashed) (sym reached_39.is) hashes_are_apart)
+    hold_at_each_event past_checkpoint is_schedule 39 all reached.free (subst (λ (w : World). HashesApart w.hashed) (sym reached.is) hashes_are_apart)
 
 -- ---- what it says there
 
-of_line : world_39.line ≡ slot_1 ∷ slot_2 ∷ slot_3 ∷ slot_4 ∷ slot_5 ∷ slot_6 ∷ slot_7 ∷ slot_8 ∷ slot_9 ∷ []
-unfolding worlds_on_literals
-of_line = refl
-
 -- The one list has a slot for each PUT.
-pub line_is : last_world.line ≡ slot_1 ∷ slot_2 ∷ slot_3 ∷ slot_4 ∷ slot_5 ∷ slot_6 ∷ slot_7 ∷ slot_8 ∷ slot_9 ∷ []
-line_is = in_last (λ (w : World). w.line) ∙ of_line
+pub line_is : last_world.line ≡ slot 1 ∷ slot 2 ∷ slot 3 ∷ slot 4 ∷ slot 5 ∷ slot 6 ∷ slot 7 ∷ slot 8 ∷ slot 9 ∷ []
+line_is = in_last (λ (w : World). w.line) ∙ line_at_end
 
 -- how far a host executed, what is stable for it, the counter behind which its log begins, and the pairs of its state
 pub record Place : Type 0 where
@@ -101,7 +72,7 @@ places =
     record { executed = 0; stable = 0; log = 0; pairs = [] } ∷
     []
 
-there : map (place world_39) hosts ≡ places
+there : map (place end) hosts ≡ places
 unfolding worlds_on_literals operation_at operation_of
 there = refl
 

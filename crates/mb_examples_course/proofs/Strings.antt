@@ -9,8 +9,8 @@ use Rattle.mb_model.proofs.Hex.{unhex}
 use Rattle.mb_world_model.specs.Hashed.{HashesApart}
 use Rattle.mb_world_model.proofs.WorldsOnLiterals.{worlds_on_literals}
 use Rattle.mb_examples_world.proofs.Apart.{is_among, are_apart}
-use Rattle.mb_examples_checkpoint.proofs.Messages.{list_4, list_8}
-use Rattle.mb_examples_checkpoint.proofs.Worlds.{world_39}
+use Rattle.mb_examples_course.proofs.Messages.{list}
+use Rattle.mb_examples_course.proofs.Worlds.{end}
 
 abbrev hashed_strings : List Bytes
 hashed_strings =
@@ -32,7 +32,7 @@ hashed_strings =
     unhex (codes "0000") ∷
     unhex (codes "00010161000134") ∷
     unhex (codes "00000000000000040000000000000004000100") ∷
-    list_4 ∷
+    list 4 ∷
     unhex (codes "03000000000000000000000000000000040000000000000004d2e666f43bbb865097824652609aa2273a5ef4c2bee06cb579264ccb9ae3af860134c83cf884a741b7ac7ba4330b262b0844f5e3717e971883861b857a52990b") ∷
     unhex (codes "000000") ∷
     unhex (codes "050000000000000004f70e1b3896859e2caec8876a56e77bd50a19882b841e17ff7f48ebef6de1dda8709e80c88487a2411e1ee4dfb9f22a861492d20c4765150c0c794abd70f8147c") ∷
@@ -53,7 +53,7 @@ hashed_strings =
     unhex (codes "020000000000000000000000000000000856b2ba282cc66901879ca9d05eb6729264596f114a2d3991ad2f334b7210984e") ∷
     unhex (codes "00010161000138") ∷
     unhex (codes "00000000000000080000000000000008000100") ∷
-    list_8 ∷
+    list 8 ∷
     unhex (codes "030000000000000000000000000000000800000000000000098b72dd63cd48b75b5251e293f226763583e979076347a3c8e41e2fb0a9a1c83056b2ba282cc66901879ca9d05eb6729264596f114a2d3991ad2f334b7210984e") ∷
     unhex (codes "01000000000000000500000000000000000200000000000000040000000000000004000000000000000401000000000000000500000000000000000200000000000000040000000000000004000000000000000400") ∷
     unhex (codes "050000000000000008cc2b69651f43046fa626eef82f0199cd86d784c1e10b1c5c985685a813faa8dbc16c613b35d33030fdcb40f1ac2d90e1c4d334d534675e111c65af621f08f080") ∷
@@ -115,7 +115,7 @@ digests =
     []
 
 -- Each string that is hashed is one of these, and their digests are these.
-strings_are_these : list_all (is_among hashed_strings) world_39.hashed ≡ true
+strings_are_these : list_all (is_among hashed_strings) end.hashed ≡ true
 unfolding worlds_on_literals
 strings_are_these = refl
 
@@ -123,5 +123,5 @@ digests_are_these : map sha256 hashed_strings ≡ digests
 unfolding tags_on_literals
 digests_are_these = refl
 
-pub hashes_are_apart : HashesApart world_39.hashed
-hashes_are_apart = are_apart hashed_strings digests world_39.hashed strings_are_these digests_are_these refl
+pub hashes_are_apart : HashesApart end.hashed
+hashes_are_apart = are_apart hashed_strings digests end.hashed strings_are_these digests_are_these refl
