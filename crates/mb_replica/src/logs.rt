@@ -14,7 +14,7 @@ use mb_service::Service;
 use std::alloc::Global;
 
 impl<V: Service + Drop> ReplicaState<V> {
-    ghost use Rattle.std.specs.Prelude.{◌<◌, ◌==◌, false, None, ◌≡◌, IfOk};
+    ghost use Rattle.std.specs.Prelude.{◌<◌, ◌==◌, false, None, ◌≡◌};
     ghost use Rattle.mb_base.specs.Shapes.{host_count};
     ghost use Rattle.std.specs.List.{AllByRecursion};
     ghost use Rattle.mb_msg.specs.declared.message.Message.TheVariants as message;
@@ -22,7 +22,7 @@ impl<V: Service + Drop> ReplicaState<V> {
     ghost use Rattle.mb_model.specs.Sending.{Progress, write};
     ghost use Rattle.mb_model.specs.Histories.{Accepted, Identity, History};
     ghost use Rattle.mb_model.specs.Given.{give_log, give_entries, jump, floor_shown};
-    ghost use Rattle.mb_replica.specs.Represents.{StandsAt, Answers, Represents};
+    ghost use Rattle.mb_replica.specs.Represents.{StandsAt, Represents};
     ghost use Rattle.mb_replica.specs.Steps.{Moves, AnswersQuietly, Reacts, Jumps};
     ghost use Rattle.mb_replica.specs.Holding.{IsStepping};
     ghost use Rattle.mb_replica.specs.declared.sending.StepOutput.{StepOutput};
