@@ -1,6 +1,7 @@
--- The limits of the system, each once. Definitions and proofs cite it by its name; that the constants of the code are the same numbers is said by the
+-- The limits of the system, each once. Definitions, proofs and clauses cite it by its name; that the constants of the code are the same numbers is said by the
 -- contracts that cite both, and by the laws `limits_are_those_defined` of `mb_parts` and `service_limits_are_those_defined` of `mb_service`. What limits one
--- format alone (a datagram's piece, the store's keys and values, the longest text) is a constant of that format's crate, which definitions cite by its name.
+-- format or one table alone (a datagram's piece and their number, the store's keys and values, the longest text, the positions of kept CHECKPOINTs) is a
+-- constant of that crate, or a word of its definitions, which is cited by its name. `mb_pins` says the numbers once more.
 use Rattle.std.specs.Prelude.{ℕ, ◌+◌, ◌*◌}
 
 -- ---- how large a system is

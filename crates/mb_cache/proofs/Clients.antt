@@ -6,7 +6,7 @@ use Rattle.std.proofs.lemmas.Bool.{lt-ltb, le-ltb, ltb-true, leb-true, le-leb, e
 use Rattle.std.proofs.lemmas.List.{get_or-set_same, length-append}
 use Rattle.std.proofs.lemmas.List.Concat.{flat_map-cons}
 use Rattle.std.proofs.lemmas.Option.{slice_get-get_or, unwrap_or-slice_get}
-use Rattle.mb_base.specs.Limits.{text_limit}
+use Rattle.mb_base.specs.Limits.{text_limit, part_limit}
 use Rattle.mb_base.specs.Shapes.{Bytes}
 use Rattle.mb_base.proofs.Laws.{number_length, wide16, wide64}
 use Rattle.mb_parts.specs.declared.limits.TheConstants.{MAX_PLACE}
@@ -140,6 +140,6 @@ texts_short (a ∷ t) all =
     omega (arith, joined, text_short a all.0, texts_short t all.1)
 
 -- They have room in a part.
-pub table_short : (t : List LastReply) → IsTable t → length (table_bytes t) ≤ 4000000
+pub table_short : (t : List LastReply) → IsTable t → length (table_bytes t) ≤ part_limit
 unfolding table_bytes
 table_short t f = omega (arith, texts_short t f.each, f.few)

@@ -5,6 +5,7 @@ ghost use Rattle.mb_base.specs.Limits.{most_hosts};
 ghost use Rattle.mb_base.specs.Shapes.{interval};
 ghost use Rattle.mb_msg.specs.Bodies.{body_digest};
 ghost use Rattle.mb_msg.specs.Spelling.{floors_body_bytes};
+ghost use Rattle.mb_checkpoints.specs.declared.checkpoints.TheConstants.{POSITIONS};
 
 use mb_base::{Digest, Host, NoMemory, Pos, Shape};
 use mb_msg::{Checkpoint, MAX_POS};
@@ -53,7 +54,7 @@ pub struct Checkpoints {
     ghost first_in: { first < 2 ^ 61 },
     ghost low_in: { first * interval shape < 2 ^ 63 },
     ghost low_is: { window.low ≡ first * most_hosts },
-    ghost width: { length window.items ≡ 3 * most_hosts },
+    ghost width: { length window.items ≡ POSITIONS * most_hosts },
 }
 
 impl Checkpoints {

@@ -1,6 +1,7 @@
 -- The rules one after the other, and that each is the one that the code names.
 use Rattle.std.proofs.Common.{◌≡◌, ℕ, zero, suc, List, Option, Some, None, Result, refl, sym, ap, subst, ◌∙◌}
 use Rattle.std.specs.Prelude.{OnOk}
+use Rattle.mb_base.specs.Limits.{rule_limit}
 use Rattle.mb_service.specs.Machine.{ServiceMachine}
 use Rattle.mb_msg.specs.declared.change.ViewChange.{ViewChange}
 use Rattle.mb_msg.specs.declared.change.NewView.{NewView}
@@ -71,7 +72,7 @@ module _ {V : Type 0} (me : Identity V) where
     pub stands : StandsAt me r done at
     pub rest : run_rules me left at ≡ all
 
-  pub begins : (r : ReplicaState V) (done : StepOutput) (x : Progress) (left : ℕ) → left ≡ 1000000 → StandsAt me r done x → Running r done left (run_rules me enough x)
+  pub begins : (r : ReplicaState V) (done : StepOutput) (x : Progress) (left : ℕ) → left ≡ rule_limit → StandsAt me r done x → Running r done left (run_rules me enough x)
   unfolding enough
   begins r done x left is st = record { at = x; stands = st; rest = ap (λ n. run_rules me n x) is }
 

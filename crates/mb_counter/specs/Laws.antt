@@ -1,8 +1,9 @@
 -- The laws of a service, for a count. They stand here because an impl can name only what is in `specs`.
-use Rattle.std.proofs.Common.{◌≡◌, ℕ, zero, suc, ◌+◌, ◌≤◌, Bool, true, false, cond, eqb, ltb, List, [], ◌∷◌, length, map, Result, Ok, Err, refl, sym, ap, subst, ◌∙◌, arith}
+use Rattle.std.proofs.Common.{◌≡◌, ℕ, zero, suc, ◌+◌, ◌-◌, ◌≤◌, Bool, true, false, cond, eqb, ltb, List, [], ◌∷◌, length, map, Result, Ok, Err, refl, sym, ap, subst, ◌∙◌, arith}
 use Rattle.std.specs.List.{range_with_len}
 use Rattle.std.specs.Int.{w64, from_be_bytes}
 use Rattle.std.proofs.lemmas.Bool.{eqb-true, ltb-true, ne_eqb}
+use Rattle.mb_base.specs.Limits.{service_parts}
 use Rattle.mb_base.specs.Shapes.{Bytes}
 use Rattle.mb_base.specs.Spelling.{IsBytes, number}
 use Rattle.mb_base.proofs.Laws.{number_length, wide64}
@@ -62,8 +63,8 @@ others_again count before part (suc n) some =
 
 pub parts_give_the_state : (count : ℕ) → IsCount count → restored (parts_of part_of count) ≡ Ok count
 parts_give_the_state count h =
-    ap (λ (r : Result ℕ ℕ). or_bad_part 0 r (λ c. counted c 1 (map (part_of count) (range_with_len 1 63)))) (count_again count h)
-    ∙ others_again count count 1 63 (omega arith)
+    ap (λ (r : Result ℕ ℕ). or_bad_part 0 r (λ c. counted c 1 (map (part_of count) (range_with_len 1 (service_parts - 1))))) (count_again count h)
+    ∙ others_again count count 1 (service_parts - 1) (omega arith)
 
 -- ---- no other parts give it
 
@@ -114,7 +115,7 @@ one_list_of_parts (first ∷ others) count are e =
     let a = or_bad_ok 0 (count_in first) (λ c. counted c 1 others) count e in
     let one = count_taken first a.0 are.1.0 a.1 in
     let rest = others_taken count a.0 1 others count (omega arith) a.2 in
-    let long : length others ≡ 63 = omega (arith, are.0) in
+    let long : length others ≡ service_parts - 1 = omega (arith, are.0) in
     let front : first ≡ number w64 count = one.1 ∙ ap (number w64) rest.0 in
-    let behind : others ≡ map (part_of count) (range_with_len 1 63) = rest.1 ∙ ap (λ (n : ℕ). map (part_of count) (range_with_len 1 n)) long in
+    let behind : others ≡ map (part_of count) (range_with_len 1 (service_parts - 1)) = rest.1 ∙ ap (λ (n : ℕ). map (part_of count) (range_with_len 1 n)) long in
     (subst IsCount rest.0 one.0, ap (λ (x : Bytes). x ∷ others) front ∙ ap (λ (xs : List Bytes). number w64 count ∷ xs) behind)

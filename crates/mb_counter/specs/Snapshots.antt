@@ -1,4 +1,4 @@
--- The count as 64 parts, and back: part 0 has its eight bytes, and the others have none.
+-- The count as the parts of a state, and back: part 0 has its eight bytes, and the others have none.
 use Rattle.std.specs.Prelude.{◌≡◌, ℕ, ◌+◌, List, [], ◌∷◌, length, nat_lt, ◌==◌, Result, Ok, Err, if◌then◌else◌}
 use Rattle.std.specs.Int.{w64, from_be_bytes}
 use Rattle.mb_base.specs.Shapes.{Bytes}

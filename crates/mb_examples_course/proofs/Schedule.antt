@@ -4,6 +4,7 @@ use Rattle.std.specs.Prelude.{slice_get, replicate, ◌&&◌, nat_lt, nat_le}
 use Rattle.std.proofs.lemmas.Bool.{and_parts, ltb-true, leb-true}
 use Rattle.std.proofs.lemmas.List.Sums.{AllPass-from_list_all}
 use Rattle.std.proofs.lemmas.Option.{slice_get_within, get_or_from_slice_get}
+use Rattle.mb_base.specs.Limits.{text_limit}
 use Rattle.mb_base.specs.declared.shape.Shape.{Shape}
 use Rattle.mb_schedule.specs.declared.schedule.WorldEvent.{WorldEvent}
 use Rattle.mb_schedule.specs.declared.schedule.WorldEvent.TheVariants.{Ask, Give}
@@ -33,12 +34,12 @@ past_checkpoint = record { shape = one_client; secret = replicate 32 0; faulty_h
 
 -- an event of a client below 1, or of a host below 3, with a short operation
 abbrev is_small : WorldEvent → Bool
-is_small (Ask c op) = nat_lt c 1 && nat_le (length op) 1024
+is_small (Ask c op) = nat_lt c 1 && nat_le (length op) text_limit
 is_small (Give m h) = nat_lt h 3
 is_small _ = false
 
 small_fits : (e : WorldEvent) → is_small e ≡ true → EventFits one_client e
-small_fits (Ask c op) small = let parts = and_parts (nat_lt c 1) (nat_le (length op) 1024) small in (ltb-true c 1 parts.0, leb-true (length op) 1024 parts.1)
+small_fits (Ask c op) small = let parts = and_parts (nat_lt c 1) (nat_le (length op) text_limit) small in (ltb-true c 1 parts.0, leb-true (length op) text_limit parts.1)
 small_fits (Give m h) small = ltb-true h 3 small
 small_fits _ small = absurd cc
 

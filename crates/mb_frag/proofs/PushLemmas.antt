@@ -8,7 +8,7 @@ use Rattle.mb_frag.specs.declared.pushed.Pushed.{Pushed}
 use Rattle.mb_frag.specs.declared.pushed.Pushed.TheVariants.{NotYet, Whole}
 use Rattle.mb_frag.specs.declared.stage.Stage.TheVariants.{Begun}
 use Rattle.mb_base.specs.declared.limits.TheConstants.{MESSAGE_LIMIT}
-use Rattle.mb_frag.specs.declared.limits.TheConstants.{PIECE}
+use Rattle.mb_frag.specs.declared.limits.TheConstants.{PIECE, MAX_COUNT}
 use Rattle.mb_frag.specs.Pieces.{Piece}
 use Rattle.mb_frag.specs.Cutting.{piece_count, part, header_of, piece_text, pieces_of}
 use Rattle.mb_frag.specs.Reading.{piece_of}
@@ -36,7 +36,7 @@ module _ (sender number : ℕ) (message : Bytes) (sender_fits : sender < 2 ^ 8) 
   piece_again : (index : ℕ) → index < piece_count message → piece_of (piece_text sender number message index) ≡ Ok (piece_on sender number message index)
   piece_again index lt =
       let bounds = count_bounds message in
-      let most : piece_count message ≤ 128 = omega arith in
+      let most : piece_count message ≤ MAX_COUNT = omega arith in
       datagram_again (header_of sender number message index) (part message index)
       (record { sender = sender_fits; number = number_fits; above = lt; most = most })
       (part_enough sender number message index lt) (part_short message index)

@@ -14,8 +14,8 @@ use Rattle.std.specs.Prelude.{slice_index_or, option_copied}
 use Rattle.std.specs.Option.{IfSome}
 use Rattle.std.specs.Fn.{Called, Mut}
 use Rattle.std.specs.Array.{IsFromFnResultFrom}
+use Rattle.mb_base.specs.Limits.{service_parts}
 use Rattle.mb_base.specs.Shapes.{Bytes}
-use Rattle.mb_service.specs.declared.service.TheConstants.{PARTS}
 use Rattle.mb_kv.specs.declared.limits.TheConstants.{MAX_KEYS, MAX_VALUE}
 use Rattle.mb_kv.specs.Pairs.{Pairs, compare, is_key, value_of, with_value, without}
 use Rattle.mb_kv.specs.Operations.{is_full_for}
@@ -133,8 +133,8 @@ own_left b key (p ∷ ps) all = by (is_eq (compare key p.0)) (own_left b key ps 
     by true more = all.1
     by false more = (all.0, more)
 
-module _ (pss : List Pairs) (long : length pss ≡ PARTS) (are : AreBuckets 0 pss) where
-  pub own_part : (b : ℕ) → b < PARTS → InPart b (get_or pss b [])
+module _ (pss : List Pairs) (long : length pss ≡ service_parts) (are : AreBuckets 0 pss) where
+  pub own_part : (b : ℕ) → b < service_parts → InPart b (get_or pss b [])
   own_part b lt = subst (λ (x : ℕ). InPart x (get_or pss b [])) (from_first b) (part_at 0 pss b are (omega (arith, lt, long)))
 
   module _ (key : Bytes) where
@@ -197,7 +197,7 @@ module _ (pss : List Pairs) (long : length pss ≡ PARTS) (are : AreBuckets 0 ps
         ∙ sym (value_after_delete q key (state_of pss) (collected_rises (joined pss))))
 
   -- the text of a part
-  pub part_is : (b : ℕ) → b < PARTS → get_or pss b [] ≡ in_bucket b (state_of pss)
+  pub part_is : (b : ℕ) → b < service_parts → get_or pss b [] ≡ in_bucket b (state_of pss)
   part_is b lt = same_pairs _ _ (own_part b lt).rises (bucket_rises b (state_of pss) (collected_rises (joined pss))) (λ q. one q (eqb (bucket_of q) b) refl)
     where
       one : (q : Bytes) (c : Bool) → eqb (bucket_of q) b ≡ c → value_of (get_or pss b []) q ≡ value_of (in_bucket b (state_of pss)) q
@@ -225,7 +225,7 @@ few_in_bucket b (p ∷ ps) = by (eqb (bucket_of p.0) b) (few_in_bucket b ps)
     by true le = omega arith
     by false le = omega arith
 
-module _ (pss : List Pairs) (count : ℕ) (kept : AreKept pss count) (b : ℕ) (lt : b < PARTS) (default : Pairs) where
+module _ (pss : List Pairs) (count : ℕ) (kept : AreKept pss count) (b : ℕ) (lt : b < service_parts) (default : Pairs) where
   same_part : get_or pss b [] ≡ get_or pss b default
   same_part = get_or_from_slice_get pss b (get_or pss b default) [] (slice_get-get_or pss b default (omega (arith, lt, kept.long)))
 
@@ -327,13 +327,13 @@ none_joined : (n : ℕ) → joined (replicate n []) ≡ []
 none_joined zero = refl
 none_joined (suc n) = flat_map-cons (λ (ps : Pairs). ps) [] (replicate n []) ∙ none_joined n
 
-pub none_is : (pss : List Pairs) → pss ≡ replicate PARTS [] → state_of pss ≡ []
-none_is pss e = ap state_of e ∙ ap collected (none_joined PARTS)
+pub none_is : (pss : List Pairs) → pss ≡ replicate service_parts [] → state_of pss ≡ []
+none_is pss e = ap state_of e ∙ ap collected (none_joined service_parts)
 
-pub none_are_kept : (pss : List Pairs) → pss ≡ replicate PARTS [] → AreKept pss 0
+pub none_are_kept : (pss : List Pairs) → pss ≡ replicate service_parts [] → AreKept pss 0
 none_are_kept pss e = record {
-  long = ap length e ∙ length-replicate {A = Pairs} PARTS [];
-  own = subst (AreBuckets 0) (sym e) (none_kept 0 PARTS);
+  long = ap length e ∙ length-replicate {A = Pairs} service_parts [];
+  own = subst (AreBuckets 0) (sym e) (none_kept 0 service_parts);
   count_is = sym (ap length (none_is pss e));
   few = omega arith;
 }

@@ -20,7 +20,7 @@ use Rattle.mb_kv.specs.Snapshots.{bucket_of, in_bucket, pair_text, part_of, last
 use Rattle.mb_kv.specs.Snapshots.{pairs_of}
 use Rattle.mb_kv.specs.States.{PairFits}
 use Rattle.mb_kv.specs.Seen.{pair_seen, pairs_seen, EntryFits, Faults, FaultsWhole}
-use Rattle.mb_kv.specs.Laws.PairLaws.{next_pair_at, part_fault}
+use Rattle.mb_kv.specs.Laws.PairLaws.{pair_limit, next_pair_at, part_fault}
 use Rattle.mb_kv.specs.Laws.TextLaws.{number_fails}
 use Rattle.mb_kv.proofs.EntryLaws.{Entry}
 
@@ -99,15 +99,15 @@ module _ (bucket room : ℕ) (part : Bytes) (s : Cursor) (start : s ≡ cursor 0
 
 -- ---- how long a part is
 
-pair_is_short : (p : Bytes × Bytes) → PairFits p → length (pair_text p) ≤ 579
+pair_is_short : (p : Bytes × Bytes) → PairFits p → length (pair_text p) ≤ pair_limit
 pair_is_short p fits =
     omega (arith, length-append (text w8 p.0) (text16 p.1), length-append (number w8 (length p.0)) p.0, length-append (number w16 (length p.1)) p.1, number_length w8 _ (length p.0) wide8, number_length w16 _ (length p.1) wide16, fits.key_short, fits.value_short)
 
-pairs_are_short : (bucket : ℕ) (ps : Pairs) → AllByRecursion PairFits ps → length (flat_map pair_text (in_bucket bucket ps)) ≤ 579 * length ps
+pairs_are_short : (bucket : ℕ) (ps : Pairs) → AllByRecursion PairFits ps → length (flat_map pair_text (in_bucket bucket ps)) ≤ pair_limit * length ps
 pairs_are_short bucket [] fit = omega arith
 pairs_are_short bucket (p ∷ ps) fit = one (eqb (bucket_of p.0) bucket) (pairs_are_short bucket ps fit.1)
   where
-    one : (b : Bool) → length (flat_map pair_text (in_bucket bucket ps)) ≤ 579 * length ps → length (flat_map pair_text (cond b (p ∷ in_bucket bucket ps) (in_bucket bucket ps))) ≤ 579 * suc (length ps)
+    one : (b : Bool) → length (flat_map pair_text (in_bucket bucket ps)) ≤ pair_limit * length ps → length (flat_map pair_text (cond b (p ∷ in_bucket bucket ps) (in_bucket bucket ps))) ≤ pair_limit * suc (length ps)
     one true le =
         let parts : length (flat_map pair_text (p ∷ in_bucket bucket ps)) ≡ length (pair_text p) + length (flat_map pair_text (in_bucket bucket ps)) = ap length (flat_map-cons pair_text p (in_bucket bucket ps)) ∙ length-append (pair_text p) (flat_map pair_text (in_bucket bucket ps)) in
         omega (arith, le, parts, pair_is_short p fit.0)

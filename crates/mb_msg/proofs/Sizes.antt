@@ -1,8 +1,9 @@
 -- Messages of the kinds that are never long: where each field has an allowed value, they are short enough.
-use Rattle.std.proofs.Common.{◌≡◌, ℕ, ◌^◌, ◌≤◌, length, arith}
+use Rattle.std.proofs.Common.{◌≡◌, ℕ, ◌+◌, ◌^◌, ◌≤◌, length, arith}
 use Rattle.std.specs.Int.{w8, w16, w64}
 use Rattle.std.proofs.lemmas.List.{length-append}
 use Rattle.mb_base.specs.declared.limits.TheConstants.{MESSAGE_LIMIT}
+use Rattle.mb_base.specs.Limits.{text_limit}
 use Rattle.mb_base.specs.declared.shape.Shape.{Shape}
 use Rattle.mb_base.specs.declared.names.Ui.{Ui}
 use Rattle.mb_base.specs.Spelling.{number}
@@ -31,7 +32,7 @@ length16 n = number_length w16 (2 ^ 16) n wide16
 length64 : (n : ℕ) → length (number w64 n) ≡ 8
 length64 n = number_length w64 (2 ^ 64) n wide64
 
-pub request_short : (s : Shape) (r : Request) → FitsRequest s r → length (request_bytes r) ≤ 1067
+pub request_short : (s : Shape) (r : Request) → FitsRequest s r → length (request_bytes r) ≤ 43 + text_limit
 unfolding request_bytes
 request_short s r f = simp (length-append, length8, length16, length64, f.tag) (omega (arith, f.op))
 

@@ -5,7 +5,7 @@ use Rattle.std.specs.List.{range_with_len}
 use Rattle.std.proofs.lemmas.Bool.{eq-eqb, ne_eqb, lt-ltb, le-ltb, cases_eq, cases_lt}
 use Rattle.std.proofs.lemmas.List.{get_or-set_same, get_or-set_other, length-set, get_or_default}
 use Rattle.std.proofs.lemmas.List.FromFn.{fill_by_all, length-map-range_with_len, get_or-map-range_with_len}
-use Rattle.mb_base.specs.Limits.{most_faults}
+use Rattle.mb_base.specs.Limits.{most_faults, most_hosts}
 use Rattle.mb_base.specs.Shapes.{Bytes, host_count}
 use Rattle.mb_base.specs.declared.shape.Shape.{Shape}
 use Rattle.mb_frag.specs.Held.{Held, nothing_held, push_of}
@@ -22,7 +22,7 @@ none_taken s before inbox dg is has = rw is (refl, record { hosts = has.hosts; c
 -- ---- the datagrams of a sender
 
 module _ (before : Receives) (s : Shape) (inbox : Inbox) (has : HasReceived s before inbox) where
-  few : 2 * s.f + 1 ≤ 7
+  few : 2 * s.f + 1 ≤ most_hosts
   few = let most : s.f ≤ most_faults = s.faults_in.1 in omega arith
 
   hosts_len : length inbox.hosts.items ≡ host_count s

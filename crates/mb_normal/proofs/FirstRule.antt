@@ -14,7 +14,7 @@ use Rattle.mb_model.specs.EnabledRules.{Rule, Commit, Execute, Prepare, rule_whe
 use Rattle.mb_normal.specs.declared.due.Due.TheVariants as due
 use Rattle.mb_normal.specs.Searches.{Searches, unordered}
 use Rattle.mb_normal.specs.Tables.{batch_of}
-use Rattle.mb_normal.specs.Rules.{has_quorum, is_committed, if_committed, in_window, commit_rule, execute_rule, prepare_rule, first_rule, Names}
+use Rattle.mb_normal.specs.Rules.{has_quorum, is_committed, if_committed, in_window, may_prepare, commit_rule, execute_rule, prepare_rule, first_rule, Names}
 
 -- ---- with a batch
 
@@ -106,16 +106,13 @@ module _ (s : Shape) (h : ℕ) (x : Searches) (at : Floor) (exec : ℕ) (room : 
   abbrev pub may_execute : Bool
   may_execute = nat_le x.low exec && is_committed s x (exec + 1) (x.slots (exec + 1))
 
-  abbrev pub may_prepare : Bool
-  may_prepare = (h == primary s at.view) && (in_window s x (at.last + 1) && (nat_lt at.last (exec + ahead_limit) && (room && is_some (first_batch (unordered s x)))))
-
   no_commit : may_commit ≡ false → commit_rule s h x at exec room ≡ None
   no_commit e = commit_off (phase_is_open at.phase) (h == primary s at.view) room (at.last + 1) (x.slots (at.last + 1)) e
 
   no_execute : may_execute ≡ false → execute_rule s h x at exec room ≡ None
   no_execute e = execute_off s x (phase_is_open at.phase) (nat_le x.low exec) (exec + 1) (x.slots (exec + 1)) e
 
-  no_prepare : may_prepare ≡ false → prepare_rule s h x at exec room ≡ None
+  no_prepare : may_prepare s x h at exec room ≡ false → prepare_rule s h x at exec room ≡ None
   no_prepare e = prepare_off (phase_is_open at.phase) (h == primary s at.view) (in_window s x (at.last + 1)) (nat_lt at.last (exec + ahead_limit)) room (at.last + 1) (first_batch (unordered s x)) e
 
   pub first_closed : phase_is_open at.phase ≡ false → Names due.Nothing (first_rule s h x at exec room)
@@ -131,13 +128,13 @@ module _ (s : Shape) (h : ℕ) (x : Searches) (at : Floor) (exec : ℕ) (room : 
       subst (λ (a : Option Rule). Names (due.Execute (exec + 1)) (option_or a (option_or (execute_rule s h x at exec room) (prepare_rule s h x at exec room)))) (sym (no_commit fails))
       (execute_on s x (phase_is_open at.phase) (nat_le x.low exec) (exec + 1) (x.slots (exec + 1)) _ holds e)
 
-  pub first_prepare : phase_is_open at.phase ≡ true → may_commit ≡ false → may_execute ≡ false → may_prepare ≡ true → Names due.Prepare (first_rule s h x at exec room)
+  pub first_prepare : phase_is_open at.phase ≡ true → may_commit ≡ false → may_execute ≡ false → may_prepare s x h at exec room ≡ true → Names due.Prepare (first_rule s h x at exec room)
   first_prepare holds fails not_yet e =
       subst (λ (a : Option Rule). Names due.Prepare (option_or a (option_or (execute_rule s h x at exec room) (prepare_rule s h x at exec room)))) (sym (no_commit fails))
       (subst (λ (a : Option Rule). Names due.Prepare (option_or a (prepare_rule s h x at exec room))) (sym (no_execute not_yet))
       (prepare_on (phase_is_open at.phase) (h == primary s at.view) (in_window s x (at.last + 1)) (nat_lt at.last (exec + ahead_limit)) room (at.last + 1) (first_batch (unordered s x)) holds e))
 
-  pub first_none : may_commit ≡ false → may_execute ≡ false → may_prepare ≡ false → Names due.Nothing (first_rule s h x at exec room)
+  pub first_none : may_commit ≡ false → may_execute ≡ false → may_prepare s x h at exec room ≡ false → Names due.Nothing (first_rule s h x at exec room)
   first_none fails not_yet nothing =
       ap (λ (a : Option Rule). option_or a (option_or (execute_rule s h x at exec room) (prepare_rule s h x at exec room))) (no_commit fails)
       ∙ ap (λ (a : Option Rule). option_or a (prepare_rule s h x at exec room)) (no_execute not_yet) ∙ no_prepare nothing

@@ -1,7 +1,8 @@
 //! A client's request, and the identifier of a stamped message.
 
-ghost use Rattle.std.specs.Prelude.{◌≡◌, ◌↔◌, ◌<◌, ◌≤◌, ◌++◌, ◌^◌, ℕ, length, List, Option, None, IfOk, IsTrue, OnOk};
+ghost use Rattle.std.specs.Prelude.{◌≡◌, ◌↔◌, ◌<◌, ◌≤◌, ◌+◌, ◌++◌, ◌^◌, ℕ, length, List, Option, None, IfOk, IsTrue, OnOk};
 ghost use Rattle.std.specs.Int.{w8};
+ghost use Rattle.mb_base.specs.Limits.{text_limit};
 ghost use Rattle.mb_base.specs.Shapes.{host_count};
 ghost use Rattle.mb_base.specs.Spelling.{number, text16};
 ghost use Rattle.mb_base.specs.Fields.{place_of};
@@ -121,7 +122,7 @@ impl Request {
     pub fn size(&self) -> usize
         requires { FitsText self.now.op }
         ensures bytes { result ≡ length (request_bytes self.now) }
-        ensures most { result ≤ 1067 }
+        ensures most { result ≤ 43 + text_limit }
     {
         1 + 8 + 2 + self.op.len() + 32
     }

@@ -183,8 +183,8 @@ fn are_quorum(shape: &Shape, changes: &[ViewChange], logs: &[ShownLog<'_>]) -> b
     changes.len() == quorum && logs.len() == quorum
 }
 
-/// What VIEW_CHANGEs leave to the next view, as [`plan_of`] says. `places` is what was found of the votes that they show: no batch is hashed of which the
-/// digest was found.
+/// What VIEW_CHANGEs leave to the next view, as [`plan_of`] says. `places` is what was found of the votes that they show: a batch of which the digest
+/// was found is not hashed.
 #[tactic(auto, using(crate::proofs::PlanFits::by_host_fit))]
 pub(crate) fn plan_beside(
     alloc: Global,

@@ -2,7 +2,7 @@
 -- it carries out; but for the list of the requests that wait, which is the rules' own.
 use Rattle.std.specs.Prelude.{◌≡◌, ℕ, ◌+◌, ◌-◌, ◌*◌, ◌^◌, ◌%◌, Bool, not, count_by, ◌≤◌, ◌<◌, ◌⊎◌, ◌↔◌, true, false, List, [], ◌∷◌, ◌++◌, length, filter, nat_le, ◌==◌, is_some, Some, None, Ok, Contains}
 use Rattle.std.specs.List.{flat_map}
-use Rattle.mb_base.specs.Limits.{batch_limit, batch_bytes_limit, log_intervals, other_limit}
+use Rattle.mb_base.specs.Limits.{batch_limit, batch_bytes_limit, ahead_limit, log_intervals, other_limit}
 use Rattle.mb_base.specs.Shapes.{Bytes, HasQuorum, max_faults, quorum, primary, tally, interval, span, host_count, client_count}
 use Rattle.mb_parts.specs.declared.request.Request.{Request}
 use Rattle.mb_parts.specs.declared.batch.Batch.{Batch}
@@ -105,11 +105,11 @@ module _ {S : Type 0} (self : Identity S) (d : History) where
   abbrev pub IsUnordered : ℕ → ℕ → Type 0
   IsUnordered c seq = (p : ℕ) (k : KnownSlot) (b : Batch) → HasSlot self d p k b → AreBelow c seq b.requests
 
-  -- An open primary with room, whose next position is in the window and less than four above the last executed one, has no client's
+  -- An open primary with room, whose next position is in the window and less than `ahead_limit` above the last executed one, has no client's
   -- request waiting that is fresh and above the client's numbers in the slots.
   abbrev pub OrdersRequests : Type 0
   OrdersRequests = (c : ℕ) (r : Request) → is_open self d ≡ true → is_primary self d ≡ true → HasRoom self d
-      → IsInWindow self d ((here self d).last + 1) → (here self d).last < exec_of d + 4
+      → IsInWindow self d ((here self d).last + 1) → (here self d).last < exec_of d + ahead_limit
       → c < client_count self.shape → pending self d c ≡ Some r → is_fresh (state_of self d) r ≡ true → IsUnordered c r.seq → ⊥
 
   -- Each PREPARE that the host stamped holds as many of these requests as go into one batch, from the lowest client on.

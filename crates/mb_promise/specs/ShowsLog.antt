@@ -65,7 +65,7 @@ module _ {S : Type 0} (self : Identity S) (d : History) where
     pub shown : IsShownOf counter first
 
   -- Where messages that are expected are cut away, and only there, the floor is shown; then the stable certificate, the evidence of the view, and the messages,
-  -- 64 at most, one for each counter from the first one on.
+  -- at most `entry_limit`, one for each counter from the first one on.
   pub record ShowsLog (m : Resend) (l : Log) : Type 0 where
     pub host : l.host ≡ self.host
     pub floor : expected self m ≤ log_start self d → l.floor ≡ log_floor self d

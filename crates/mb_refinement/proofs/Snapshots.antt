@@ -7,7 +7,7 @@ use Rattle.std.proofs.lemmas.Bool.{cases_Bool, leb-true, le-leb}
 use Rattle.std.proofs.lemmas.Bool.Decides.{eqb_tells}
 use Rattle.std.proofs.lemmas.List.{length-append, length-map}
 use Rattle.std.proofs.lemmas.List.FromFn.{length-range_with_len}
-use Rattle.mb_base.specs.Limits.{part_count, service_parts}
+use Rattle.mb_base.specs.Limits.{part_count, service_parts, snapshot_limit}
 use Rattle.mb_base.specs.Shapes.{Bytes, interval, span}
 use Rattle.mb_msg.specs.declared.event.Slot.{Slot}
 use Rattle.mb_model.specs.Service.{Served}
@@ -106,7 +106,7 @@ module _ {S : Type 0} (self : Identity S) where
     pub none_kept_above : (p : ℕ) → slot.pos ≤ p → parts_at shelf p ≡ None
     none_kept_above = answers.above slot.pos below
 
-    pub place_left : length shelf < 3
+    pub place_left : length shelf < snapshot_limit
     place_left = answers.room slot.pos reached below
 
     -- At an interval a snapshot is kept.

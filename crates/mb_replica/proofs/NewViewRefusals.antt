@@ -1,6 +1,6 @@
 -- What the check of a NEW_VIEW answers is what the history says of it, and its plan is the one that it announces.
-use Rattle.std.proofs.Common.{◌≡◌, ◌∙◌, ℕ, Bool, true, false, refl, Option, Some, None, sym, ap, subst, Result, Ok, Err}
-use Rattle.std.specs.Prelude.{option_and_then, option_map, if◌then◌else◌}
+use Rattle.std.proofs.Common.{◌≡◌, ◌∙◌, ℕ, true, refl, Option, Some, None, sym, ap, subst, Result, Ok, Err}
+use Rattle.std.specs.Prelude.{option_and_then}
 use Rattle.mb_base.specs.Shapes.{Bytes}
 use Rattle.mb_msg.specs.declared.change.Plan.{Plan}
 use Rattle.mb_base.specs.declared.shape.Shape.{Shape}
@@ -10,21 +10,20 @@ use Rattle.mb_msg.specs.declared.change.NewView.{NewView}
 use Rattle.mb_msg.specs.declared.change.NewViewBody.{NewViewBody}
 use Rattle.mb_msg.specs.Bodies.{FitsBody, whole_body}
 use Rattle.mb_msg.specs.Fits.{FitsNewViewBody}
-use Rattle.mb_msg.specs.declared.stamped.Stamped.{Stamped as StampedMessage}
 use Rattle.mb_msg.specs.declared.stamped.Stamped.TheVariants as stamped
 use Rattle.mb_msg.specs.declared.event.Outcome.{Outcome}
 use Rattle.mb_msg.specs.declared.event.Outcome.TheVariants as outcome
 use Rattle.mb_model.specs.Histories.{Identity, History}
-use Rattle.mb_model.specs.Held.{is_current, plan_from, logs_of}
+use Rattle.mb_model.specs.Held.{is_current, logs_of}
 use Rattle.mb_model.specs.Plans.{plan_of}
 use Rattle.mb_model.specs.KindChecks.{new_view_fault, unusable}
 use Rattle.mb_plan.specs.declared.new_view.NewViewFault.{NewViewFault}
-use Rattle.mb_plan.specs.declared.new_view.NewViewFault.TheVariants.{Unusable, OtherPlan, Few}
+use Rattle.mb_plan.specs.declared.new_view.NewViewFault.TheVariants.{Unusable, OtherPlan}
 use Rattle.mb_plan.specs.NewViews.{Follows}
 use Rattle.mb_plan.proofs.MemberFaults.{same_fault}
 use Rattle.mb_replica.specs.declared.state.ReplicaState.{ReplicaState}
 use Rattle.mb_replica.specs.Represents.{Represents}
-use Rattle.mb_replica.specs.Holding.{announced, Announces}
+use Rattle.mb_replica.specs.Holding.{Announces}
 use Rattle.mb_replica.proofs.PlansOfChanges.{plan_may_be_held}
 
 module _ {S : Type 0} (me : Identity S) (m : NewView) where
@@ -48,38 +47,20 @@ module _ {S : Type 0} (me : Identity S) (m : NewView) where
   has_other_plan (Whole b) is = ap unusable (sym (same_fault me m b ∙ is))
   has_other_plan (Short digest) is = absurd cc
 
-module _ {V : Type 0} (r : ReplicaState V) where
-  -- A message announces no plan, and none was found.
-  pub none_announces : (m : StampedMessage) (plan : Option Plan) → plan ≡ None → ((me : Identity V) (d : History) → Represents me r d → announced me d m ≡ None) → Announces r m plan
-  none_announces m plan none nothing =
-      subst (Announces r m) (sym none) (record { hashed = tt; base = tt; is = λ me d rep. sym (nothing me d rep) })
+module _ {V : Type 0} (r : ReplicaState V) (m : NewView) where
+  -- It is refused.
+  pub refused_announces : (plan : Option Plan) (o : Outcome) → Some o ≡ None → Announces r (stamped.NewView m) plan
+  refused_announces plan o never = absurd cc
 
-  module _ (m : NewView) where
-    -- It is refused.
-    pub refused_announces : (plan : Option Plan) (o : Outcome) → Some o ≡ None → Announces r (stamped.NewView m) plan
-    refused_announces plan o never = absurd cc
-
-    -- Its view is not current.
-    pub past_announces : (plan : Option Plan) → plan ≡ None → ((me : Identity V) (d : History) → Represents me r d → is_current me d m.view ≡ false) → Announces r (stamped.NewView m) plan
-    past_announces plan none past = none_announces (stamped.NewView m) plan none (λ me d rep. rw (past me d rep) refl)
-
-    -- It came as the digest of its body.
-    pub few_announces : (plan : Option Plan) → plan ≡ None → Follows r.protocol.shape r.protocol.usig.secret m m.body (Err Few) → Announces r (stamped.NewView m) plan
-    few_announces plan none few = none_announces (stamped.NewView m) plan none (λ me d rep. nothing me (is_current me d m.view) m.body few) where
-      nothing : (me : Identity V) (current : Bool) (b : Body NewViewBody) → Follows r.protocol.shape r.protocol.usig.secret m b (Err Few) → (if current then option_map (λ x. plan_from me x.changes) (whole_body b) else None) ≡ None
-      nothing me current (Whole x) never = absurd never
-      nothing me true (Short x) few = refl
-      nothing me false (Short x) few = refl
-
-    -- The plan of its members was found.
-    pub plan_announces : (plan : Plan) → FitsBody (FitsNewViewBody r.protocol.shape) m.body → Follows r.protocol.shape r.protocol.usig.secret m m.body (Ok plan)
-        → ((me : Identity V) (d : History) → Represents me r d → is_current me d m.view ≡ true) → Announces r (stamped.NewView m) (Some plan)
-    plan_announces plan fits follows current = by_body m.body refl fits follows where
-      by_body : (b : Body NewViewBody) → m.body ≡ b → FitsBody (FitsNewViewBody r.protocol.shape) b → Follows r.protocol.shape r.protocol.usig.secret m b (Ok plan) → Announces r (stamped.NewView m) (Some plan)
-      by_body (Whole x) whole fits follows =
-          let may = plan_may_be_held r.protocol.shape x.changes plan fits.1.1 follows.1 in record {
-            hashed = may.0;
-            base = may.1;
-            is = λ me d rep. rw (current me d rep, whole) (ap (λ (p : Plan). Some p) (follows.1 ∙ ap (λ (s : Shape). plan_of s (logs_of x.changes)) (sym rep.who.shape)));
-          }
-      by_body (Short x) short fits follows = absurd cc
+  -- The plan of its members was found.
+  pub plan_announces : (plan : Plan) → FitsBody (FitsNewViewBody r.protocol.shape) m.body → Follows r.protocol.shape r.protocol.usig.secret m m.body (Ok plan)
+      → ((me : Identity V) (d : History) → Represents me r d → is_current me d m.view ≡ true) → Announces r (stamped.NewView m) (Some plan)
+  plan_announces plan fits follows current = by_body m.body refl fits follows where
+    by_body : (b : Body NewViewBody) → m.body ≡ b → FitsBody (FitsNewViewBody r.protocol.shape) b → Follows r.protocol.shape r.protocol.usig.secret m b (Ok plan) → Announces r (stamped.NewView m) (Some plan)
+    by_body (Whole x) whole fits follows =
+        let may = plan_may_be_held r.protocol.shape x.changes plan fits.1.1 follows.1 in record {
+          hashed = may.0;
+          base = may.1;
+          is = λ me d rep. rw (current me d rep, whole) (ap (λ (p : Plan). Some p) (follows.1 ∙ ap (λ (s : Shape). plan_of s (logs_of x.changes)) (sym rep.who.shape)));
+        }
+    by_body (Short x) short fits follows = absurd cc

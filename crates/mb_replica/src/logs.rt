@@ -14,7 +14,7 @@ use mb_service::Service;
 use std::alloc::Global;
 
 impl<V: Service + Drop> ReplicaState<V> {
-    ghost use Rattle.std.specs.Prelude.{◌<◌, ◌==◌, false, None, ◌≡◌, IfOk};
+    ghost use Rattle.std.specs.Prelude.{◌<◌, ◌==◌, false, None, ◌≡◌};
     ghost use Rattle.mb_base.specs.Shapes.{host_count};
     ghost use Rattle.std.specs.List.{AllByRecursion};
     ghost use Rattle.mb_msg.specs.declared.message.Message.TheVariants as message;
@@ -22,8 +22,8 @@ impl<V: Service + Drop> ReplicaState<V> {
     ghost use Rattle.mb_model.specs.Sending.{Progress, write};
     ghost use Rattle.mb_model.specs.Histories.{Accepted, Identity, History};
     ghost use Rattle.mb_model.specs.Given.{give_log, give_entries, jump, floor_shown};
-    ghost use Rattle.mb_replica.specs.Represents.{StandsAt, Answers, Represents};
-    ghost use Rattle.mb_replica.specs.Steps.{Moves, AnswersQuietly, Jumps};
+    ghost use Rattle.mb_replica.specs.Represents.{StandsAt, Represents};
+    ghost use Rattle.mb_replica.specs.Steps.{Moves, AnswersQuietly, Reacts, Jumps};
     ghost use Rattle.mb_replica.specs.Holding.{IsStepping};
     ghost use Rattle.mb_replica.specs.declared.sending.StepOutput.{StepOutput};
     ghost use Rattle.mb_parts.specs.Fits.{FitsFloorCert, FitsEvidence};
@@ -34,7 +34,7 @@ impl<V: Service + Drop> ReplicaState<V> {
     pub(crate) fn give_log(&mut self, alloc: Global, m: Log) -> Result<Reaction, NoMemory>
         requires fits { FitsLog self.old.protocol.shape m }
         requires stepping { IsStepping self.old }
-        ensures { (me : Identity V) (x : Progress) → (done : StepOutput) → StandsAt me self.old done x → IfOk result (λ a. Answers me (message.Log m) a (give_log me m x) × StandsAt me self.new done (give_log me m x).left) }
+        ensures { (me : Identity V) (x : Progress) → (done : StepOutput) → StandsAt me self.old done x → Reacts me (message.Log m) (give_log me m x) result self.new done }
     {
         if let Some(outcome) = self.log_refusal(&m) {
             return Ok(Reaction::of(outcome));

@@ -32,7 +32,7 @@ impl<V: Service + Drop> ReplicaState<V> {
     ghost use Rattle.mb_replica.specs.Holding.{Announces, HoldsEntry};
     ghost use Rattle.mb_msg.specs.declared.message.Message.TheVariants as message;
 
-    /// Its members one by one, then its plan, where it is whole and current.
+    /// What is found of its members one by one, then of its plan, where it is whole and current.
     pub(crate) fn new_view_finding(&self, alloc: Global, m: &NewView) -> Result<Finding, NoMemory>
         requires { FitsNewView self.now.protocol.shape m.now }
         ensures refusal { (me : Identity V) (d : History) → Represents me self.now d → IfOk result (λ f. f.refusal ≡ new_view_refusal me d m.now) }

@@ -1,4 +1,4 @@
-//! The batches of a plan keep their digests once they are hashed, so that they are not hashed again where the plan is shown again.
+//! The batches of a given OPEN keep their digests, so that they are not hashed again where its plan is checked, held and shown again.
 
 ghost use Rattle.std.specs.Prelude.{◌≡◌, IfOk, IfSome};
 ghost use Rattle.std.specs.List.{AllByRecursion};

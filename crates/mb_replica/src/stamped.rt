@@ -132,7 +132,7 @@ impl<V: Service + Drop> ReplicaState<V> {
         })
     }
 
-    /// Of an ENTER and of a JOIN the gate asks all that there is.
+    /// The same, of its kind. Of an ENTER and of a JOIN the gate asks all that there is.
     fn kind_finding(&self, alloc: Global, message: &Stamped) -> Result<Finding, NoMemory>
         requires { FitsStamped self.now.protocol.shape message.now }
         ensures refusal { (me : Identity V) (d : History) → Represents me self.now d → IfOk result (λ f. f.refusal ≡ kind_refusal me d message.now) }

@@ -58,7 +58,7 @@ settings_lines title shape secret port =
     title ∷ keyword_text (codes "f") (decimal (max_faults shape)) ∷ keyword_text (codes "k") (decimal (interval shape)) ∷ keyword_text (codes "clients") (decimal (client_count shape))
     ∷ keyword_text (codes "secret") (encode_lower secret) ∷ keyword_text (codes "port") (decimal port) ∷ []
 
-module _ (title titled : Bytes) (is_title : (behind : Bytes) → pieces 10 (titled ++ behind) ≡ title ∷ pieces 10 behind) (same_title : bytes_eq title title ≡ true) (shape : Shape) (secret : Bytes) (port : ℕ) (fits : IsBytes secret) (low_port : 1024 ≤ port) (high_port : port ≤ 60000) where
+module _ (title titled : Bytes) (is_title : (behind : Bytes) → pieces 10 (titled ++ behind) ≡ title ∷ pieces 10 behind) (same_title : bytes_eq title title ≡ true) (shape : Shape) (secret : Bytes) (port : ℕ) (fits : IsBytes secret) (low_port : least_port ≤ port) (high_port : port ≤ most_port) where
   pub settings_are : (rest : Bytes) → (lines (titled ++ (settings_text shape secret port ++ rest)) ≡ settings_lines title shape secret port ++ lines rest) × (is_ended (titled ++ (settings_text shape secret port ++ rest)) ≡ is_ended rest)
   settings_are rest =
       let w2 : Bytes = decimal (max_faults shape) in

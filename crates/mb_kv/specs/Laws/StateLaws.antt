@@ -14,7 +14,7 @@ use Rattle.mb_base.specs.Spelling.{number, text16}
 use Rattle.mb_base.specs.Reading.{◌>>=◌, Cursor, cursor, Reads, number_at, pair_at, map_at}
 use Rattle.mb_base.proofs.Laws.{bind_ok, ok_is, number_length, wide16}
 use Rattle.mb_service.specs.Parts.{IsShort}
-use Rattle.mb_kv.specs.declared.limits.TheConstants.{MAX_KEYS, MAX_VALUE}
+use Rattle.mb_kv.specs.declared.limits.TheConstants.{MAX_KEYS, MAX_KEY, MAX_VALUE}
 use Rattle.mb_kv.specs.Pairs.{Pairs, compare, value_of, with_value, without}
 use Rattle.mb_kv.specs.Operations.{Operation, Put, Get, Delete, Swap, Bad, key_at, value_at, operation_at, operation_of, if_whole, is_full_for, same, swapped, after_operation, after, result_of, get_result, delete_result, swap_result, answer}
 use Rattle.mb_kv.specs.States.{PairFits, IsState, OperationFits}
@@ -28,8 +28,8 @@ key_and_value_fit s p t e =
     let a = bind_ok (key_at s) (λ k. value_at k.1 >>= λ v. Ok ((k.0, v.0), v.1)) (p, t) e in
     let b = bind_ok (value_at a.0.1) (λ v. Ok ((a.0.0, v.0), v.1)) (p, t) a.2 in
     let is : (a.0.0, b.0.0) ≡ p = ap (λ (v : (Bytes × Bytes) × Cursor). v.0) (ok_is ((a.0.0, b.0.0), b.0.1) (p, t) b.2) in
-    let key = text_is_within w8 1 64 s a.0.0 a.0.1 a.1 in
-    let value = text_is_within w16 0 512 a.0.1 b.0.0 b.0.1 b.1 in
+    let key = text_is_within w8 1 MAX_KEY s a.0.0 a.0.1 a.1 in
+    let value = text_is_within w16 0 MAX_VALUE a.0.1 b.0.0 b.0.1 b.1 in
     subst PairFits is (record { key_some = key.0; key_short = key.1; value_short = value.1 })
 
 -- the same of a key and the second of two values
@@ -41,8 +41,8 @@ swap_fits s p t e =
     let c = bind_ok (value_at a.0.1) (λ x. value_at x.1 >>= λ y. Ok ((x.0, y.0), y.1)) b.0 b.1 in
     let d = bind_ok (value_at c.0.1) (λ y. Ok ((c.0.0, y.0), y.1)) b.0 c.2 in
     let new : d.0.0 ≡ b.0.0.1 = ap (λ (v : (Bytes × Bytes) × Cursor). v.0.1) (ok_is ((c.0.0, d.0.0), d.0.1) b.0 d.2) in
-    let key = text_is_within w8 1 64 s a.0.0 a.0.1 a.1 in
-    let value = text_is_within w16 0 512 c.0.1 d.0.0 d.0.1 d.1 in
+    let key = text_is_within w8 1 MAX_KEY s a.0.0 a.0.1 a.1 in
+    let value = text_is_within w16 0 MAX_VALUE c.0.1 d.0.0 d.0.1 d.1 in
     subst (λ (q : Bytes × (Bytes × Bytes)). PairFits (q.0, q.1.1)) is (record { key_some = key.0; key_short = key.1; value_short = omega (arith, ap length new, value.1) })
 
 -- what was read fits

@@ -1,4 +1,5 @@
 use Rattle.std.proofs.Common.{refl, ◌≡◌, ◌-◌, ◌+◌, suc, arith}
+use Rattle.mb_base.specs.Limits.{rule_limit}
 use Rattle.mb_core.proofs.RuleLoop.{begins, goes_on, stops, ends}
 use Rattle.mb_core.proofs.Stepping.{step_history, is_due, is_done}
 use Rattle.mb_core.proofs.rules.run_rules.Goals as goal
@@ -18,7 +19,7 @@ returns-in_default g c = λ me x serves st. stops me c.loop-round.replica c.loop
 
 pub loop-round-preserved : goal.loop-round-preserved
 loop-round-preserved g c =
-    let one : 1000000 - c.loop-round._round ≡ suc (1000000 - (c.loop-round._round + 1)) = omega arith in
+    let one : rule_limit - c.loop-round._round ≡ suc (rule_limit - (c.loop-round._round + 1)) = omega arith in
     let due = is_due _ _ _ _ c.loop-round.invariant.stepping c.in-Some.ensures in
     record {
       stepping = is_done _ _ c.carry_out.new.replica _ c.carry_out.new.done c.in-Some.rule due c.in_ok-carry_out.ensures;
@@ -29,5 +30,5 @@ loop-round-preserved g c =
 
 pub returns : goal.returns
 returns g c = λ me x serves st.
-    let none : 1000000 - c.loop-round._round ≡ 0 = omega arith in
+    let none : rule_limit - c.loop-round._round ≡ 0 = omega arith in
     ends me c.loop-round.replica c.loop-round.done _ _ none (c.loop-round.invariant.runs me x serves st)

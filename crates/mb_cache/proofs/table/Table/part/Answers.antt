@@ -1,6 +1,7 @@
 use Rattle.std.proofs.Common.{◌≡◌, ◌≤◌, length, ap, sym, subst, ◌∙◌, List, Ok}
 use Rattle.std.specs.List.{AllByRecursion}
 use Rattle.std.proofs.lemmas.Result.{IfOk-weaker}
+use Rattle.mb_base.specs.Limits.{part_limit}
 use Rattle.mb_base.specs.Shapes.{Bytes}
 use Rattle.mb_model.specs.declared.known.LastReply.{LastReply}
 use Rattle.mb_model.specs.States.{table_bytes, table_of}
@@ -22,5 +23,5 @@ returns-clause-short c =
     let table = c.args.self.now in
     let same : c.as_slice.result.now ≡ table = c.as_slice.ensures.value ∙ c.self.view_is in
     let short = table_short table (subst IsTable c.self.view_is c.self.invariant) in
-    IfOk-weaker c.write_table.result (λ p. p ≡ table_bytes c.as_slice.result.now) (λ p. length p ≤ 4000000)
-    (λ p is. subst (λ (b : Bytes). length b ≤ 4000000) (sym (is ∙ ap table_bytes same)) short) c.write_table.ensures
+    IfOk-weaker c.write_table.result (λ p. p ≡ table_bytes c.as_slice.result.now) (λ p. length p ≤ part_limit)
+    (λ p is. subst (λ (b : Bytes). length b ≤ part_limit) (sym (is ∙ ap table_bytes same)) short) c.write_table.ensures

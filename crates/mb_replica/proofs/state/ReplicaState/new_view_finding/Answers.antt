@@ -1,11 +1,10 @@
-use Rattle.std.proofs.Common.{rules, ◌≡◌, ◌∙◌, ℕ, Bool, Option, Some, None, sym, ap, subst, Ok, Err}
-use Rattle.mb_msg.specs.declared.event.Outcome.{Outcome}
+use Rattle.std.proofs.Common.{rules, ◌≡◌, ◌∙◌, ℕ, Bool, Some, sym, ap, subst, Ok, Err}
 use Rattle.mb_msg.specs.declared.event.Outcome.TheVariants as outcome
 use Rattle.mb_model.specs.KindChecks.{only_where}
 use Rattle.mb_plan.specs.declared.new_view.NewViewFault.{NewViewFault}
 use Rattle.mb_plan.specs.NewViews.{Follows}
-use Rattle.mb_plan.specs.declared.new_view.NewViewFault.TheVariants.{Unusable, OtherPlan, Few}
-use Rattle.mb_replica.proofs.NewViewRefusals.{fault_in, for_host, follows, fails, has_other_plan, refused_announces, few_announces, plan_announces}
+use Rattle.mb_plan.specs.declared.new_view.NewViewFault.TheVariants.{Unusable, OtherPlan}
+use Rattle.mb_replica.proofs.NewViewRefusals.{fault_in, for_host, follows, fails, has_other_plan, refused_announces, plan_announces}
 use Rattle.mb_replica.proofs.state.ReplicaState.new_view_finding.Goals as goal
 
 -- src/new_views.rt
