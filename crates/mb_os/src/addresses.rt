@@ -8,7 +8,7 @@ use std::io::ErrorKind;
 use std::net::{Ipv4Addr, SocketAddr, SocketAddrV4};
 
 /// The peer that is the client program.
-const CLIENT: u8 = 255;
+pub(crate) const CLIENT: u8 = 255;
 
 /// How far the client program's port is above the first host's.
 const CLIENT_PORT: u16 = 100;

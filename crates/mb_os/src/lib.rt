@@ -8,6 +8,7 @@ mod children;
 mod files;
 mod program;
 mod sockets;
+mod starter;
 mod streams;
 mod watch;
 mod ways;

@@ -3,13 +3,13 @@
 ghost use Rattle.std.specs.Prelude.{◌≡◌, ◌≤◌, None};
 ghost use Rattle.mb_edge.specs.Faults.{one_more};
 
-use crate::addresses::known_address;
+use crate::addresses::{CLIENT, known_address};
+use crate::starter::Starter;
 use crate::watch::Watch;
 use crate::ways::Ways;
 use mb_edge::{Failed, Got, Link};
 use std::io::ErrorKind;
 use std::net::{Net, SocketAddr, UdpSocket};
-use std::os::unix::process::parent_id;
 use std::process::Process;
 use std::time::{Clock, Duration};
 use std::{io, thread};
@@ -26,13 +26,12 @@ const TRY_WAIT: u64 = 10;
 /// A socket on the loopback address, at the port of the own number. It tells nothing of its content.
 ///
 /// Where this program was started by another one that is named here, the link fails once that one has ended: then it tells nothing that comes and sends
-/// nothing. So no node outlives the cluster that started it, and none is heard by a later one.
+/// nothing. It asks before each send to the client program. Before a send to a host, and behind a receive, it asks once for a tenth of a millisecond. So no
+/// node outlives the cluster that started it, and none is heard by a later one, whose nodes take longer to begin than that.
 #[derive(Drop)]
 pub struct UdpLink<R> {
     rt: R,
-    process: Process,
-    /// The number of the process that started this one, if its end is to end the link.
-    starter: Option<u32>,
+    starter: Starter,
     socket: Option<Watch>,
     ways: Option<Ways>,
     faults: u64,
@@ -45,8 +44,7 @@ impl<R> UdpLink<R> {
     {
         UdpLink {
             rt,
-            process,
-            starter,
+            starter: Starter::new(process, starter),
             socket: None,
             ways: None,
             faults: 0,
@@ -60,14 +58,6 @@ impl<R> UdpLink<R> {
     {
         self.faults = self.faults.saturating_add(1);
         Failed::Device
-    }
-
-    /// Whether the process that started this one has ended.
-    fn is_left(&self) -> bool {
-        match self.starter {
-            Some(starter) => parent_id(self.process) != starter,
-            None => false,
-        }
     }
 }
 
@@ -113,7 +103,7 @@ impl<R: Net + Clock> Link for UdpLink<R> {
             return Got::Failed(self.failed());
         };
         let got = watch.receive(&self.rt, into);
-        if self.is_left() {
+        if self.starter.had_ended(&self.rt) {
             return Got::Failed(self.failed());
         }
         match got {
@@ -124,7 +114,12 @@ impl<R: Net + Clock> Link for UdpLink<R> {
     }
 
     fn send(&mut self, to: u8, bytes: &[u8]) -> Result<(), Failed> {
-        if self.is_left() {
+        let left = if to == CLIENT {
+            self.starter.has_ended(&self.rt)
+        } else {
+            self.starter.had_ended(&self.rt)
+        };
+        if left {
             return Err(self.failed());
         }
         let Some(ways) = &mut self.ways else {

@@ -2,7 +2,8 @@
 //!
 //! Who waits sleeps. To wake it takes a processor that has nothing else to do 20 to 40 microseconds on a virtual machine, and each request to a cluster is three
 //! datagrams in a row or more; what the processes do in between takes no longer than that. So behind a datagram a receive looks for the next one for a while,
-//! and sleeps only where none came. Between two looks other processes go first. Where one of them then keeps the processor, there are more processes than
+//! and sleeps only where none came. Between looks other processes go first: between any two of them where there are others, and less and less often where
+//! this one has its processor to itself, since to give way costs as much as a look. Where another one then keeps the processor, there are more processes than
 //! processors, and looking costs more than it spares: a process that gave way has to wait for its turn, and one that is woken has not. Then receives wait, as
 //! long as [`REST`] says, and longer where it stays so.
 
@@ -16,6 +17,12 @@ use std::{io, thread};
 /// How long a receive looks, in microseconds: the time of a request, so that nobody sleeps as long as requests follow each other. No longer, so that a process
 /// to which nothing comes uses no processor.
 const LOOK_TIME: u64 = 200;
+
+/// A process that gives way and is back in fewer microseconds was alone.
+const ALONE: u64 = 3;
+
+/// The most looks between which a process that is alone does not give way. They take as long as a step of another one, which then waited for nothing.
+const LONGEST_STRIDE: u32 = 32;
 
 /// After so many microseconds somebody else had the processor between two looks: a process that has work for more than a few datagrams.
 const CROWDED: u64 = 1_000;
@@ -48,6 +55,10 @@ pub(crate) struct Watch {
     next_rest: u32,
     /// How many datagrams were found while looking since it was crowded.
     found: u32,
+    /// Before how many looks it gives way once.
+    stride: u32,
+    /// How many looks there were since it gave way.
+    steps: u32,
 }
 
 impl Watch {
@@ -59,6 +70,8 @@ impl Watch {
             rest: 0,
             next_rest: REST,
             found: 0,
+            stride: 1,
+            steps: 0,
         }
     }
 
@@ -88,7 +101,7 @@ impl Watch {
         }
         let begun = Instant::now(rt)?;
         for _ in 0..LOOKS {
-            thread::yield_now();
+            self.step_aside(rt)?;
             let spent = begun.elapsed(rt)?;
             if spent >= Duration::from_micros(CROWDED) {
                 self.crowd();
@@ -103,6 +116,23 @@ impl Watch {
             }
         }
         Ok(None)
+    }
+
+    /// Before one look in a stride other processes go first. The stride grows as long as there are none.
+    fn step_aside<R: Clock>(&mut self, rt: &R) -> io::Result<()> {
+        self.steps = self.steps.saturating_add(1);
+        if self.steps < self.stride {
+            return Ok(());
+        }
+        self.steps = 0;
+        let begun = Instant::now(rt)?;
+        thread::yield_now();
+        self.stride = if begun.elapsed(rt)? < Duration::from_micros(ALONE) {
+            self.stride.saturating_mul(2).min(LONGEST_STRIDE)
+        } else {
+            1
+        };
+        Ok(())
     }
 
     /// The processor is crowded.
