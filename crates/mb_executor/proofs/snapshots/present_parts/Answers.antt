@@ -1,4 +1,4 @@
-use Rattle.std.proofs.Common.{◌≡◌, ◌≤◌, ◌∙◌, ℕ, List, [], ◌∷◌, ◌++◌, length, sym, ap, subst, arith}
+use Rattle.std.proofs.Common.{◌≡◌, ◌≤◌, ◌∙◌, List, [], ◌∷◌, ◌++◌, length, sym, ap, subst, arith}
 use Rattle.std.proofs.lemmas.List.{map_push}
 use Rattle.mb_base.specs.Limits.{service_parts, part_limit}
 use Rattle.mb_base.specs.Shapes.{Bytes}
