@@ -55,13 +55,17 @@ impl<V: Service + Drop> ReplicaState<V> {
         }
     }
 
-    /// The digest of a message's body, where it is known: that of a COMMIT may be kept in the slot of its position.
+    /// The digest of a message's body, where it is known: that of a COMMIT may be kept in the slot of its position, that of a CHECKPOINT with a
+    /// kept one of its position, and else it is taken here.
     fn known_body(&self, message: &Stamped, known: &Option<Digest>) -> Option<Digest>
         requires { KnowsBody known.now message.now }
         ensures { KnowsBody result message.now }
     {
         match message {
             Stamped::Commit(m) if known.is_none() => self.digest_in_slot(m),
+            Stamped::Checkpoint(m) if known.is_none() => {
+                Some(self.protocol.normal.floors_digest(m))
+            }
             _ => *known,
         }
     }
