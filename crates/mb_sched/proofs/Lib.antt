@@ -3,6 +3,7 @@ pub mod LongLines
 pub mod Numbers
 pub mod Pieces
 pub mod PrintedHex
+pub mod Digits
 pub mod PrintedNumbers
 pub mod PrintedWords
 pub mod LineLemmas

@@ -5,6 +5,7 @@ mod bad_text;
 mod configs;
 mod event_lines;
 mod header;
+mod hexadecimal;
 mod lines;
 mod parsing;
 mod printing;
