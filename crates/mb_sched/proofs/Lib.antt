@@ -3,7 +3,6 @@ pub mod LongLines
 pub mod Numbers
 pub mod Pieces
 pub mod PrintedHex
-pub mod Digits
 pub mod PrintedNumbers
 pub mod PrintedWords
 pub mod LineLemmas

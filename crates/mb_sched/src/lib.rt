@@ -5,7 +5,6 @@ mod bad_text;
 mod configs;
 mod event_lines;
 mod header;
-mod hexadecimal;
 mod lines;
 mod parsing;
 mod printing;

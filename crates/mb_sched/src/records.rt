@@ -18,8 +18,8 @@ ghost use Rattle.mb_sched.specs.Records.{RecordContents, max_record, id_line, ev
 
 use crate::bad_text::BadText;
 use crate::configs::Config;
-use crate::hexadecimal::{put_hex, put_hex_word};
 use crate::lines::Lines;
+use crate::printing::hex_word;
 use crate::settings::{print_settings, read_settings};
 use crate::text_lines::{read_number, word_behind};
 use crate::words::{bytes_of, digest_of, is_word, number_in, words_of};
@@ -241,8 +241,8 @@ pub fn print_entry(alloc: Global, entry: &Entry) -> Result<Vec<u8>, NoMemory>
     ensures { IfOk result (λ text. text.items ≡ entry_text entry.now) }
 {
     let mut text = Vec::with_capacity(alloc, room_of(&entry.event))?;
-    put_event(&mut text, &entry.event)?;
-    put_sent(&mut text, entry.count, &entry.digest)?;
+    put_event(alloc, &mut text, &entry.event)?;
+    put_sent(alloc, &mut text, entry.count, &entry.digest)?;
     Ok(text)
 }
 
@@ -255,37 +255,39 @@ fn room_of(event: &Event) -> usize {
 }
 
 /// Appends an event's line.
-fn put_event(text: &mut Vec<u8>, event: &Event) -> Result<(), NoMemory>
+fn put_event(alloc: Global, text: &mut Vec<u8>, event: &Event) -> Result<(), NoMemory>
     ensures { OnOk result (text.new.items ≡ text.old.items ++ line_text (event_words event.now)) }
 {
     match event {
-        Event::Given(bytes) => put_given(text, bytes.as_slice())?,
+        Event::Given(bytes) => put_given(alloc, text, bytes.as_slice())?,
         Event::Patience => text.extend_from_slice(b"patience\n")?,
         Event::Nudge => text.extend_from_slice(b"nudge\n")?,
     }
     Ok(())
 }
 
-fn put_given(text: &mut Vec<u8>, bytes: &[u8]) -> Result<(), NoMemory>
+fn put_given(alloc: Global, text: &mut Vec<u8>, bytes: &[u8]) -> Result<(), NoMemory>
     ensures { OnOk result (text.new.items
         ≡ text.old.items ++ line_text (codes "given" ∷ hex_word bytes.now ∷ [])) }
 {
+    let word = hex_word(alloc, bytes)?;
     text.extend_from_slice(b"given ")?;
-    put_hex_word(text, bytes)?;
+    text.extend_from_slice(word.as_bytes())?;
     text.extend_from_slice(b"\n")?;
     Ok(())
 }
 
 /// Appends the line of what was sent.
-fn put_sent(text: &mut Vec<u8>, count: u32, digest: &Digest) -> Result<(), NoMemory>
+fn put_sent(alloc: Global, text: &mut Vec<u8>, count: u32, digest: &Digest) -> Result<(), NoMemory>
     ensures { OnOk result (text.new.items
         ≡ text.old.items ++ line_text (codes "sent" ∷ decimal count ∷ encode_lower digest.now ∷ [])) }
 {
+    let digest = hex::encode(alloc, digest.as_slice())?;
     let mut number = Buffer::new();
     text.extend_from_slice(b"sent ")?;
     text.extend_from_slice(number.format(count).as_bytes())?;
     text.extend_from_slice(b" ")?;
-    put_hex(text, digest.as_slice())?;
+    text.extend_from_slice(digest.as_bytes())?;
     text.extend_from_slice(b"\n")?;
     Ok(())
 }
