@@ -6,14 +6,11 @@ use Rattle.std.proofs.lemmas.Option.{slice_get_within}
 use Rattle.mb_base.specs.Shapes.{Bytes}
 use Rattle.mb_edge.specs.Faults.{Rose}
 use Rattle.mb_schedule.specs.declared.schedule.Schedule.{Schedule}
-use Rattle.mb_sched.specs.declared.bad_text.BadText.{BadText}
-use Rattle.mb_sched.specs.declared.bad_text.BadText.TheVariants as bad_text
-use Rattle.mb_sched.specs.Schedules.{IsFault, IsScheduleText}
+use Rattle.mb_sched.specs.Schedules.{IsScheduleText}
 use Rattle.mb_world_model.specs.Stops.{WorldStop}
 use Rattle.mb_top.specs.Runs.{AreUnstopped, IsFirstStopped}
 use Rattle.mb_top.specs.Answers.{IsForgedText, certificate, tag, AnswersSchedule, bad_event, forged, replayed, Answers, too_long, bad_line, right}
 use Rattle.mb_edge.specs.Seen.{Device}
-use Rattle.mb_answer.specs.Refusals.{IsRefusal}
 use Rattle.mb_answer.specs.Devices.{Says, said, failed, cut_short, IsToldBy, answered, unread, starved}
 use Rattle.mb_top.specs.Responses.{Replays}
 use Rattle.mb_top.specs.Doings.{replay_statuses}
@@ -37,14 +34,6 @@ answered_whole : (text : Bytes) (status : ℕ) (source source' sink sink' : Devi
 answered_whole text status source source' sink sink' low (answered wanted out a says) = (out, said_whole text wanted out status sink sink' low a says)
 answered_whole text status source source' sink sink' low (unread five rose same) = absurd (omega (arith, five, low))
 answered_whole text status source source' sink sink' low (starved four same) = absurd (omega (arith, four, low))
-
--- ---- no schedule
-
--- What is answered to a text that says nothing is an answer to a text.
-pub refuses_schedule : (text : Bytes) (found : BadText) (status : ℕ) (out : Bytes) → IsFault found text → IsRefusal found status out → Answers text status out
-refuses_schedule text bad_text.TooLong status out bad is = too_long bad is.0 is.1
-refuses_schedule text (bad_text.BadLine n) status out bad is = bad_line n bad.0 bad.1 is.0 is.1
-refuses_schedule text bad_text.NoMemory status out bad is = absurd is
 
 -- ---- at status 0
 
