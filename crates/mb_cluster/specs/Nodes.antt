@@ -14,9 +14,13 @@ use Rattle.mb_cluster.specs.Posts.{AreSome}
 use Rattle.mb_cluster.specs.declared.stop.ClusterStop.{ClusterStop}
 use Rattle.mb_cluster.specs.declared.stop.ClusterStop.TheVariants.{ChildEnded, Budget, LinkFault, SpawnFault, SinkFault, NoMemory}
 
+-- how many receives a node of a cluster makes, as the word of its command: it ends behind them where no STOP reaches it
+abbrev pub node_receives : Bytes
+node_receives = codes "100000"
+
 -- `node H 100000`
 abbrev pub node_words : ℕ → List Bytes
-node_words host = codes "node" ∷ decimal host ∷ codes "100000" ∷ []
+node_words host = codes "node" ∷ decimal host ∷ node_receives ∷ []
 
 -- `node-H.record`
 abbrev pub record_name : ℕ → Bytes

@@ -14,6 +14,9 @@ use mb_edge::{Child, Failed, Spawner};
 use mb_sched::{Config, print_config};
 use std::alloc::Global;
 
+/// How many receives a node of a cluster makes, as the word of its command: it ends behind them where no STOP reaches it.
+const NODE_RECEIVES: &str = "100000";
+
 /// Starts the node of each host, in order, up to the first start that fails. The children stand in a list that has room for all of them, so that each that
 /// was started stands there.
 pub(crate) fn start_nodes<P: Spawner>(
@@ -69,7 +72,7 @@ fn node_words(alloc: Global, host: Host) -> Result<Vec<String>, NoMemory>
     let mut words = Vec::with_capacity(alloc, 3)?;
     words.push(String::from_str(alloc, "node")?)?;
     words.push(format!(in alloc; "{host}")?)?;
-    words.push(String::from_str(alloc, "100000")?)?;
+    words.push(String::from_str(alloc, NODE_RECEIVES)?)?;
     Ok(words)
 }
 

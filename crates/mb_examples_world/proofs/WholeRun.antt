@@ -5,6 +5,7 @@ use Rattle.std.specs.Prelude.{slice_get, codes, option_and_then}
 use Rattle.std.specs.List.{AllByRecursion, range_with_len, list_all}
 use Rattle.std.proofs.lemmas.Bool.{cases_lt}
 use Rattle.sha2.specs.Sha256.{sha256}
+use Rattle.mb_base.specs.Limits.{text_limit, service_parts}
 use Rattle.mb_base.specs.Shapes.{Bytes}
 use Rattle.mb_usig.proofs.OnLiterals.{tags_on_literals}
 use Rattle.mb_parts.specs.Fits.{FitsText}
@@ -79,12 +80,12 @@ unfolding state_after
 last_fits [] x fits all = fits
 last_fits (op ∷ ops) x fits all = last_fits ops op all.0 all.1
 
-gives_back : (x : Bytes) → keeps_parts.restored (map (keeps_parts.part x) (range_with_len 0 64)) ≡ Ok x
+gives_back : (x : Bytes) → keeps_parts.restored (map (keeps_parts.part x) (range_with_len 0 service_parts)) ≡ Ok x
 gives_back x = refl
 
 pub service_is_one : IsService keeps_last keeps_parts []
 service_is_one =
-    let short : 0 ≤ 1024 = omega arith in
+    let short : 0 ≤ text_limit = omega arith in
     record { short = λ ops op all fits. last_fits ops [] short all; whole = λ ops all. gives_back (state_after keeps_last [] ops) }
 
 -- ---- the schedule is one
@@ -97,7 +98,7 @@ at P (y ∷ l) all (suc k) x is = at P l all.1 k x is
 each_event_fits : AllByRecursion (EventFits one_client) change_of_view.schedule.events
 each_event_fits =
     let client : 0 < 1 = omega arith in
-    let short : 6 ≤ 1024 = omega arith in
+    let short : 6 ≤ text_limit = omega arith in
     let h0 : 0 < 3 = omega arith in
     let h1 : 1 < 3 = omega arith in
     let h2 : 2 < 3 = omega arith in

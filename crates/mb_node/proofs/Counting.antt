@@ -1,8 +1,9 @@
--- How many messages a step sends: one for what was given, at most 17 for each rule, and those of a Nudge and of the FETCH.
+-- How many messages a step sends: one for what was given, at most `most_by_rule` for each rule, and those of a Nudge and of the FETCH.
 use Rattle.std.proofs.Common.{◌≡◌, ℕ, zero, suc, ◌+◌, ◌*◌, ◌≤◌, ◌<◌, ◌^◌, Bool, true, false, List, [], ◌∷◌, ◌++◌, length, refl, sym, ap, ◌∙◌, inl, inr, Option, Some, None, length-append, subst, arith}
 use Rattle.std.proofs.lemmas.List.{length-map}
 use Rattle.std.specs.Prelude.{◌&&◌, ◌||◌, ◌==◌, ◌%◌, nat_lt, is_none, Result, Ok, Err}
 use Rattle.std.proofs.lemmas.Bool.{cases_Bool}
+use Rattle.mb_base.specs.Limits.{batch_limit}
 use Rattle.mb_base.specs.Shapes.{Bytes, interval, host_count}
 use Rattle.mb_base.specs.declared.names.Ui.{Ui}
 use Rattle.mb_base.specs.declared.shape.Shape.{Shape}
@@ -66,6 +67,10 @@ use Rattle.mb_replica.specs.Represents.{IsStep, as_sent}
 use Rattle.mb_encodable.specs.Fitting.{AreFit}
 use Rattle.mb_encodable.proofs.Fit.{give_fit, rule_fit, unstamped_fit}
 use Rattle.mb_encodable.proofs.Stamps.{execution_fits}
+
+-- A rule that executes sends a reply to each request of its batch, and a CHECKPOINT; any other rule sends one message.
+abbrev most_by_rule : ℕ
+most_by_rule = batch_limit + 1
 
 abbrev sent_count : Progress → ℕ
 sent_count x = length x.sent
@@ -251,7 +256,7 @@ module _ {S : Type 0} (self : Identity S) where
   ])
 
   module _ (there : self.host < host_count self.shape) where
-    rule_sends : (r : Rule) (x : Progress) → next_rule self x.history ≡ Some r → AreFit self x.history → sent_count (carry_out self r x) ≤ sent_count x + 17
+    rule_sends : (r : Rule) (x : Progress) → next_rule self x.history ≡ Some r → AreFit self x.history → sent_count (carry_out self r x) ≤ sent_count x + most_by_rule
     unfolding carry_out
     rule_sends (rule.ChangeView view) x e f = omega (arith, one_longer)
     rule_sends (rule.Announce changes) x e f = omega (arith, one_longer)
@@ -264,7 +269,7 @@ module _ {S : Type 0} (self : Identity S) where
         omega (arith, execute_sends p b x, batch.count.1)
     rule_sends (rule.Prepare p b) x e f = omega (arith, one_longer)
 
-    rules_send : (n : ℕ) (x : Progress) → IsSound self x.history → IsWhole x.history → AreFit self x.history → sent_count (run_rules self n x) ≤ sent_count x + 17 * n
+    rules_send : (n : ℕ) (x : Progress) → IsSound self x.history → IsWhole x.history → AreFit self x.history → sent_count (run_rules self n x) ≤ sent_count x + most_by_rule * n
     unfolding run_rules
     rules_send zero x s w f = omega arith
     rules_send (suc n) x s w f = elim (option_cases (next_rule self x.history)) [
@@ -289,7 +294,7 @@ module _ {S : Type 0} (self : Identity S) where
       whole : IsWhole x.history
       fit : AreFit self x.history
 
-    ends_after : (runs asks : Bool) (d : History) (a : Answer) → IsReady a.left → sent_count (finished_where self runs asks d a).left ≤ sent_count a.left + (17 * enough + 1)
+    ends_after : (runs asks : Bool) (d : History) (a : Answer) → IsReady a.left → sent_count (finished_where self runs asks d a).left ≤ sent_count a.left + (most_by_rule * enough + 1)
     ends_after true asks d a r =
         let rules = rules_send enough a.left r.sound r.whole r.fit in
         let last = fetch_more asks d (run_rules self enough a.left) in
@@ -297,7 +302,7 @@ module _ {S : Type 0} (self : Identity S) where
     ends_after false asks d a r = omega arith
 
     abbrev AtMost : Answer → Type 0
-    AtMost a = sent_count a.left ≤ 17 * enough + 3
+    AtMost a = sent_count a.left ≤ most_by_rule * enough + 3
 
     message_sends : (d : History) (bytes : Bytes) (m : Message) → message_of self.shape bytes ≡ Ok m → IsReady (begin d) → AtMost (on_message self d m)
     message_sends d bytes m is r =

@@ -31,7 +31,7 @@ use Rattle.mb_node.specs.declared.stops.ServeStop.TheVariants as stop
 use Rattle.mb_node.specs.declared.turn.Turn.{Turn}
 use Rattle.mb_node.specs.Receives.{Receives, ReceiveFits, made_whole}
 use Rattle.mb_node.specs.Inboxes.{HasReceived, arrival_of, arrival_at}
-use Rattle.mb_node.specs.Events.{left_by, quiets, quiets_in, settles, stops, has_stop, events, given_to}
+use Rattle.mb_node.specs.Events.{patience_limit, left_by, quiets, quiets_in, settles, stops, has_stop, events, given_to}
 use Rattle.mb_node.specs.Recording.{end_line, entry_at, lines_at, entries_of, lines_of, sent_at, sent_of}
 use Rattle.mb_node.specs.Sends.{Sends, numbered}
 use Rattle.mb_node.specs.Outside.{Outside, Adds}
@@ -74,7 +74,7 @@ pub same_quiets : (wanting : Bool) (q : ℕ) (a : Arrival) (e : Event) → event
 same_quiets wanting q (arrival.Message m) e is = let same : event.Given m ≡ e = cc in ap quiets_in same
 same_quiets wanting q arrival.Nothing e is = absurd cc
 same_quiets wanting q arrival.Quiet e is =
-    let b : Bool = (q + 1) == 8 && wanting in
+    let b : Bool = (q + 1) == patience_limit && wanting in
     let same : (if b then event.Patience else event.Nudge) ≡ e = cc in
     sym (one_quiet b) ∙ ap quiets_in same
 

@@ -199,7 +199,7 @@ module _ {S : Type 0} (self : Identity S) where
       let t = if_some (is_fresh x q) (Some q) r e in
       (t.1, subst (λ (y : Request). (reply_of x y.client).seq < y.seq) (some_is q r t.1) (ltb-true (reply_of x q.client).seq q.seq t.0))
 
-  pending_fresh : (d : History) → Arises self d → (c : ℕ) (r : Request) → pending self d c ≡ Some r → (reply_of (state_of self d) c).seq < r.seq
+  pub pending_fresh : (d : History) → Arises self d → (c : ℕ) (r : Request) → pending self d c ≡ Some r → (reply_of (state_of self d) c).seq < r.seq
   unfolding pending state_of
   pending_fresh [] a c r e = absurd cc
   pending_fresh (Accepted (message.Request q) ∷ d) a c r e = elim (cases_Bool (q.client == c)) [

@@ -5,3 +5,6 @@ pub mod OnlyValid
 pub mod Batches
 pub mod Sent
 pub mod Joins
+pub mod Limits
+pub mod Rooms
+pub mod Ahead

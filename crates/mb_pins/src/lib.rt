@@ -1,5 +1,6 @@
 //! What definitions of a host and of the world mean, in words that do not use them: what a LOG gives and how long a log is, what each outcome tells, what an
-//! event adds to the world, that what is taken was valid, what a primary orders, all that a step sends, and what a JOIN shows. It holds no code.
+//! event adds to the world, that what is taken was valid, what a primary orders and how far ahead, all that a step sends, what a JOIN shows, what is done with room
+//! in the log, and each limit as its number. It holds no code.
 #![tactic(auto)]
 
 ghost use Rattle.mb_pins.specs.Logs.{HostsKeepLogs};
@@ -9,6 +10,9 @@ ghost use Rattle.mb_pins.specs.OnlyValid.{HostsTakeOnlyValid};
 ghost use Rattle.mb_pins.specs.Batches.{HostsOrderInTurn};
 ghost use Rattle.mb_pins.specs.Sent.{HostsSendNoMore};
 ghost use Rattle.mb_pins.specs.Joins.{HostsShowInJoins};
+ghost use Rattle.mb_pins.specs.Limits.{LimitsAreThese};
+ghost use Rattle.mb_pins.specs.Rooms.{HostsActWithRoom};
+ghost use Rattle.mb_pins.specs.Ahead.{HostsOrderFourAhead};
 
 /// A LOG has as many messages as go into one, at most 64 and 800,000 bytes; the own log has at most six intervals of PREPAREs, COMMITs and CHECKPOINTs and
 /// 768 others; and the longest log that a report tells is the longest that there was. So it is of each host after any events.
@@ -52,4 +56,21 @@ pub fn hosts_send_nothing_more<V>()
 /// certificate is valid. So it is of each host after any events.
 pub fn joins_show_evidence<V>()
     ensures { HostsShowInJoins V }
+{}
+
+/// Each limit that definitions cite by its name is this number, so a limit that is changed at its one place alone makes this false.
+pub fn limits_are_these()
+    ensures { LimitsAreThese }
+{}
+
+/// Below six intervals of PREPAREs, COMMITs and CHECKPOINTs, or 768 other messages, the own log has room: a backup commits its next position, and each host leaves
+/// its view with cause and enters one that is announced. So it is of each host after any events.
+pub fn hosts_act_with_room<V>()
+    ensures { HostsActWithRoom V }
+{}
+
+/// A primary stamps no PREPARE for a position more than four above the last one that it executed; and while its last ordered position is less than four above, with
+/// room and the next position in the window, no client's request waits that is in no slot. So it is of each host after any events.
+pub fn hosts_order_four_ahead<V>()
+    ensures { HostsOrderFourAhead V }
 {}

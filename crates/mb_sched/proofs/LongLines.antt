@@ -87,7 +87,7 @@ module _ (hosts clients : ℕ) where
   no_messages : (ws : List Bytes) → batch_limit < length ws → messages_of ws ≡ None
   no_messages ws lt = rw (lt-leb (length ws) batch_limit lt, and_right (leb 1 (length ws)) false refl) refl
 
-  no_prepare : (h : ℕ) (ws : List Bytes) → 18 < length ws → prepare_of h ws ≡ None
+  no_prepare : (h : ℕ) (ws : List Bytes) → 2 + batch_limit < length ws → prepare_of h ws ≡ None
   no_prepare h [] lt = absurd (omega arith)
   no_prepare h (a ∷ []) lt = absurd (omega arith)
   no_prepare h (word ∷ position ∷ ws) lt =
@@ -120,7 +120,7 @@ module _ (hosts clients : ℕ) where
   no_stamp_raw h (a ∷ []) lt = absurd (omega arith)
   no_stamp_raw h (a ∷ b ∷ ws) lt = refl
 
-  no_stamped : (h : ℕ) (what : Bytes) (ws : List Bytes) → 18 < length ws → stamped_of h what ws ≡ None
+  no_stamped : (h : ℕ) (what : Bytes) (ws : List Bytes) → 2 + batch_limit < length ws → stamped_of h what ws ≡ None
   no_stamped h what ws lt =
       neither (is "prepare" what) _ _ (no_prepare h ws lt)
       (neither (is "commit" what) _ _ (no_commit h ws (omega arith))
@@ -129,14 +129,14 @@ module _ (hosts clients : ℕ) where
       (neither (is "as" what) _ _ (no_as h ws (omega arith))
       (neither (is "raw" what) _ _ (no_stamp_raw h ws (omega arith)) refl)))))
 
-  no_stamp : (ws : List Bytes) → 20 < length ws → stamp_of hosts ws ≡ None
+  no_stamp : (ws : List Bytes) → 4 + batch_limit < length ws → stamp_of hosts ws ≡ None
   no_stamp [] lt = absurd (omega arith)
   no_stamp (a ∷ []) lt = absurd (omega arith)
   no_stamp (host ∷ what ∷ ws) lt = nothing (host_in hosts host) (λ h. stamped_of h what ws) (λ h. no_stamped h what ws (omega arith))
 
   -- ---- any line
 
-  long_event : (verb : Bytes) (ws : List Bytes) → 20 < length ws → event_by hosts clients verb ws ≡ None
+  long_event : (verb : Bytes) (ws : List Bytes) → 4 + batch_limit < length ws → event_by hosts clients verb ws ≡ None
   long_event verb ws lt =
       neither (is "ask" verb) _ _ (no_ask ws (omega arith))
       (neither (is "give" verb) _ _ (no_give ws (omega arith))

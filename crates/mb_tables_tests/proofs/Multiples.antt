@@ -3,14 +3,15 @@ use Rattle.std.proofs.Common.{ℕ, ◌≡◌, ◌+◌, ◌-◌, ◌*◌, ◌/◌
 use Rattle.std.proofs.lemmas.Bool.{cases_lt}
 use Rattle.std.proofs.lemmas.Nat.{div-add-mod'}
 use Rattle.std.proofs.Math.Nat.{mul-lt-mul_of_pos_right}
+use Rattle.mb_base.specs.Limits.{least_interval}
 
-at_least : (a b k : ℕ) → 4 ≤ k → a * k ≤ b * k → a ≤ b
+at_least : (a b k : ℕ) → least_interval ≤ k → a * k ≤ b * k → a ≤ b
 at_least a b k some le = elim (cases_lt b a) [
   | inl lt ↦ let h = mul-lt-mul_of_pos_right {k = k} lt (omega (arith, some)) in absurd (omega (arith, le, h))
   | inr ge ↦ ge
 ]
 
-pub place_above : (k first low pos : ℕ) → 4 ≤ k → first * k ≡ low → low ≤ pos → pos - low ≤ 2 * k → pos % k ≡ 0
+pub place_above : (k first low pos : ℕ) → least_interval ≤ k → first * k ≡ low → low ≤ pos → pos - low ≤ 2 * k → pos % k ≡ 0
     → (more : ℕ) × (more ≤ 2) × (pos ≡ (first + more) * k)
 place_above k first low pos some at above near whole =
     let number = pos / k in

@@ -1,4 +1,5 @@
 use Rattle.std.proofs.Common.{◌≡◌, replicate, refl, sym, subst, ◌∙◌, arith}
+use Rattle.mb_base.specs.Limits.{stop_limit}
 use Rattle.mb_edge.specs.declared.outside.Failed.TheVariants.{Device}
 use Rattle.mb_cluster.specs.Posts.{posts, stop_bytes}
 use Rattle.mb_cluster.specs.Sends.{SendsSome}
@@ -55,12 +56,12 @@ pub returns-clause-sent : goal.returns-clause-sent
 returns-clause-sent g c = λ secret is.
     let link = g.L.Link in
     let post = c.args.post.now in
-    let end : c.loop.counter ≡ 3 = omega arith in
+    let end : c.loop.counter ≡ stop_limit = omega arith in
     subst (λ n. SendsSome (posts post.hosts post.number (replicate n (stop_bytes secret))) c.loop.sent (link.seen c.args.link.now).sent (link.seen c.loop.link).sent) end (c.loop.invariant.sent secret is)
 
 pub returns-clause-few : goal.returns-clause-few
 returns-clause-few g c = λ never secret is.
     let link = g.L.Link in
     let post = c.args.post.now in
-    let end : c.loop.counter ≡ 3 = omega arith in
+    let end : c.loop.counter ≡ stop_limit = omega arith in
     subst (λ n. SendsBut (posts post.hosts post.number (replicate n (stop_bytes secret))) (link.seen c.args.link.now).faults (link.seen c.loop.link).faults (link.seen c.args.link.now).sent (link.seen c.loop.link).sent) end (c.loop.invariant.few never secret is)
