@@ -113,13 +113,17 @@ impl Change {
         greatest
     }
 
-    /// A host's wish, where f+1 hosts reach it, and else 0.
+    /// A host's wish, where f+1 hosts reach it, and else 0. Where it wishes for nothing, none are counted.
     fn reached_wish(&self, host: Host) -> View
         requires { host < host_count self.now.shape }
         ensures { result ≡ (if is_wished self.now.shape (wish_at self.now) (wish_at self.now host) then wish_at self.now host else 0) }
     {
         let wish = self.wish_of(host);
-        if self.is_wished(wish) { wish } else { 0 }
+        if wish > 0 && self.is_wished(wish) {
+            wish
+        } else {
+            0
+        }
     }
 
     /// Whether f+1 hosts wish for a view that is not below this one.

@@ -3,3 +3,4 @@ pub mod Agreed
 pub mod Places
 pub mod InHistories
 pub mod Found
+pub mod SameFloors

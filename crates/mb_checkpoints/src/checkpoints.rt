@@ -8,7 +8,7 @@ ghost use Rattle.mb_msg.specs.Spelling.{floors_body_bytes};
 ghost use Rattle.mb_checkpoints.specs.declared.checkpoints.TheConstants.{POSITIONS};
 
 use mb_base::{Digest, Host, NoMemory, Pos, Shape};
-use mb_msg::{Checkpoint, MAX_POS};
+use mb_msg::{Body, Checkpoint, MAX_POS};
 use mb_window::Window;
 use std::alloc::Global;
 
@@ -24,21 +24,6 @@ pub(crate) struct KeptCheckpoint {
     pub(crate) message: Checkpoint,
     pub(crate) floors: Digest,
     ghost floors_are: { floors ≡ body_digest floors_body_bytes message.body },
-}
-
-impl KeptCheckpoint {
-    ghost use Rattle.std.specs.Prelude.{◌≡◌, IfOk};
-    ghost use Rattle.mb_msg.specs.Fits.{FitsFloorsBody};
-    ghost use Rattle.mb_msg.specs.Bodies.{FitsBody};
-
-    /// A CHECKPOINT with the digest of its floors.
-    fn of(alloc: Global, shape: &Shape, message: Checkpoint) -> Result<KeptCheckpoint, NoMemory>
-        requires { FitsBody (FitsFloorsBody shape.now) message.body }
-        ensures { IfOk result (λ k. k.message ≡ message) }
-    {
-        let floors = message.body.digest(alloc, shape)?;
-        Ok(KeptCheckpoint { message, floors })
-    }
 }
 
 /// For each host, and each of the stable position and the two intervals above it, the last CHECKPOINT: the search `checkpoint_of` in a host's
@@ -58,7 +43,7 @@ pub struct Checkpoints {
 }
 
 impl Checkpoints {
-    ghost use Rattle.std.specs.Prelude.{◌≡◌, ◌≤◌, ◌<◌, ◌+◌, ◌*◌, ◌^◌, ℕ, None, IfOk, OnOk, OnErr};
+    ghost use Rattle.std.specs.Prelude.{◌≡◌, ◌≤◌, ◌<◌, ◌+◌, ◌*◌, ◌^◌, ℕ, None, IfOk, IfSome, OnOk, OnErr};
     ghost use Rattle.std.specs.Option.{option_map};
     ghost use Rattle.mb_base.specs.Shapes.{host_count, interval};
     ghost use Rattle.mb_msg.specs.Fits.{FitsFloorsBody};
@@ -77,7 +62,7 @@ impl Checkpoints {
     }
 
     /// Keeps a CHECKPOINT, in the place of its host's earlier one at that position. After `NoMemory` nothing has changed.
-    pub fn keep(&mut self, alloc: Global, checkpoint: Checkpoint) -> Result<(), NoMemory>
+    pub fn keep(&mut self, _alloc: Global, checkpoint: Checkpoint) -> Result<(), NoMemory>
         requires host { checkpoint.ui.host < host_count self.old.shape }
         requires place { IsKeptPlace self.old checkpoint.pos }
         requires fits { FitsBody (FitsFloorsBody self.old.shape) checkpoint.body }
@@ -86,9 +71,40 @@ impl Checkpoints {
     {
         let number = checkpoint.pos / u64::from(self.shape.k());
         let place = number * HOST_PLACES + u64::from(checkpoint.ui.host) + 1;
-        let kept = KeptCheckpoint::of(alloc, &self.shape, checkpoint)?;
+        let floors = self.floors_digest(&checkpoint);
+        let kept = KeptCheckpoint {
+            message: checkpoint,
+            floors,
+        };
         write(&mut self.window, place, kept);
         Ok(())
+    }
+
+    /// The digest of the floors of a CHECKPOINT, which is not taken again where a kept one of its position has the same floors.
+    pub fn floors_digest(&self, checkpoint: &Checkpoint) -> Digest
+        ensures { result ≡ body_digest floors_body_bytes checkpoint.now.body }
+    {
+        match self.with_floors_of(checkpoint) {
+            Some(kept) => kept.floors,
+            None => checkpoint.body.floors_digest(),
+        }
+    }
+
+    /// A kept CHECKPOINT of the same position that came whole with the same floors.
+    fn with_floors_of(&self, checkpoint: &Checkpoint) -> Option<&KeptCheckpoint>
+        ensures { IfSome result (λ k. k.now.message.body ≡ checkpoint.now.body) }
+    {
+        let number = checkpoint.pos / u64::from(self.shape.k());
+        if number > self.first + 2 {
+            return None;
+        }
+        for host in 0..self.shape.n() {
+            match self.get(number, host) {
+                Some(kept) if has_same_floors(&kept.message, checkpoint) => return Some(kept),
+                _ => {}
+            }
+        }
+        None
     }
 
     /// A host's CHECKPOINT at a multiple of the interval.
@@ -112,7 +128,20 @@ impl Checkpoints {
     }
 }
 
-ghost use Rattle.std.specs.Prelude.{◌≤◌, Some, None, slice_set, ◌-◌};
+/// Whether two CHECKPOINTs came whole with the same floors.
+fn has_same_floors(first: &Checkpoint, second: &Checkpoint) -> bool
+    ensures { result ≡ true → first.now.body ≡ second.now.body }
+{
+    let Body::Whole(own) = &first.body else {
+        return false;
+    };
+    let Body::Whole(other) = &second.body else {
+        return false;
+    };
+    own == other
+}
+
+ghost use Rattle.std.specs.Prelude.{◌≤◌, true, Some, None, slice_set, ◌-◌};
 ghost use Rattle.mb_window.specs.Places.{places};
 
 /// Writes an item into the place of a position of the window, whether it is empty or not.

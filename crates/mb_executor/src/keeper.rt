@@ -125,8 +125,8 @@ impl<V: Service + Drop> Keeper<V> {
         ensures stands { OnOk result (StandsWith self.old.snapshots pos (parts_of (snapshots_of V.machine) self.old.served) self.new.snapshots) }
         ensures err { OnErr result (self.new ≡ self.old) }
     {
-        let parts = present_parts(alloc, &self.service, &self.table)?;
-        self.shelf.keep(alloc, pos, parts)?;
+        let parts = present_parts(alloc, &mut self.service, &self.table)?;
+        self.shelf.keep_hashed(alloc, pos, parts)?;
         Ok(())
     }
 

@@ -5,13 +5,15 @@ ghost use Rattle.mb_base.specs.Limits.{part_count};
 ghost use Rattle.mb_model.specs.States.{parts_of, part_digests};
 ghost use Rattle.mb_model.specs.Making.{fitting, first_fitting};
 ghost use Rattle.mb_cache.specs.Represents.{joined, snapshots_of};
+ghost use Rattle.mb_service.specs.declared.service.TheConstants.{PARTS, MAX_PART};
+ghost use Rattle.mb_fetch.specs.Shelves.{bytes_of};
 ghost use Rattle.mb_executor.specs.Keeping.{AreShort};
 ghost use Rattle.mb_executor.specs.Sent.{kept_at};
 
 use crate::keeper::Keeper;
 use mb_base::{Digest, Host, Items, NoMemory, Pos};
 use mb_cache::Table;
-use mb_fetch::Shelf;
+use mb_fetch::{HashedPart, Shelf};
 use mb_msg::StateMsg;
 use mb_service::{PARTS, Service};
 use std::alloc::Global;
@@ -55,21 +57,38 @@ impl<V: Service + Drop> Keeper<V> {
     }
 }
 
-/// The parts of a state: those of the service, and behind them the client table.
+/// The parts of a state with their digests: those of the service, which stays as it is, and behind them the client table.
 pub(crate) fn present_parts<V: Service>(
     alloc: Global,
-    service: &V,
+    service: &mut V,
     table: &Table,
-) -> Result<Vec<Items<u8>>, NoMemory>
-    ensures parts { IfOk result (λ v. v.items ≡ parts_of (snapshots_of V.machine) (joined service.now table.now)) }
-    ensures short { IfOk result (λ v. AreShort v.items) }
+) -> Result<Vec<HashedPart>, NoMemory>
+    ensures parts { IfOk result (λ v. bytes_of v.items ≡ parts_of (snapshots_of V.machine) (joined service.old table.now)) }
+    ensures short { IfOk result (λ v. AreShort (bytes_of v.items)) }
+    ensures kept { service.new ≡ service.old }
 {
     let mut parts = Vec::with_capacity(alloc, usize::from(PART_COUNT))?;
     for part in 0..PARTS {
-        parts.push(service.snapshot(alloc, part)?)?;
+        parts.push(present_part(alloc, service, part)?)?;
     }
-    parts.push(table.part(alloc)?)?;
+    parts.push(HashedPart::of(table.part(alloc)?))?;
     Ok(parts)
+}
+
+/// A part of the service, which keeps the digests of its parts.
+fn present_part<V: Service>(
+    alloc: Global,
+    service: &mut V,
+    part: u8,
+) -> Result<HashedPart, NoMemory>
+    requires { part < PARTS }
+    ensures part { IfOk result (λ p. p.bytes ≡ V.machine.part_of service.old part) }
+    ensures short { IfOk result (λ p. length p.bytes ≤ MAX_PART) }
+    ensures kept { service.new ≡ service.old }
+{
+    let digest = service.part_digest(alloc, part)?;
+    let bytes = service.snapshot(alloc, part)?;
+    Ok(HashedPart { bytes, digest })
 }
 
 /// The digests of all parts of the snapshot of a position.

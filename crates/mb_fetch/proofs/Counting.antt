@@ -8,7 +8,7 @@ use Rattle.slab.specs.Slab.{Slab, get, slab_len}
 use Rattle.mb_base.specs.Shapes.{Bytes}
 use Rattle.mb_usig.specs.Tags.{same_bytes}
 use Rattle.mb_usig.proofs.Laws.{same_bytes-true, true-same_bytes}
-use Rattle.mb_fetch.specs.declared.shelved.Shelved.{Shelved}
+use Rattle.mb_fetch.specs.declared.shelved.HashedPart.{HashedPart}
 use Rattle.mb_fetch.specs.declared.shelved.Keyed.{Keyed}
 use Rattle.mb_fetch.specs.Snapshots.{comes_in, different, all_parts}
 use Rattle.mb_fetch.specs.Shelves.{part_under, has_key, all_keys, bytes_under, seen, HoldsOnce, IsShelf}
@@ -108,9 +108,9 @@ module _ (p : ℕ → Option Bytes) (once : HoldsOnce p) where
 
 -- ---- of a shelf
 
-module _ (keyed : List Keyed) (held : Slab Shelved) (is : IsShelf keyed (part_under held)) where
+module _ (keyed : List Keyed) (held : Slab HashedPart) (is : IsShelf keyed (part_under held)) where
   held_by_key : slab_len held ≡ different_keys (all_keys keyed)
-  held_by_key = count_keys (all_keys keyed) held.slots (λ key. same_some (λ (s : Shelved). s.bytes) (get held key) ∙ is.used key)
+  held_by_key = count_keys (all_keys keyed) held.slots (λ key. same_some (λ (s : HashedPart). s.bytes) (get held key) ∙ is.used key)
 
   -- As many are held as there are different ones.
   pub held_once : slab_len held ≡ different (all_parts (seen (part_under held) keyed))

@@ -1,26 +1,32 @@
 -- Parts under keys, with one more.
-use Rattle.std.proofs.Common.{◌≡◌, ◌≢◌, ℕ, ◌≤◌, false, List, [], ◌∷◌, ◌++◌, map, length, Option, Some, None, inl, inr, sym, ap, ◌∙◌}
+use Rattle.std.proofs.Common.{◌≡◌, ◌≢◌, ℕ, ◌≤◌, false, List, [], ◌∷◌, ◌++◌, map, length, Option, Some, None, inl, inr, refl, sym, ap, ◌∙◌, unwrap_or}
 use Rattle.std.specs.Prelude.{◌==◌, option_map}
 use Rattle.std.proofs.lemmas.Bool.{cases_eq, eq-eqb, or_left, or_right}
 use Rattle.std.proofs.lemmas.List.{get_or_past, map_push}
 use Rattle.slab.specs.Slab.{Slab, get, Updates}
 use Rattle.mb_base.specs.Shapes.{Bytes}
-use Rattle.mb_fetch.specs.declared.shelved.Shelved.{Shelved}
+use Rattle.mb_fetch.specs.declared.shelved.HashedPart.{HashedPart}
 use Rattle.mb_fetch.specs.Shelves.{part_under, has_key, HoldsOnce, Extends, AddsOnly}
 use Rattle.mb_fetch.proofs.ByKey.{has_key-append, still_hold}
 
 -- the bytes of a part
-pub bytes_there : (held : Slab Shelved) (key : ℕ) (s : Shelved) → get held key ≡ Some s → part_under held key ≡ Some s.bytes
-bytes_there held key s e = ap (option_map (λ (x : Shelved). x.bytes)) e
+pub bytes_there : (held : Slab HashedPart) (key : ℕ) (s : HashedPart) → get held key ≡ Some s → part_under held key ≡ Some s.bytes
+bytes_there held key s e = ap (option_map (λ (x : HashedPart). x.bytes)) e
 
-pub none_there : (held : Slab Shelved) (key : ℕ) → get held key ≡ None → part_under held key ≡ None
-none_there held key e = ap (option_map (λ (x : Shelved). x.bytes)) e
+pub none_there : (held : Slab HashedPart) (key : ℕ) → get held key ≡ None → part_under held key ≡ None
+none_there held key e = ap (option_map (λ (x : HashedPart). x.bytes)) e
 
-pub none_past : (held : Slab Shelved) (key : ℕ) → length held.slots ≤ key → part_under held key ≡ None
+pub part_there : (held : Slab HashedPart) (key : ℕ) (bytes : Bytes) → part_under held key ≡ Some bytes → (part : HashedPart) × (get held key ≡ Some part) × (part.bytes ≡ bytes)
+part_there held key bytes e = by_slot (get held key) refl e where
+  by_slot : (o : Option HashedPart) → get held key ≡ o → option_map (λ (x : HashedPart). x.bytes) o ≡ Some bytes → (part : HashedPart) × (get held key ≡ Some part) × (part.bytes ≡ bytes)
+  by_slot None is e = absurd cc
+  by_slot (Some part) is e = (part, is, ap (λ (o : Option Bytes). unwrap_or o []) e)
+
+pub none_past : (held : Slab HashedPart) (key : ℕ) → length held.slots ≤ key → part_under held key ≡ None
 none_past held key past = none_there held key (get_or_past held.slots key None past)
 
-pub others_stay : (old new : Slab Shelved) (key : ℕ) (slot : Option Shelved) → Updates old new key slot → (other : ℕ) → other ≢ key → part_under new other ≡ part_under old other
-others_stay old new key slot u other ne = ap (option_map (λ (x : Shelved). x.bytes)) (u.others other ne)
+pub others_stay : (old new : Slab HashedPart) (key : ℕ) (slot : Option HashedPart) → Updates old new key slot → (other : ℕ) → other ≢ key → part_under new other ≡ part_under old other
+others_stay old new key slot u other ne = ap (option_map (λ (x : HashedPart). x.bytes)) (u.others other ne)
 
 -- ---- nothing more
 

@@ -6,7 +6,7 @@ use Rattle.std.proofs.lemmas.Bool.{cases_Bool, eq-eqb, or_left, or_right}
 use Rattle.std.proofs.lemmas.List.{length-map}
 use Rattle.std.proofs.lemmas.Option.{slice_get-map, slice_get_read, slice_get_past}
 use Rattle.mb_base.specs.Shapes.{Bytes}
-use Rattle.mb_fetch.specs.declared.shelved.Shelved.{Shelved}
+use Rattle.mb_fetch.specs.declared.shelved.HashedPart.{HashedPart}
 use Rattle.mb_fetch.specs.declared.shelved.Keyed.{Keyed}
 use Rattle.mb_fetch.specs.Snapshots.{Snapshot, parts_at, part_in}
 use Rattle.mb_fetch.specs.Shelves.{has_key, all_keys, bytes_under, seen, IsShelf}
@@ -17,7 +17,7 @@ abbrev pub at_pos : ℕ → List Keyed → Option Keyed
 at_pos pos keyed = find (λ k. k.pos == pos) keyed
 
 -- the bytes behind a reference
-pub bytes_copied : (o : Option (Bor Shelved)) → option_map (λ (s : Bor Shelved). s.now.bytes) o ≡ option_map (λ (s : Shelved). s.bytes) (option_copied o)
+pub bytes_copied : (o : Option (Bor HashedPart)) → option_map (λ (s : Bor HashedPart). s.now.bytes) o ≡ option_map (λ (s : HashedPart). s.bytes) (option_copied o)
 bytes_copied None = refl
 bytes_copied (Some s) = refl
 

@@ -4,13 +4,17 @@ use Rattle.std.specs.List.{flat_map, AllByRecursion}
 use Rattle.slab.specs.Slab.{Slab, get}
 use Rattle.mb_base.specs.Limits.{part_count, snapshot_limit}
 use Rattle.mb_base.specs.Shapes.{Bytes}
-use Rattle.mb_fetch.specs.declared.shelved.Shelved.{Shelved}
+use Rattle.mb_fetch.specs.declared.shelved.HashedPart.{HashedPart}
 use Rattle.mb_fetch.specs.declared.shelved.Keyed.{Keyed}
 use Rattle.mb_fetch.specs.Snapshots.{Snapshot, snapshot}
 
 -- the bytes of the part under a key
-abbrev pub part_under : Slab Shelved → ℕ → Option Bytes
+abbrev pub part_under : Slab HashedPart → ℕ → Option Bytes
 part_under held key = option_map (λ s. s.bytes) (get held key)
+
+-- the bytes of parts
+abbrev pub bytes_of : List HashedPart → List Bytes
+bytes_of parts = map (λ p. p.bytes) parts
 
 -- whether a key is among these
 abbrev pub has_key : ℕ → List ℕ → Bool

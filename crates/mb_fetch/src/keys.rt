@@ -1,71 +1,94 @@
 //! Parts, each held under one key.
 
-ghost use Rattle.std.specs.Prelude.{◌≡◌, ◌≢◌, ◌∷◌, [], ℕ, Some, None, map, if◌then◌else◌, IfOk, IfSome, IfNone};
-ghost use Rattle.mb_fetch.specs.Shelves.{part_under, has_key, all_keys, HoldsOnce, Extends, AddsOnly};
+ghost use Rattle.std.specs.Prelude.{◌≡◌, ◌≢◌, ◌∷◌, [], ℕ, true, false, Some, None, map, if◌then◌else◌, IfOk, IfSome, IfNone};
+ghost use Rattle.mb_fetch.specs.Shelves.{part_under, bytes_of, has_key, all_keys, HoldsOnce, Extends, AddsOnly};
 
-use crate::shelved::{Keyed, Shelved};
+use crate::shelved::{HashedPart, Keyed};
 use mb_base::{Items, NoMemory};
-use sha2::{Digest as _, Sha256};
 use slab::Slab;
 use std::alloc::Global;
 
 /// The keys of these parts, in order. A part whose bytes are held already keeps its key, and each other is held from now on. After `NoMemory`
 /// what was held is held, and maybe more.
+///
+/// The key of each part is looked for first at its place among the keys of an earlier snapshot, since most parts stay as they were.
 pub(crate) fn shelve(
     alloc: Global,
-    held: &mut Slab<Shelved>,
-    parts: Vec<Items<u8>>,
+    held: &mut Slab<HashedPart>,
+    earlier: &[usize],
+    parts: Vec<HashedPart>,
 ) -> Result<Vec<usize>, NoMemory>
     requires { HoldsOnce (part_under held.old) }
     ensures once { HoldsOnce (part_under held.new) }
     ensures kept { Extends (part_under held.old) (part_under held.new) }
-    ensures keys { IfOk result (λ v. map (part_under held.new) v.items ≡ map (λ p. Some p) parts.items) }
+    ensures keys { IfOk result (λ v. map (part_under held.new) v.items ≡ map (λ p. Some p) (bytes_of parts.items)) }
     ensures added { IfOk result (λ v. AddsOnly (part_under held.old) (part_under held.new) v.items) }
 {
     let mut keys = Vec::with_capacity(alloc, parts.len())?;
     for part in parts {
-        let key = key_for(held, part)?;
+        let near = earlier.get(keys.len()).copied();
+        let key = key_for(held, near, part)?;
         keys.push(key)?;
     }
     Ok(keys)
 }
 
-/// The key of a part, which is held already or from now on.
-fn key_for(held: &mut Slab<Shelved>, part: Items<u8>) -> Result<usize, NoMemory>
+/// The key of a part, which is held already or from now on. It is looked for first under a key that is near.
+fn key_for(
+    held: &mut Slab<HashedPart>,
+    near: Option<usize>,
+    part: HashedPart,
+) -> Result<usize, NoMemory>
     requires { HoldsOnce (part_under held.old) }
     ensures once { HoldsOnce (part_under held.new) }
     ensures kept { Extends (part_under held.old) (part_under held.new) }
-    ensures key { IfOk result (λ key. part_under held.new key ≡ Some part) }
+    ensures key { IfOk result (λ key. part_under held.new key ≡ Some part.bytes) }
     ensures added { IfOk result (λ key. AddsOnly (part_under held.old) (part_under held.new) (key ∷ [])) }
 {
-    if let Some(key) = find_key(held, part.as_slice()) {
+    if let Some(key) = find_near(held, near, part.bytes.as_slice()) {
         return Ok(key);
     }
-    let digest = Sha256::digest(part.as_slice());
-    let key = held.insert(Shelved {
-        bytes: part,
-        digest,
-    })?;
+    let key = held.insert(part)?;
     Ok(key)
 }
 
-/// The key of the part with these bytes.
-fn find_key(held: &Slab<Shelved>, bytes: &[u8]) -> Option<usize>
+/// The key of the part with these bytes, which is looked for first under a key that is near.
+fn find_near(held: &Slab<HashedPart>, near: Option<usize>, bytes: &[u8]) -> Option<usize>
     ensures found { IfSome result (λ key. part_under held.now key ≡ Some bytes.now) }
     ensures absent { IfNone result ((key : ℕ) → part_under held.now key ≢ Some bytes.now) }
 {
-    for key in 0..held.capacity() {
-        if let Some(part) = held.get(key) {
-            if part.bytes.as_slice() == bytes {
-                return Some(key);
-            }
+    match near {
+        Some(key) if has_bytes(held, key, bytes) => Some(key),
+        _ => find_key(held, bytes),
+    }
+}
+
+/// Whether the part under a key has these bytes.
+fn has_bytes(held: &Slab<HashedPart>, key: usize, bytes: &[u8]) -> bool
+    ensures so { result ≡ true → part_under held.now key ≡ Some bytes.now }
+    ensures not_so { result ≡ false → part_under held.now key ≢ Some bytes.now }
+{
+    match held.get(key) {
+        Some(part) => part.bytes.as_slice() == bytes,
+        None => false,
+    }
+}
+
+/// The key of the part with these bytes.
+fn find_key(held: &Slab<HashedPart>, bytes: &[u8]) -> Option<usize>
+    ensures found { IfSome result (λ key. part_under held.now key ≡ Some bytes.now) }
+    ensures absent { IfNone result ((key : ℕ) → part_under held.now key ≢ Some bytes.now) }
+{
+    for (key, _) in held.iter() {
+        if has_bytes(held, key, bytes) {
+            return Some(key);
         }
     }
     None
 }
 
 /// Drops the parts that are in none of these snapshots.
-pub(crate) fn drop_unused(held: &mut Slab<Shelved>, snapshots: &[Keyed])
+pub(crate) fn drop_unused(held: &mut Slab<HashedPart>, snapshots: &[Keyed])
     ensures { (key : ℕ) → part_under held.new key ≡ (if has_key key (all_keys snapshots.now) then part_under held.old key else None) }
 {
     for key in 0..held.capacity() {
@@ -74,7 +97,7 @@ pub(crate) fn drop_unused(held: &mut Slab<Shelved>, snapshots: &[Keyed])
 }
 
 /// Drops the part under a key, where it is in none of these snapshots.
-fn drop_if_unused(held: &mut Slab<Shelved>, snapshots: &[Keyed], key: usize)
+fn drop_if_unused(held: &mut Slab<HashedPart>, snapshots: &[Keyed], key: usize)
     ensures here { part_under held.new key ≡ (if has_key key (all_keys snapshots.now) then part_under held.old key else None) }
     ensures others { (other : ℕ) → other ≢ key → part_under held.new other ≡ part_under held.old other }
 {

@@ -15,3 +15,4 @@ mod shelved;
 pub use laws::tables_answer_for_histories;
 pub use parts::{Kept, Missing, Parts};
 pub use shelf::Shelf;
+pub use shelved::HashedPart;

@@ -1,9 +1,10 @@
 //! The snapshots that a host keeps for others.
 
-ghost use Rattle.std.specs.Prelude.{◌≡◌, ◌==◌, find, option_map};
+ghost use Rattle.std.specs.Prelude.{◌≡◌, ◌==◌, find, option_map, IfOk};
+ghost use Rattle.mb_fetch.specs.Shelves.{bytes_of};
 
 use crate::keys::{drop_unused, shelve};
-use crate::shelved::{Keyed, Shelved};
+use crate::shelved::{HashedPart, Keyed};
 use mb_base::{Digest, Items, NoMemory, Pos};
 use mb_parts::PART_COUNT;
 use slab::Slab;
@@ -24,7 +25,7 @@ const MAX_PARTS: usize = PART_COUNT as usize * MAX_SNAPSHOTS;
 #[derive(Drop)]
 pub struct Shelf {
     snapshots: Vec<Keyed>,
-    held: Slab<Shelved>,
+    held: Slab<HashedPart>,
 }
 
 impl Model for Shelf {
@@ -45,6 +46,7 @@ impl Shelf {
     ghost use Rattle.sha2.specs.Sha256.{sha256};
     ghost use Rattle.mb_base.specs.Limits.{part_count, snapshot_limit};
     ghost use Rattle.mb_base.specs.Shapes.{Bytes};
+    ghost use Rattle.mb_fetch.specs.Shelves.{bytes_of};
     ghost use Rattle.mb_fetch.specs.Snapshots.{snapshot, parts_at, part_in, all_parts, different, Represents, StandsWith, StandsFrom};
 
     /// No snapshot is kept.
@@ -68,8 +70,27 @@ impl Shelf {
         ensures stands { OnOk result (StandsWith self.old pos parts.items self.new) }
         ensures err { OnErr result (self.new ≡ self.old) }
     {
+        let hashed = hash_each(alloc, parts)?;
+        self.keep_hashed(alloc, pos, hashed)
+    }
+
+    /// Keeps such a snapshot of parts whose digests were taken before.
+    pub fn keep_hashed(
+        &mut self,
+        alloc: Global,
+        pos: Pos,
+        parts: Vec<HashedPart>,
+    ) -> Result<(), NoMemory>
+        requires above { (other : ℕ) → pos ≤ other → parts_at self.old other ≡ None }
+        requires room { length self.old < snapshot_limit }
+        requires whole { length (bytes_of parts.items) ≡ part_count }
+        ensures ok { OnOk result (self.new ≡ self.old ++ snapshot pos (bytes_of parts.items) ∷ []) }
+        ensures stands { OnOk result (StandsWith self.old pos (bytes_of parts.items) self.new) }
+        ensures err { OnErr result (self.new ≡ self.old) }
+    {
         self.snapshots.reserve(1)?;
-        let Ok(keys) = shelve(alloc, &mut self.held, parts) else {
+        let earlier = last_keys(self.snapshots.as_slice());
+        let Ok(keys) = shelve(alloc, &mut self.held, earlier, parts) else {
             drop_unused(&mut self.held, self.snapshots.as_slice());
             return Err(NoMemory);
         };
@@ -78,7 +99,7 @@ impl Shelf {
     }
 
     /// What is held of a part of the snapshot of a position.
-    fn shelved(&self, pos: Pos, number: u8) -> Option<&Shelved>
+    fn shelved(&self, pos: Pos, number: u8) -> Option<&HashedPart>
         ensures { option_map (λ s. s.now.bytes) result ≡ part_in (parts_at self.now pos) number }
     {
         let snapshot = snapshot_at(self.snapshots.as_slice(), pos)?;
@@ -146,4 +167,23 @@ fn snapshot_at(snapshots: &[Keyed], pos: Pos) -> Option<&Keyed>
         }
     }
     None
+}
+
+/// The keys of the last snapshot. There are none before the first.
+fn last_keys(snapshots: &[Keyed]) -> &[usize] {
+    match snapshots.last() {
+        Some(snapshot) => snapshot.keys.as_slice(),
+        None => &[],
+    }
+}
+
+/// These parts with their digests.
+fn hash_each(alloc: Global, parts: Vec<Items<u8>>) -> Result<Vec<HashedPart>, NoMemory>
+    ensures { IfOk result (λ v. bytes_of v.items ≡ parts.items) }
+{
+    let mut hashed = Vec::with_capacity(alloc, parts.len())?;
+    for part in parts {
+        hashed.push(HashedPart::of(part))?;
+    }
+    Ok(hashed)
 }

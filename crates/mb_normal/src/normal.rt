@@ -41,7 +41,8 @@ impl Normal {
     ghost use Rattle.mb_base.specs.declared.shape.Shape.{Shape as ShapeValue};
     ghost use Rattle.mb_parts.specs.Fits.{FitsText};
     ghost use Rattle.mb_msg.specs.Fits.{FitsFloorsBody};
-    ghost use Rattle.mb_msg.specs.Bodies.{FitsBody};
+    ghost use Rattle.mb_msg.specs.Bodies.{FitsBody, body_digest};
+    ghost use Rattle.mb_msg.specs.Spelling.{floors_body_bytes};
     ghost use Rattle.mb_checkpoints.specs.Kept.{IsKeptPlace, low_of};
     ghost use Rattle.mb_checkpoints.specs.Certificates.{agreed_above, floor_from};
     ghost use Rattle.mb_normal.specs.Searches.{Searches, nothing_above, with_slot, with_vote, with_pending, with_settled, with_checkpoint, above_low, without_votes};
@@ -160,6 +161,13 @@ impl Normal {
         ensures err { OnErr result (self.new ≡ self.old) }
     {
         self.checkpoints.keep(alloc, checkpoint)
+    }
+
+    /// The digest of the floors of a CHECKPOINT, which is not taken again where a kept one of its position has the same floors.
+    pub fn floors_digest(&self, checkpoint: &Checkpoint) -> Digest
+        ensures { result ≡ body_digest floors_body_bytes checkpoint.now.body }
+    {
+        self.checkpoints.floors_digest(checkpoint)
     }
 
     /// The certificate of the greatest position above the stable one on which f+1 kept CHECKPOINTs agree. None exactly where there is none.

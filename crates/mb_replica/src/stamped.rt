@@ -55,13 +55,17 @@ impl<V: Service + Drop> ReplicaState<V> {
         }
     }
 
-    /// The digest of a message's body, where it is known: that of a COMMIT may be kept in the slot of its position.
+    /// The digest of a message's body, where it is known: that of a COMMIT may be kept in the slot of its position, that of a CHECKPOINT with a
+    /// kept one of its position, and else it is taken here.
     fn known_body(&self, message: &Stamped, known: &Option<Digest>) -> Option<Digest>
         requires { KnowsBody known.now message.now }
         ensures { KnowsBody result message.now }
     {
         match message {
             Stamped::Commit(m) if known.is_none() => self.digest_in_slot(m),
+            Stamped::Checkpoint(m) if known.is_none() => {
+                Some(self.protocol.normal.floors_digest(m))
+            }
             _ => *known,
         }
     }
@@ -81,9 +85,42 @@ impl<V: Service + Drop> ReplicaState<V> {
         }
     }
 
-    /// A stamped message, and what is found of it. Once its identifier has passed, a VIEW_CHANGE, a NEW_VIEW or an OPEN keeps digests.
-    #[tactic(auto, unfolding(mb_model::specs::KindChecks::stamped_refusal))]
+    /// A stamped message, and what is found of it. Those of view changes may be large and keep digests: the others are not moved for it.
     fn checked(&self, alloc: Global, arrival: Arrival) -> Result<Checked, NoMemory>
+        requires { IsArrival self.now.protocol.shape arrival }
+        ensures arrives { IfOk result (λ c. IsArrival self.now.protocol.shape c.arrival × (c.arrival.message ≡ arrival.message)) }
+        ensures refusal { (me : Identity V) (d : History) → Represents me self.now d → IfOk result (λ c. c.finding.refusal ≡ stamped_refusal me d c.arrival.message) }
+        ensures plan { IfOk result (λ c. c.finding.refusal ≡ None → Announces self.now c.arrival.message c.finding.plan) }
+    {
+        match &arrival.message {
+            Stamped::ViewChange(_) | Stamped::NewView(_) | Stamped::Open(_) => {
+                self.checked_change(alloc, arrival)
+            }
+            _ => {
+                let finding = self.finding(alloc, &arrival);
+                arrival.with_finding(finding)
+            }
+        }
+    }
+
+    /// What is found of a message that keeps no digests.
+    #[tactic(auto, unfolding(mb_model::specs::KindChecks::stamped_refusal))]
+    fn finding(&self, alloc: Global, arrival: &Arrival) -> Result<Finding, NoMemory>
+        requires { IsArrival self.now.protocol.shape arrival.now }
+        ensures refusal { (me : Identity V) (d : History) → Represents me self.now d → IfOk result (λ f. f.refusal ≡ stamped_refusal me d arrival.now.message) }
+        ensures plan { IfOk result (λ f. f.refusal ≡ None → Announces self.now arrival.now.message f.plan) }
+    {
+        let finding = self.identifier_finding(alloc, arrival)?;
+        if finding.refusal.is_some() {
+            return Ok(finding);
+        }
+        self.kind_finding(alloc, &arrival.message)
+    }
+
+    /// A stamped message, and what is found of it. Once its identifier has passed, a VIEW_CHANGE, a NEW_VIEW or an OPEN keeps digests.
+    #[inline(never)]
+    #[tactic(auto, unfolding(mb_model::specs::KindChecks::stamped_refusal))]
+    fn checked_change(&self, alloc: Global, arrival: Arrival) -> Result<Checked, NoMemory>
         requires { IsArrival self.now.protocol.shape arrival }
         ensures arrives { IfOk result (λ c. IsArrival self.now.protocol.shape c.arrival × (c.arrival.message ≡ arrival.message)) }
         ensures refusal { (me : Identity V) (d : History) → Represents me self.now d → IfOk result (λ c. c.finding.refusal ≡ stamped_refusal me d c.arrival.message) }

@@ -1,7 +1,9 @@
 use Rattle.std.proofs.Common.{◌≡◌, ◌∙◌, ℕ, List, [], ◌∷◌, ◌++◌, map, length, Some, sym, ap, subst, append_assoc, arith}
 use Rattle.std.specs.Vec.Iter.{into_iter_items}
+use Rattle.std.proofs.lemmas.List.{map_push}
 use Rattle.mb_base.specs.Shapes.{Bytes}
-use Rattle.mb_fetch.specs.Shelves.{part_under, AddsOnly}
+use Rattle.mb_fetch.specs.declared.shelved.HashedPart.{HashedPart}
+use Rattle.mb_fetch.specs.Shelves.{part_under, bytes_of, AddsOnly}
 use Rattle.mb_fetch.proofs.Holding.{extends_both, adds_both, keys_more}
 use Rattle.mb_fetch.proofs.keys.shelve.Goals as goal
 
@@ -25,8 +27,8 @@ loop-part-preserved c =
       kept = extends_both p q r c.loop-part.invariant.kept c.key_for.ensures.kept;
       keys_are = (
         done ++ part ∷ [],
-        subst (λ (l : List ℕ). map r l ≡ map (λ x. Some x) (done ++ part ∷ [])) (sym pushed) (keys_more q r c.key_for.ensures.kept keys done key part c.loop-part.invariant.keys_are.1 c.in_ok-key.ensures.key),
-        append_assoc done (part ∷ []) rest ∙ (ap (λ (l : List Bytes). done ++ l) (sym left) ∙ c.loop-part.invariant.keys_are.2),
+        subst (λ (l : List ℕ). map r l ≡ map (λ x. Some x) (bytes_of (done ++ part ∷ []))) (sym pushed) (keys_more q r c.key_for.ensures.kept keys (bytes_of done) key part.bytes c.loop-part.invariant.keys_are.1 c.in_ok-key.ensures.key ∙ ap (λ (l : List Bytes). map (λ x. Some x) l) (sym (map_push (λ (x : HashedPart). x.bytes) done part))),
+        append_assoc done (part ∷ []) rest ∙ (ap (λ (l : List HashedPart). done ++ l) (sym left) ∙ c.loop-part.invariant.keys_are.2),
       );
       added = subst (λ (l : List ℕ). AddsOnly p r l) (sym pushed) (adds_both p q r keys (key ∷ []) c.loop-part.invariant.added c.in_ok-key.ensures.added);
       len = omega (arith, few, was, counted);

@@ -1,5 +1,6 @@
-use Rattle.std.proofs.Common.{◌≡◌, ◌∙◌, List, None, Err, ap, subst, rules}
+use Rattle.std.proofs.Common.{◌*◌, ◌≡◌, ◌∙◌, List, None, Err, ap, subst, rules}
 use Rattle.std.proofs.lemmas.Result.{err_from_is_err_and}
+use Rattle.mb_base.specs.Limits.{most_interval}
 use Rattle.mb_msg.specs.declared.change.ViewChange.{ViewChange}
 use Rattle.mb_model.specs.Plans.{plan_of}
 use Rattle.mb_model.specs.Held.{logs_of}
@@ -32,7 +33,7 @@ returns-in_err-plan c =
 pub check_members-requires : goal.check_members-requires
 check_members-requires c = record {
   fits = search rules;
-  places = none_found c.args.shape.now c.args.usig.now.secret 256;
+  places = none_found c.args.shape.now c.args.usig.now.secret (8 * most_interval);
 }
 
 pub plan_of_members-requires-clause-places : goal.plan_of_members-requires-clause-places

@@ -3,6 +3,7 @@ use Rattle.mb_base.specs.Limits.{least_interval, most_hosts}
 use Rattle.mb_base.specs.Shapes.{interval, host_count}
 use Rattle.mb_window.specs.Represents.{StandsWith}
 use Rattle.mb_window.proofs.Searches.{put_stands}
+use Rattle.mb_checkpoints.specs.declared.checkpoints.KeptCheckpoint.{KeptCheckpoint}
 use Rattle.mb_checkpoints.specs.Kept.{place_of}
 use Rattle.mb_checkpoints.proofs.Places.{keeps, number_is}
 use Rattle.mb_checkpoints.proofs.checkpoints.Checkpoints.keep.Goals as goal
@@ -24,5 +25,6 @@ returns-clause-stands c = λ s low search st.
     let few = c.requires.place.1 in
     let above : t.window.low < place_of number m.ui.host = omega (arith, low_is) in
     let within : place_of number m.ui.host ≤ t.window.low + length t.window.items = omega (arith, low_is, width, few, host) in
-    let window = put_stands t.window c.write.new.window (m.pos / c.from.result * most_hosts + c.from-2.result + 1) c.in_ok-kept.kept c.write.ensures (subst (λ q. t.window.low < q) (sym place) above) (subst (λ q. q ≤ t.window.low + length t.window.items) (sym place) within) in
-    keeps t _ m c.in_ok-kept.kept number c.in_ok-kept.ensures c.requires.place.2 (omega arith) host some hosts refl refl (subst (λ q. StandsWith t.window q c.in_ok-kept.kept c.write.new.window) place window) s low search st
+    let kept : KeptCheckpoint = record { message = m; floors = c.floors_digest-floors.result; floors_are = c.write-arg-2-1.given.0 } in
+    let window = put_stands t.window c.write.new.window (m.pos / c.from.result * most_hosts + c.from-2.result + 1) kept c.write.ensures (subst (λ q. t.window.low < q) (sym place) above) (subst (λ q. q ≤ t.window.low + length t.window.items) (sym place) within) in
+    keeps t _ m kept number refl c.requires.place.2 (omega arith) host some hosts refl refl (subst (λ q. StandsWith t.window q kept c.write.new.window) place window) s low search st

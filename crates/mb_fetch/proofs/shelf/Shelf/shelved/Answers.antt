@@ -1,5 +1,5 @@
 use Rattle.std.proofs.Common.{◌≡◌, ◌∙◌, ℕ, List, length, Some, None, option_map, sym, ap, ltb-true, ltb-false, get_or, arith}
-use Rattle.mb_fetch.specs.declared.shelved.Shelved.{Shelved}
+use Rattle.mb_fetch.specs.declared.shelved.HashedPart.{HashedPart}
 use Rattle.mb_fetch.specs.Shelves.{part_under}
 use Rattle.mb_fetch.proofs.Reading.{at_pos, bytes_copied, no_snapshot, past_all, under_key}
 use Rattle.mb_fetch.proofs.shelf.Shelf.shelved.Goals as goal
@@ -35,5 +35,5 @@ returns c =
     ∙ ap (λ (n : ℕ). get_or k.keys.items n key) number)
     in
     bytes_copied c.get-2.result
-    ∙ (ap (option_map (λ (s : Shelved). s.bytes)) c.get-2.ensures
+    ∙ (ap (option_map (λ (s : HashedPart). s.bytes)) c.get-2.ensures
     ∙ under_key keyed (part_under c.self.inside.held) c.args.self.now c.self.view_is c.args.pos c.args.number k found c.self.invariant key (omega (arith, within, long, number)) at)
