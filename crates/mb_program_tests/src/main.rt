@@ -10,8 +10,8 @@
 //! A line is printed for each row: that all was as expected, or what was not. Behind the rows come stories, each played again (`stories.rt`), and the runs
 //! over what the system has (`processes.rt`).
 //!
-//! With the word `story` it writes the story of the schedule in standard input. With other words it does what they ask for, as the program itself: so its
-//! nodes and children are started.
+//! With the word `story` it writes the story of the schedule in standard input, and with the word `leave` it starts a node and ends. With other words it does
+//! what they ask for, as the program itself: so its nodes and children are started.
 #![tactic(auto)]
 
 mod beginnings;
@@ -30,6 +30,7 @@ mod trial;
 use beginnings::wrong_beginning;
 use mb_os::words_of;
 use mb_program::run;
+use processes::LEAVE;
 use row::{Line, Row, line_of};
 use std::io;
 use std::process::ExitCode;
@@ -137,10 +138,16 @@ fn status_of(rt: &HostRuntime, held: Result<bool, Stop>) -> io::Result<ExitCode>
     }
 }
 
-/// Whether the words ask for a story.
-fn asks_for_story(words: &[String]) -> bool {
+/// Starts a node, and leaves it.
+fn leave(rt: &HostRuntime) -> io::Result<ExitCode> {
+    processes::leave_node(rt)?;
+    Ok(ExitCode::SUCCESS)
+}
+
+/// Whether the words are this one.
+fn asks_for(words: &[String], name: &str) -> bool {
     match words {
-        [word] => word.as_str() == STORY,
+        [word] => word.as_str() == name,
         _ => false,
     }
 }
@@ -148,7 +155,8 @@ fn asks_for_story(words: &[String]) -> bool {
 fn main(rt: HostRuntime) -> io::Result<ExitCode> {
     match words_of(&rt) {
         Ok(words) if words.is_empty() => status_of(&rt, run_all(&rt)),
-        Ok(words) if asks_for_story(&words) => status_of(&rt, stories::tell(&rt)),
+        Ok(words) if asks_for(&words, STORY) => status_of(&rt, stories::tell(&rt)),
+        Ok(words) if asks_for(&words, LEAVE) => leave(&rt),
         _ => Ok(run(&rt)),
     }
 }

@@ -2,16 +2,17 @@
 //! program with its own standard input, standard output and exit status. This one program is the client program, each of its nodes and each child.
 //!
 //! It reads a config from standard input, starts a node for each of three hosts, asks them the operations and writes the results. Then children take the steps
-//! of each node's record again, run three schedules, one of them long, and a soak. At last a node is started that some other process is said to have started.
-//! Behind each run stands its status.
+//! of each node's record again, run three schedules, one of them long, and a soak. Then a child starts a node and ends before it, so that the node has to end.
+//! At last, once the port is free again, a node is started that some other process is said to have started. Behind each run stands its status.
 
-use mb_edge::Spawner;
+use mb_edge::{Child, Spawner};
 use mb_os::{ChildSpawner, StdSink, StdSource, own_path};
 use mb_program::obey;
 use std::fs::{File, Files, OpenOptions};
 use std::io::ErrorKind;
 use std::process::Command;
-use std::{fs, io};
+use std::time::Duration;
+use std::{fs, io, process, thread};
 
 /// What three nodes record.
 const RECORDS: [&str; 3] = ["node-0.record", "node-1.record", "node-2.record"];
@@ -30,6 +31,18 @@ const ANSWER: &str = "answer";
 
 /// A number that no process has.
 const NO_PROCESS: u32 = u32::MAX;
+
+/// The word for a program that starts a node and ends at once.
+pub const LEAVE: &str = "leave";
+
+/// How long a node serves before it is left, in milliseconds: two receives, so that it has found its starter there.
+const SERVED_FIRST: u64 = 100;
+
+/// How often it is tried to start a node whose port another one may still have.
+const TRIES: u32 = 500;
+
+/// How long it waits between two tries, in milliseconds: five seconds in all.
+const TRY_WAIT: u64 = 10;
 
 /// That a run could not be made.
 fn not_run() -> io::Error {
@@ -104,14 +117,47 @@ fn soak(rt: &HostRuntime) -> io::Result<()> {
     println!(rt; "{}soak: {status}", text.as_str())
 }
 
-/// Runs a node that is told of another process as the one that started it: its link fails.
+/// Starts a node that would serve for more than an hour, and does not wait for its end.
+pub fn leave_node(rt: &HostRuntime) -> io::Result<()> {
+    let words = words_from(rt, &["node", "0", "100000"])?;
+    let config = fs::read(rt, CONFIG)?;
+    let own = process::id(rt.process());
+    let mut spawner = ChildSpawner::new(rt, rt.alloc(), own_path(rt), own, &[]);
+    let Ok(_left) = spawner.start(&words, &config, "left.record") else {
+        return Err(not_run());
+    };
+    thread::sleep(rt, Duration::from_millis(SERVED_FIRST));
+    Ok(())
+}
+
+/// Runs a program that leaves a node.
+fn starter(rt: &HostRuntime) -> io::Result<()> {
+    let (status, _) = answer(rt, &[LEAVE], CONFIG)?;
+    println!(rt; "starter of a node: {status}")
+}
+
+/// Starts a node as soon as no other one has its port.
+fn start_when_free<S: Spawner>(
+    rt: &HostRuntime,
+    spawner: &mut S,
+    words: &[String],
+    config: &[u8],
+) -> io::Result<Child> {
+    for _ in 0..TRIES {
+        if let Ok(child) = spawner.start(words, config, "lonely.record") {
+            return Ok(child);
+        }
+        thread::sleep(rt, Duration::from_millis(TRY_WAIT));
+    }
+    Err(not_run())
+}
+
+/// Runs a node that is told of another process as the one that started it: its link fails. It has the port of the node that was left, so that one has ended.
 fn lonely_node(rt: &HostRuntime) -> io::Result<()> {
     let words = words_from(rt, &["node", "0", "40"])?;
     let config = fs::read(rt, CONFIG)?;
     let mut spawner = ChildSpawner::new(rt, rt.alloc(), own_path(rt), NO_PROCESS, &[]);
-    let Ok(child) = spawner.start(&words, &config, "lonely.record") else {
-        return Err(not_run());
-    };
+    let child = start_when_free(rt, &mut spawner, &words, &config)?;
     match spawner.wait(child) {
         Ok(status) => println!(rt; "lonely node: {status}"),
         Err(_) => Err(not_run()),
@@ -129,5 +175,6 @@ pub fn run_all(rt: &HostRuntime) -> io::Result<()> {
     }
     replay_long(rt)?;
     soak(rt)?;
+    starter(rt)?;
     lonely_node(rt)
 }
