@@ -5,7 +5,7 @@
 //! of each node's record again, run three schedules, one of them long, and a soak. Then a child starts a node and ends before it, so that the node has to end.
 //! At last, once the port is free again, a node is started that some other process is said to have started. Behind each run stands its status.
 
-use mb_edge::{Child, Spawner};
+use mb_edge::Spawner;
 use mb_os::{ChildSpawner, StdSink, StdSource, own_path};
 use mb_program::obey;
 use std::fs::{File, Files, OpenOptions};
@@ -37,12 +37,6 @@ pub const LEAVE: &str = "leave";
 
 /// How long a node serves before it is left, in milliseconds: two receives, so that it has found its starter there.
 const SERVED_FIRST: u64 = 100;
-
-/// How often it is tried to start a node whose port another one may still have.
-const TRIES: u32 = 500;
-
-/// How long it waits between two tries, in milliseconds: five seconds in all.
-const TRY_WAIT: u64 = 10;
 
 /// That a run could not be made.
 fn not_run() -> io::Error {
@@ -136,28 +130,14 @@ fn starter(rt: &HostRuntime) -> io::Result<()> {
     println!(rt; "starter of a node: {status}")
 }
 
-/// Starts a node as soon as no other one has its port.
-fn start_when_free<S: Spawner>(
-    rt: &HostRuntime,
-    spawner: &mut S,
-    words: &[String],
-    config: &[u8],
-) -> io::Result<Child> {
-    for _ in 0..TRIES {
-        if let Ok(child) = spawner.start(words, config, "lonely.record") {
-            return Ok(child);
-        }
-        thread::sleep(rt, Duration::from_millis(TRY_WAIT));
-    }
-    Err(not_run())
-}
-
-/// Runs a node that is told of another process as the one that started it: its link fails. It has the port of the node that was left, so that one has ended.
+/// Runs a node that is told of another process as the one that started it: its link fails. It gets the port of the node that was left, so that one has ended.
 fn lonely_node(rt: &HostRuntime) -> io::Result<()> {
     let words = words_from(rt, &["node", "0", "40"])?;
     let config = fs::read(rt, CONFIG)?;
     let mut spawner = ChildSpawner::new(rt, rt.alloc(), own_path(rt), NO_PROCESS, &[]);
-    let child = start_when_free(rt, &mut spawner, &words, &config)?;
+    let Ok(child) = spawner.start(&words, &config, "lonely.record") else {
+        return Err(not_run());
+    };
     match spawner.wait(child) {
         Ok(status) => println!(rt; "lonely node: {status}"),
         Err(_) => Err(not_run()),
