@@ -34,4 +34,5 @@ mod rules;
 mod stamping;
 mod view_changes;
 
+pub use mb_msg::{Event, Outcome, Sent, Slot, Step, To};
 pub use replica::{Replica, Stop};

@@ -101,14 +101,10 @@ fn tell_stamped(teller: &mut Teller, event: &WorldEvent) {
             teller.number("pos", *pos);
             teller.bytes("digest", digest);
         }
-        WorldEvent::StampChange {
-            host,
-            view,
-            counter,
-        } => {
+        WorldEvent::StampChange { host, view, after } => {
             teller.number("change host", u64::from(*host));
             teller.number("view", *view);
-            teller.number("counter", *counter);
+            teller.number("counter", *after);
         }
         _ => {}
     }

@@ -108,6 +108,13 @@ impl<V: Service + Drop> Learner<V> {
         self.line.state(alloc)
     }
 
+    /// Whether an earlier call ended with `NoMemory` or `Differs`.
+    pub fn halted(&self) -> bool
+        ensures { result ≡ self.now.halted }
+    {
+        self.halted
+    }
+
     /// Executes one position after the other, as long as a batch is proved at the next one.
     fn execute_proved(&mut self, alloc: Global) -> Result<(), NoMemory>
         requires halted { self.old.halted ≡ true }

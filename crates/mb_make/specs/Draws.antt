@@ -25,9 +25,16 @@ drawn e g = record { event = e; left = g }
 abbrev pub seeded : ℕ → Generator
 seeded seed = record { x = seed; draws = 0; cursors = 1 ∷ 1 ∷ [] }
 
+-- what the linear congruence multiplies by, and what it adds
+abbrev pub multiplier : ℕ
+multiplier = 6364136223846793005
+
+abbrev pub increment : ℕ
+increment = 1442695040888963407
+
 -- one step of the linear congruence
 abbrev pub stepped : Generator → Generator
-stepped g = record g { x = (g.x * 6364136223846793005 + 1442695040888963407) % 2 ^ 64; draws = g.draws + 1 }
+stepped g = record g { x = (g.x * multiplier + increment) % 2 ^ 64; draws = g.draws + 1 }
 
 -- ---- the two numbers that a draw takes of x
 

@@ -10,10 +10,10 @@ use mb_schedule::WorldEvent;
 use std::alloc::Global;
 
 /// What the linear congruence multiplies by.
-const FACTOR: u64 = 6_364_136_223_846_793_005;
+const MULTIPLIER: u64 = 6_364_136_223_846_793_005;
 
 /// What it adds.
-const SUMMAND: u64 = 1_442_695_040_888_963_407;
+const INCREMENT: u64 = 1_442_695_040_888_963_407;
 
 /// The host that is faulty.
 const FAULTY: Host = 2;
@@ -67,7 +67,7 @@ impl Maker {
         ensures started { result.started ≡ true }
     {
         Maker {
-            x: self.x.wrapping_mul(FACTOR).wrapping_add(SUMMAND),
+            x: self.x.wrapping_mul(MULTIPLIER).wrapping_add(INCREMENT),
             number: self.number.wrapping_add(1),
             started: true,
             cursors: self.cursors,

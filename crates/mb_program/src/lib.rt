@@ -1,6 +1,18 @@
 //! The whole program over what the system has: standard input and standard output, sockets of this machine, programs that it starts, and a file.
 #![tactic(auto)]
 
+ghost use Rattle.std.specs.Prelude.{◌≡◌, ℕ, ◌≤◌, ◌<◌, length, Contains, IfSome};
+ghost use Rattle.std.specs.Io.KnownBytes.{IsAtEnd};
+ghost use Rattle.mb_edge.specs.Faults.{TellsFaults};
+ghost use Rattle.mb_edge.specs.Pieces.{ConsumesBetween};
+ghost use Rattle.mb_top.specs.declared.command.Command.TheVariants as command;
+ghost use Rattle.mb_top.specs.Commands.{asked, Asks};
+ghost use Rattle.mb_top.specs.Doings.{most_read, statuses};
+ghost use Rattle.mb_top.specs.Outcomes.{ReportsOn, TellsForged, WithSchedule, WithRecord, HoldsWhere, HoldsSoFar, HoldsBeforeForged};
+ghost use Rattle.mb_top.specs.Soaks.{soak_of};
+ghost use Rattle.mb_top.specs.Blames.{ConvictsRightly, TellsDisorder};
+ghost use Rattle.mb_top.specs.Histories.{LearnsTheLine};
+
 use mb_edge::{Sink, Source};
 use mb_os::{ChildSpawner, FileDisk, StdSink, StdSource, UdpLink, own_path, starter_of, words_of};
 use mb_top::minbft;
@@ -24,12 +36,37 @@ const RECORDS: [&str; 7] = [
 
 /// Does what the words ask for, and answers the status. It reads from the source and writes to the sink. Nodes are started by the program's own path, and
 /// only where none of their records is there yet; one that was started so ends with the program that started it.
+///
+/// All that `minbft` of `mb_top` promises of words, source and sink alone holds here too.
 pub fn obey<S: Source, K: Sink>(
     rt: &HostRuntime,
     words: &[String],
     source: &mut S,
     sink: &mut K,
-) -> u8 {
+) -> u8
+    // Each command has its statuses.
+    ensures statuses { Contains (statuses (asked words.now)) result }
+    // At status 0 of the word `replay` the report behind all events of the schedule was written.
+    ensures report { Asks words.now command.Replay → result ≡ 0
+        → IsAtEnd (S.seen source.new).bytes × IfSome (S.seen source.old).bytes (λ text. ReportsOn text (K.seen sink.old).bytes (K.seen sink.new).bytes) }
+    // Behind each event of a schedule or of a soak all that is promised holds, whoever of f hosts is faulty: at status 0, whatever the status, and up to
+    // the first event that delivers what is forged.
+    ensures history { Asks words.now command.Replay → result ≡ 0 → WithSchedule (S.seen source.old).bytes (λ s. HoldsWhere (λ k. k ≤ length s.events) s) }
+    ensures history_so_far { Asks words.now command.Replay → WithSchedule (S.seen source.old).bytes HoldsSoFar }
+    ensures forged { Asks words.now command.Replay → result ≡ 3 → IfSome (S.seen source.old).bytes (λ text. TellsForged text (K.seen sink.old).bytes (K.seen sink.new).bytes) }
+    ensures history_before { Asks words.now command.Replay → result ≡ 3 → HoldsBeforeForged (S.seen source.old).bytes }
+    ensures soak_history { (seed n : ℕ) → Asks words.now (command.Soak seed n) → result ≡ 0 → HoldsWhere (λ k. k ≤ n) (soak_of seed n) }
+    // An audit convicts faulty hosts alone, and tells where their stamps are no list in order; what is learnt of a record is the world's one history.
+    ensures audit_blame { (host : ℕ) → Asks words.now (command.Audit host) → WithRecord (S.seen source.old).bytes (λ r. ConvictsRightly host result r) }
+    ensures audit_disorder { (host : ℕ) → Asks words.now (command.Audit host) → result ≡ 12
+        → WithRecord (S.seen source.old).bytes (λ r. TellsDisorder host r (K.seen sink.old).bytes (K.seen sink.new).bytes) }
+    ensures learn_history { Asks words.now command.Learn → WithRecord (S.seen source.old).bytes (λ r. LearnsTheLine result r (K.seen sink.old) (K.seen sink.new)) }
+    // At most the bytes of the longest text and one more are taken from the source.
+    ensures limit { ConsumesBetween 0 (most_read (asked words.now)) (S.seen source.old).bytes (S.seen source.new).bytes }
+    // The status of the source or of the sink comes only where its count of faults rose, and never where it is known not to fail.
+    ensures source_faults { TellsFaults (S.never_fails source.old) (S.never_fails source.new) (S.seen source.old).faults (S.seen source.new).faults (result ≡ 5) }
+    ensures sink_faults { TellsFaults (K.never_fails sink.old) (K.never_fails sink.new) (K.seen sink.old).faults (K.seen sink.new).faults (result ≡ 6) }
+{
     let mut link = UdpLink::new(rt, rt.process(), starter_of(rt));
     let own = process::id(rt.process());
     let records = RECORDS;

@@ -1,14 +1,13 @@
 -- What a whole text says: a schedule, or the number of its first line that is bad.
-use Rattle.std.specs.Prelude.{◌≡◌, ℕ, ◌+◌, ◌*◌, ◌≤◌, ◌<◌, Bool, List, length, drop, Result, Ok, Err}
+use Rattle.std.specs.Prelude.{◌≡◌, ℕ, ◌+◌, ◌*◌, ◌≤◌, Bool, List, length, drop, Result, Ok}
 use Rattle.mb_base.specs.Shapes.{Bytes, max_faults, interval, client_count}
 use Rattle.mb_sched.specs.declared.bad_text.BadText.{BadText}
-use Rattle.mb_sched.specs.declared.bad_text.BadText.TheVariants as text
 use Rattle.mb_schedule.specs.declared.schedule.Schedule.{Schedule}
 use Rattle.mb_schedule.specs.declared.schedule.WorldEvent.{WorldEvent}
 use Rattle.mb_schedule.specs.Limits.{max_text}
 use Rattle.mb_sched.specs.Words.{words}
 use Rattle.mb_sched.specs.Lines.{lines, is_ended, ◌>>=◌}
-use Rattle.mb_sched.specs.TextLines.{all_lines}
+use Rattle.mb_sched.specs.TextLines.{all_lines, ReadsText}
 use Rattle.mb_sched.specs.Headers.{HeaderContents, header_of}
 use Rattle.mb_sched.specs.EventLines.{event_line}
 
@@ -65,13 +64,6 @@ contents s = record {
 abbrev pub IsScheduleText : Bytes → Schedule → Type 0
 IsScheduleText text s = (length text ≤ max_text) × (schedule_of text ≡ Ok (contents s))
 
--- what a text's fault is called
-abbrev pub IsFault : BadText → Bytes → Type 0
-IsFault text.TooLong bytes = max_text < length bytes
-IsFault (text.BadLine number) bytes = (length bytes ≤ max_text) × (schedule_of bytes ≡ Err number)
-IsFault text.NoMemory bytes = Unit {0}
-
--- parsing answers the text's schedule or its first bad line, and says nothing only where memory runs out
+-- parsing answers a text's schedule or its first bad line, or that it is too long; only where memory runs out it says nothing of the lines
 abbrev pub Parses : Result Schedule BadText → Bytes → Type 0
-Parses (Ok s) bytes = IsScheduleText bytes s
-Parses (Err e) bytes = IsFault e bytes
+Parses = ReadsText max_text contents schedule_of

@@ -299,16 +299,12 @@ fn checkpoint_of(host: Host, words: &[&[u8]]) -> Option<WorldEvent>
 fn change_of(host: Host, words: &[&[u8]]) -> Option<WorldEvent>
     ensures { result ≡ change_of host (texts words.now) }
 {
-    let [view, counter] = words else {
+    let [view, after] = words else {
         return None;
     };
     let view = place_from_1(view)?;
-    let counter = message_in(counter)?;
-    Some(WorldEvent::StampChange {
-        host,
-        view,
-        counter,
-    })
+    let after = message_in(after)?;
+    Some(WorldEvent::StampChange { host, view, after })
 }
 
 /// `stamp H as M`, behind `as`

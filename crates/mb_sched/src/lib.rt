@@ -24,7 +24,7 @@ pub use mb_schedule::{
     WorldEvent,
 };
 pub use parsing::{MAX_TEXT, parse_schedule, printed_schedules_are_read, texts_are_schedules};
-pub use printing::{print_report, print_slots};
+pub use printing::{hex_word, print_report, print_slots};
 pub use records::{
     Entry, MAX_RECORD, Record, cut_records_are_read, parse_record, print_entry, print_record_head,
     printed_records_are_read, records_are_their_spellings,

@@ -90,8 +90,8 @@ fn fresh_name(fresh: bool) -> &'static str
     if fresh { "fresh" } else { "again" }
 }
 
-/// Bytes in lower-case hexadecimal, and a dash where there are none.
-pub(crate) fn hex_word(alloc: Global, bytes: &[u8]) -> Result<String, NoMemory>
+/// Bytes in lower-case hexadecimal, and a dash where there are none. `NoMemory` comes where memory runs out, and nowhere else.
+pub fn hex_word(alloc: Global, bytes: &[u8]) -> Result<String, NoMemory>
     ensures { IfOk result (λ word. string_bytes word ≡ hex_word bytes.now) }
 {
     if bytes.is_empty() {

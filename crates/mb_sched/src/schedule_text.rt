@@ -121,11 +121,9 @@ fn print_event(alloc: Global, out: &mut String, event: &WorldEvent) -> Result<()
         WorldEvent::StampCheckpoint { host, pos, digest } => {
             print_checkpoint(alloc, out, *host, *pos, digest)?;
         }
-        WorldEvent::StampChange {
-            host,
-            view,
-            counter,
-        } => writeln!(out, "stamp h{host} change {view} {counter}")?,
+        WorldEvent::StampChange { host, view, after } => {
+            writeln!(out, "stamp h{host} change {view} {after}")?;
+        }
         WorldEvent::StampAs { host, message } => writeln!(out, "stamp h{host} as {message}")?,
         WorldEvent::StampRaw { host, bytes } => {
             print_stamp_raw(alloc, out, *host, bytes.as_slice())?;

@@ -82,7 +82,7 @@ pub enum WorldEvent {
     StampChange {
         host: Host,
         view: View,
-        counter: Counter,
+        after: Counter,
     },
     /// A faulty host stamps the content of this message.
     StampAs {

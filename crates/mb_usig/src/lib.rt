@@ -11,5 +11,6 @@ mod tagged;
 mod usig;
 
 pub use keyed_hash::hmac;
+pub use mb_base::Ui;
 pub use pen::Pen;
 pub use usig::{Spent, Usig};

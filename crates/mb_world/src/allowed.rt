@@ -127,11 +127,9 @@ impl<V: Service + Drop> World<V> {
             WorldEvent::StampCheckpoint { pos, digest, .. } => {
                 Ok(Some(checkpoint_with(alloc, &self.shape, *pos, digest)?))
             }
-            WorldEvent::StampChange {
-                host,
-                view,
-                counter,
-            } => self.change_of(alloc, *host, *view, *counter),
+            WorldEvent::StampChange { host, view, after } => {
+                self.change_of(alloc, *host, *view, *after)
+            }
             WorldEvent::StampAs { message, .. } => self.stamped_of(alloc, *message),
             WorldEvent::Ask { .. }
             | WorldEvent::Patience { .. }

@@ -1,7 +1,7 @@
-use Rattle.std.proofs.Common.{subst, ap, ◌∙◌}
+use Rattle.std.proofs.Common.{Err, subst, ap, ◌∙◌}
 use Rattle.std.proofs.lemmas.Result.{IfOk-weaker}
 use Rattle.mb_sched.specs.declared.bad_text.BadText.{BadText}
-use Rattle.mb_sched.specs.Schedules.{IsFault}
+use Rattle.mb_sched.specs.Schedules.{Parses}
 use Rattle.mb_sched.proofs.EventLimits.{schedule_fits}
 use Rattle.mb_answer.specs.Texts.{bad_line_text}
 use Rattle.mb_top.specs.Answers.{bad_line, right}
@@ -15,5 +15,5 @@ returns-in-Ok c = IfOk-weaker c.answer_schedule.result _ _ (λ a h. right c.in-O
 
 pub returns-in-Err-BadLine : goal.returns-in-Err-BadLine
 returns-in-Err-BadLine c =
-    let fault = subst (λ (b : BadText). IsFault b c.args.text.items) c.in-Err-BadLine.field-0-is c.in-Err-BadLine.ensures in
+    let fault = subst (λ (b : BadText). Parses (Err b) c.args.text.items) c.in-Err-BadLine.field-0-is c.in-Err-BadLine.ensures in
     IfOk-weaker c.bad_line.result _ _ (λ a h. bad_line c.in-Err-BadLine.number fault.0 fault.1 h.0 (h.1 ∙ ap bad_line_text c.from.ensures)) c.bad_line.ensures

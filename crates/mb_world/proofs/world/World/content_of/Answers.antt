@@ -43,4 +43,4 @@ pub returns-in-StampChange-clause-stops : goal.returns-in-StampChange-clause-sto
 returns-in-StampChange-clause-stops g c = λ y x h named.
     let change = c.in-StampChange in
     let faulty : is_faulty y.schedule change.host ≡ true = is_doer_faulty y.schedule x c.args.event.now (name.Host change.host) (ap culprit change.is) named in
-    rw change.is (told_alone (then_some (not (is_sendable_change y.schedule x change.host change.view change.counter)) (WrongKind change.counter)) c.change_of.result (c.change_of.ensures.stops y x h faulty))
+    rw change.is (told_alone (then_some (not (is_sendable_change y.schedule x change.host change.view change.after)) (WrongKind change.after)) c.change_of.result (c.change_of.ensures.stops y x h faulty))
