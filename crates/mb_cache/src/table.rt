@@ -35,11 +35,11 @@ impl Model for Table {
 }
 
 impl Table {
-    ghost use Rattle.std.specs.Prelude.{◌≡◌, ◌<◌, ◌≤◌, length, slice_set, option_map, IfOk, IfSome, OnOk, OnErr};
+    ghost use Rattle.std.specs.Prelude.{◌≡◌, ◌<◌, ◌≤◌, true, length, slice_set, option_map, IfOk, IfSome, OnOk, OnErr};
     ghost use Rattle.mb_base.specs.Shapes.{client_count};
     ghost use Rattle.mb_parts.specs.Fits.{IsCounter, IsPosition, FitsText};
     ghost use Rattle.mb_msg.specs.declared.event.Placed.{Placed};
-    ghost use Rattle.mb_model.specs.Service.{no_reply, served};
+    ghost use Rattle.mb_model.specs.Service.{is_fresh, no_reply, served};
     ghost use Rattle.mb_model.specs.States.{table_bytes, table_of};
     ghost use Rattle.mb_model.specs.Histories.{Identity, History, Served};
     ghost use Rattle.mb_service.specs.declared.service.TheConstants.{MAX_PART};
@@ -78,8 +78,8 @@ impl Table {
         Accept::Again { pos: last.pos }
     }
 
-    /// Executes a request at a position: one that is numbered above its client's last one is applied, its reply is stored, and its result
-    /// is the answer. Any other changes nothing, and the answer is None.
+    /// Executes a request at a position: one that is numbered above its client's last one is applied, its reply is stored, and a copy of its
+    /// result is the answer. Any other changes nothing, and the answer is None.
     ///
     /// After `NoMemory` the service and the table are as they were, or the request is executed.
     pub fn execute<V: Service>(
@@ -97,11 +97,37 @@ impl Table {
         ensures len { length self.new ≡ length self.old }
         ensures stands { OnOk result (StandsServed (machine_of V.machine) (joined service.old self.old) pos request.now (joined service.new self.new)) }
     {
-        if request.seq <= self.last_seq(request.client) {
+        if !self.execute_quietly(alloc, service, pos, request)? {
             return Ok(None);
         }
-        self.serve(alloc, service, pos, request)?;
         Ok(Some(self.last(request.client).result.duplicate(alloc)?))
+    }
+
+    /// Executes a request at a position, and tells whether it is fresh: numbered above its client's last one. Then it is applied, and its reply
+    /// is stored. Any other changes nothing.
+    ///
+    /// After `NoMemory` the service and the table are as they were.
+    pub fn execute_quietly<V: Service>(
+        &mut self,
+        alloc: Global,
+        service: &mut V,
+        pos: Pos,
+        request: &Request,
+    ) -> Result<bool, NoMemory>
+        requires client { request.now.client < length self.old }
+        requires position { IsPosition pos }
+        ensures served { OnOk result (joined service.new self.new ≡ served (machine_of V.machine) (joined service.old self.old) pos request.now) }
+        ensures fresh { IfOk result (λ is. is ≡ is_fresh (joined service.old self.old) request.now) }
+        ensures answer { IfOk result (λ is. is ≡ true → (last_of self.new request.now.client).result ≡ V.machine.answer service.old request.now.op) }
+        ensures kept { OnErr result (joined service.new self.new ≡ joined service.old self.old) }
+        ensures len { length self.new ≡ length self.old }
+        ensures stands { OnOk result (StandsServed (machine_of V.machine) (joined service.old self.old) pos request.now (joined service.new self.new)) }
+    {
+        if request.seq <= self.last_seq(request.client) {
+            return Ok(false);
+        }
+        self.serve(alloc, service, pos, request)?;
+        Ok(true)
     }
 
     /// Applies a fresh request and stores its reply. After `NoMemory` the service and the table are as they were.

@@ -43,11 +43,9 @@ pub struct Checkpoints {
 }
 
 impl Checkpoints {
-    ghost use Rattle.std.specs.Prelude.{◌≡◌, ◌≤◌, ◌<◌, ◌+◌, ◌*◌, ◌^◌, ℕ, None, IfOk, IfSome, OnOk, OnErr};
+    ghost use Rattle.std.specs.Prelude.{◌≡◌, ◌≤◌, ◌<◌, ◌+◌, ◌*◌, ◌^◌, ℕ, None, IfOk, IfSome};
     ghost use Rattle.std.specs.Option.{option_map};
     ghost use Rattle.mb_base.specs.Shapes.{host_count, interval};
-    ghost use Rattle.mb_msg.specs.Fits.{FitsFloorsBody};
-    ghost use Rattle.mb_msg.specs.Bodies.{FitsBody};
     ghost use Rattle.mb_checkpoints.specs.Kept.{kept_at, low_of, IsKeptPlace, Keeps, KeepsAbove, Represents};
 
     /// No CHECKPOINTs, and the stable position is 0. All memory is taken here.
@@ -61,13 +59,11 @@ impl Checkpoints {
         })
     }
 
-    /// Keeps a CHECKPOINT, in the place of its host's earlier one at that position. After `NoMemory` nothing has changed.
-    pub fn keep(&mut self, _alloc: Global, checkpoint: Checkpoint) -> Result<(), NoMemory>
+    /// Keeps a CHECKPOINT, in the place of its host's earlier one at that position. It takes no memory.
+    pub fn keep(&mut self, checkpoint: Checkpoint)
         requires host { checkpoint.ui.host < host_count self.old.shape }
         requires place { IsKeptPlace self.old checkpoint.pos }
-        requires fits { FitsBody (FitsFloorsBody self.old.shape) checkpoint.body }
-        ensures stands { OnOk result (Keeps self.old checkpoint self.new) }
-        ensures err { OnErr result (self.new ≡ self.old) }
+        ensures stands { Keeps self.old checkpoint self.new }
     {
         let number = checkpoint.pos / u64::from(self.shape.k());
         let place = number * HOST_PLACES + u64::from(checkpoint.ui.host) + 1;
@@ -77,7 +73,6 @@ impl Checkpoints {
             floors,
         };
         write(&mut self.window, place, kept);
-        Ok(())
     }
 
     /// The digest of the floors of a CHECKPOINT, which is not taken again where a kept one of its position has the same floors.

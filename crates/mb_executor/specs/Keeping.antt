@@ -1,6 +1,6 @@
 -- What a host executes with, as a value: its state with the client table, the snapshots that it keeps for others, and the parts of a state that
 -- it fetched.
-use Rattle.std.specs.Prelude.{ℕ, ◌≡◌, ◌≤◌, ◌⊎◌, List, [], ◌∷◌, ◌++◌, length, Option, Some, None, nat_lt, nat_le, if◌then◌else◌}
+use Rattle.std.specs.Prelude.{ℕ, ◌≡◌, ◌≤◌, List, [], ◌∷◌, ◌++◌, length, Option, Some, None, nat_lt, nat_le, if◌then◌else◌}
 use Rattle.std.specs.List.{filter, AllByRecursion}
 use Rattle.mb_base.specs.Limits.{part_count, part_limit}
 use Rattle.mb_base.specs.Shapes.{Bytes}
@@ -52,10 +52,6 @@ module _ {S : Type 0} where
   -- a request is served
   abbrev pub executed : Machine S → Keeping S → ℕ → Request → Keeping S
   executed m k pos r = with_served k (served m k.served pos r)
-
-  -- where memory ran out
-  abbrev pub ExecutedOrNot : Machine S → Keeping S → ℕ → Request → Keeping S → Type 0
-  ExecutedOrNot m old pos r new = (new ≡ old) ⊎ (new ≡ executed m old pos r)
 
   -- one snapshot more
   abbrev pub with_snapshot : Keeping S → ℕ → List Bytes → Keeping S

@@ -50,7 +50,7 @@ impl<V: Service + Drop> Keeper<V> {
     ghost use Rattle.mb_cache.specs.Tables.{last_of};
     ghost use Rattle.mb_cache.specs.Answers.{Accepts, told};
     ghost use Rattle.mb_cache.specs.Represents.{machine_of, snapshots_of, StandsServed};
-    ghost use Rattle.mb_executor.specs.Keeping.{Keeping, executed, ExecutedOrNot, with_snapshot, raised};
+    ghost use Rattle.mb_executor.specs.Keeping.{Keeping, executed, with_snapshot, raised};
 
     /// Nothing was executed yet, and nothing fetched.
     pub fn make(alloc: Global, shape: Shape, service: V) -> Result<Keeper<V>, NoMemory>
@@ -91,20 +91,18 @@ impl<V: Service + Drop> Keeper<V> {
     }
 
     /// Executes a request at a position, and tells whether it is fresh: numbered above its client's last executed one. Any other changes
-    /// nothing.
-    ///
-    /// After `NoMemory` it is executed, or all is as it was.
+    /// nothing. After `NoMemory` all is as it was.
     pub fn execute(&mut self, alloc: Global, pos: Pos, request: &Request) -> Result<bool, NoMemory>
         requires client { request.now.client < length self.old.served.table }
         requires position { IsPosition pos }
         ensures served { OnOk result (self.new ≡ executed (machine_of V.machine) self.old pos request.now) }
         ensures fresh { IfOk result (λ is. is ≡ is_fresh self.old.served request.now) }
-        ensures stops { OnErr result (ExecutedOrNot (machine_of V.machine) self.old pos request.now self.new) }
+        ensures kept { OnErr result (self.new ≡ self.old) }
         ensures clients { length self.new.served.table ≡ length self.old.served.table }
         ensures stands { OnOk result (StandsServed (machine_of V.machine) self.old.served pos request.now self.new.served) }
     {
-        let result = self.table.execute(alloc, &mut self.service, pos, request)?;
-        Ok(result.is_some())
+        self.table
+            .execute_quietly(alloc, &mut self.service, pos, request)
     }
 
     /// The digest of the present state at a position. The state stays as it is, also after `NoMemory`.

@@ -1,5 +1,5 @@
 -- One position more is executed.
-use Rattle.std.proofs.Common.{◌≡◌, ℕ, zero, suc, ◌+◌, ◌*◌, ◌/◌, ◌%◌, ◌<◌, ◌≤◌, ◌⊎◌, Bool, true, false, cond, eqb, List, [], ◌∷◌, ◌++◌, length, map, take, drop, take_all, append_assoc, append-nil, is_some, slice_get, Option, Some, None, refl, sym, ap, subst, ◌∙◌, inl, inr, arith, length-append, add-one, add-mul, mul-le-mul_right}
+use Rattle.std.proofs.Common.{◌≡◌, ℕ, zero, suc, ◌+◌, ◌*◌, ◌/◌, ◌%◌, ◌<◌, ◌≤◌, ◌⊎◌, Bool, true, false, cond, eqb, List, [], ◌∷◌, ◌++◌, length, map, take, drop, take_all, append_assoc, append-nil, slice_get, Option, Some, None, refl, sym, ap, subst, ◌∙◌, inl, inr, arith, length-append, add-one, add-mul, mul-le-mul_right}
 use Rattle.std.specs.Prelude.{nat_le, if◌then◌else◌}
 use Rattle.std.specs.List.{range_with_len}
 use Rattle.std.proofs.lemmas.Bool.{cases_Bool, cases_lt, eqb-true, eqb-false, le-leb, leb-true, false_from_ne_true}
@@ -19,7 +19,6 @@ use Rattle.mb_model.specs.Service.{Machine, Served, start, is_fresh, served, ser
 use Rattle.mb_model.specs.States.{Snapshots, parts_of, state_digest}
 use Rattle.mb_model.proofs.ServiceLaws.{served_push}
 use Rattle.mb_model.specs.declared.known.LastReply.{LastReply}
-use Rattle.mb_cache.specs.Answers.{result_of}
 use Rattle.mb_cache.specs.Represents.{joined}
 use Rattle.mb_learn.specs.declared.line.Line.{Line}
 use Rattle.mb_learn.specs.Executed.{with_mark, placed_all, state_now, noted_at, KeepsSlots, NotesState, Executes, ExecutesToo}
@@ -112,15 +111,6 @@ module _ {S : Type 0} (m : Machine S) where
       → placed ≡ placed_all m (joined old.service old.table) pos requests
   places_last old now pos requests index placed le g =
       sym (append-nil placed) ∙ sym (ap (λ (l : List Request). placed ++ placed_all m (joined now.service now.table) pos l) (drop_all index requests le)) ∙ g.placed_is
-
--- ---- a request
-
--- whether it was fresh
-pub placed_is : {S : Type 0} (answer : S → Bytes → Bytes) (x : Served S) (r : Request) (q : Request) (result : Option Bytes) → q ≡ r → result ≡ result_of answer x r → record { request = q; fresh = is_some result } ≡ with_mark x r
-placed_is answer x r q result same is = ap (λ (z : Request). record { request = z; fresh = is_some result }) same ∙ ap (λ b. record { request = r; fresh = b }) (ap is_some is ∙ told (is_fresh x r) refl) where
-  told : (b : Bool) → is_fresh x r ≡ b → is_some (result_of answer x r) ≡ is_fresh x r
-  told true e = ap (λ c. is_some (cond c (Some (answer x.state r.op)) None)) e ∙ sym e
-  told false e = ap (λ c. is_some (cond c (Some (answer x.state r.op)) None)) e ∙ sym e
 
 -- ---- multiples
 

@@ -120,10 +120,12 @@ impl<V: Service + Drop> Line<V> {
         ensures served { OnOk result (joined self.new.service self.new.table ≡ served (machine_of V.machine) (joined self.old.service self.old.table) pos request.now) }
         ensures rest { OnOk result (KeepsSlots self.old self.new) }
     {
-        let result = self.table.execute(alloc, &mut self.service, pos, request)?;
+        let fresh = self
+            .table
+            .execute_quietly(alloc, &mut self.service, pos, request)?;
         Ok(Placed {
             request: request.duplicate(alloc)?,
-            fresh: result.is_some(),
+            fresh,
         })
     }
 

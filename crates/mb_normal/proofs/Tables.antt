@@ -50,9 +50,8 @@ votes_added old new pos host vote (Err e) is same = ap (λ (t : Votes). t.shape)
 pub kept_raised : (old new : Checkpoints) (low : ℕ) → KeepsAbove old low new → (new.shape ≡ old.shape) × (low_of new ≡ low)
 kept_raised old new low is = let st = is old.shape (low_of old) (message_of old) (own_kept old) in (st.shape_is, st.low_is)
 
-pub kept_kept : {A E : Type 0} (old new : Checkpoints) (m : Checkpoint) (r : Result A E) → OnOk r (Keeps old m new) → OnErr r (new ≡ old) → (new.shape ≡ old.shape) × (low_of new ≡ low_of old)
-kept_kept old new m (Ok u) is same = let st = is old.shape (low_of old) (message_of old) (own_kept old) in (st.shape_is, st.low_is)
-kept_kept old new m (Err e) is same = (ap (λ (t : Checkpoints). t.shape) same, ap (λ (t : Checkpoints). low_of t) same)
+pub kept_kept : (old new : Checkpoints) (m : Checkpoint) → Keeps old m new → (new.shape ≡ old.shape) × (low_of new ≡ low_of old)
+kept_kept old new m is = let st = is old.shape (low_of old) (message_of old) (own_kept old) in (st.shape_is, st.low_is)
 
 pub slot_put : {A E : Type 0} (old new : Slots) (pos : ℕ) (slot : KnownSlot) (r : Result A E) → OnOk r (WindowWith old.window pos slot new.window) → OnErr r (new ≡ old) → new.window.low ≡ old.window.low
 slot_put old new pos slot (Ok u) is same = (is old.window.low (item_at old.window) (record { low_is = refl; finds = λ p. refl })).low_is

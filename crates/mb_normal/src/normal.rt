@@ -36,12 +36,11 @@ pub struct Normal {
 }
 
 impl Normal {
-    ghost use Rattle.std.specs.Prelude.{◌≡◌, ◌≤◌, ◌<◌, ◌+◌, ◌*◌, ◌^◌, ℕ, Option, option_map, option_and_then, option_copied, is_some, IfOk, OnOk, OnErr};
+    ghost use Rattle.std.specs.Prelude.{◌≡◌, ◌≤◌, ◌<◌, ◌+◌, ◌*◌, ◌^◌, ℕ, Option, option_map, option_and_then, option_copied, is_some, IfOk, IsOk, OnOk, OnErr};
     ghost use Rattle.mb_base.specs.Shapes.{host_count, client_count, interval, span};
     ghost use Rattle.mb_base.specs.declared.shape.Shape.{Shape as ShapeValue};
     ghost use Rattle.mb_parts.specs.Fits.{FitsText};
-    ghost use Rattle.mb_msg.specs.Fits.{FitsFloorsBody};
-    ghost use Rattle.mb_msg.specs.Bodies.{FitsBody, body_digest};
+    ghost use Rattle.mb_msg.specs.Bodies.{body_digest};
     ghost use Rattle.mb_msg.specs.Spelling.{floors_body_bytes};
     ghost use Rattle.mb_checkpoints.specs.Kept.{IsKeptPlace, low_of};
     ghost use Rattle.mb_checkpoints.specs.Certificates.{agreed_above, floor_from};
@@ -152,15 +151,15 @@ impl Normal {
 
     // ---- CHECKPOINTs, and the stable position
 
-    /// Keeps a CHECKPOINT in the place of its host's kept one at that position. After `NoMemory` nothing has changed.
-    pub fn keep(&mut self, alloc: Global, checkpoint: Checkpoint) -> Result<(), NoMemory>
+    /// Keeps a CHECKPOINT in the place of its host's kept one at that position. It takes no memory, so `NoMemory` never comes.
+    pub fn keep(&mut self, checkpoint: Checkpoint) -> Result<(), NoMemory>
         requires host { checkpoint.ui.host < host_count self.old.shape }
         requires place { IsKeptPlace self.old.checkpoints checkpoint.pos }
-        requires fits { FitsBody (FitsFloorsBody self.old.shape) checkpoint.body }
-        ensures stands { OnOk result (Becomes self.old self.new (λ x. with_checkpoint x checkpoint)) }
-        ensures err { OnErr result (self.new ≡ self.old) }
+        ensures stands { Becomes self.old self.new (λ x. with_checkpoint x checkpoint) }
+        ensures ok { IsOk result }
     {
-        self.checkpoints.keep(alloc, checkpoint)
+        self.checkpoints.keep(checkpoint);
+        Ok(())
     }
 
     /// The digest of the floors of a CHECKPOINT, which is not taken again where a kept one of its position has the same floors.

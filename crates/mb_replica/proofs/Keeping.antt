@@ -122,10 +122,9 @@ module _ {V : Type 0} where
   pub keeping_writes : {E : Type 0} (result : Result (Unit {0}) E) (old mid new : ReplicaState V) → OnOk result (LearntAgreed mid new) → WritesNormal old mid → OnOk result (WritesKept old new)
   keeping_writes result old mid new l w = on_ok_weaker result (λ (a : LearntAgreed mid new). by_cert_writes old mid new w a.cert a.learnt) l
 
--- Whether memory ran out or not, the tables are those of the same stable position.
-pub keeping_left : {E : Type 0} (result : Result (Unit {0}) E) (old new : Normal) (m : Checkpoint) → OnOk result (Becomes old new (λ x. with_checkpoint x m)) → OnErr result (new ≡ old) → StandsAt (kept_low old.checkpoints) old new
-keeping_left (Ok u) old new m becomes same = left_by_call old new (λ x. with_checkpoint x m) becomes
-keeping_left (Err x) old new m becomes same = record { shape_is = ap (λ (n : Normal). n.shape) same; host_is = ap (λ (n : Normal). n.host) same; low_is = ap (λ (n : Normal). kept_low n.checkpoints) same }
+-- The tables are those of the same stable position.
+pub keeping_left : (old new : Normal) (m : Checkpoint) → Becomes old new (λ x. with_checkpoint x m) → StandsAt (kept_low old.checkpoints) old new
+keeping_left old new m becomes = left_by_call old new (λ x. with_checkpoint x m) becomes
 
 module _ {V : Type 0} (me : Identity V) where
   -- ---- the tables of positions and the certificate, however the CHECKPOINT came

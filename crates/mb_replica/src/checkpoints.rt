@@ -41,7 +41,7 @@ impl<V: Service + Drop> ReplicaState<V> {
         ensures stands { (me : Identity V) (e : Entry) (d : History) → AwaitsKeeping me self.old m e d → OnOk result (KeepingStands me self.new (e ∷ d)) }
         ensures writes { OnOk result (WritesKept self.old self.new) }
     {
-        self.protocol.normal.keep(alloc, m)?;
+        self.protocol.normal.keep(m)?;
         self.learn_agreed(alloc)
     }
 }

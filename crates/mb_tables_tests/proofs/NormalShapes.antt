@@ -54,6 +54,5 @@ pub shape_kept_or_same : {A E : Type 0} (old new : Normal) (f : Searches → Sea
 shape_kept_or_same old new f (Ok u) is same = shape_kept old new f is
 shape_kept_or_same old new f (Err e) is same = ap (λ (t : Normal). t.shape) same
 
-pub low_kept_or_same : {A E : Type 0} (old new : Normal) (f : Searches → Searches) (r : Result A E) → (f (held old)).low ≡ old.slots.window.low → OnOk r (Becomes old new f) → OnErr r (new ≡ old) → new.slots.window.low ≡ old.slots.window.low
-low_kept_or_same old new f (Ok u) at is same = (is old.shape old.host (held old) (own old)).slots.low_is ∙ at
-low_kept_or_same old new f (Err e) at is same = ap (λ (t : Normal). t.slots.window.low) same
+pub low_kept : (old new : Normal) (f : Searches → Searches) → (f (held old)).low ≡ old.slots.window.low → Becomes old new f → new.slots.window.low ≡ old.slots.window.low
+low_kept old new f at is = (is old.shape old.host (held old) (own old)).slots.low_is ∙ at

@@ -46,16 +46,9 @@ fn whole(rt: &impl Abort, alloc: Global, host: Host, pos: Pos) -> Checkpoint {
     checkpoint(host, pos, STATE, Body::Whole(floors))
 }
 
-/// Keeps a CHECKPOINT where it has a place at or above this stable position, and its fields have allowed values. Tells whether it was so.
+/// Keeps a CHECKPOINT where it has a place at or above this stable position. Tells whether it was so.
 #[tactic(auto, using(mb_normal::proofs::Tables::kept_kept))]
-fn keep(
-    rt: &impl Abort,
-    alloc: Global,
-    shape: &Shape,
-    low: Pos,
-    kept: &mut Checkpoints,
-    checkpoint: Checkpoint,
-) -> bool
+fn keep(shape: &Shape, low: Pos, kept: &mut Checkpoints, checkpoint: Checkpoint) -> bool
     requires shape { kept.old.shape ≡ shape.now }
     requires low { low_of kept.old ≡ low }
     ensures shape { kept.new.shape ≡ shape.now }
@@ -66,11 +59,10 @@ fn keep(
         || checkpoint.pos < low
         || checkpoint.pos - low > 2 * interval
         || checkpoint.ui.host >= shape.n()
-        || !checkpoint.fits(shape)
     {
         return false;
     }
-    kept.keep(alloc, checkpoint).expect(rt, "memory");
+    kept.keep(checkpoint);
     true
 }
 
@@ -128,7 +120,6 @@ fn floor_cert(rt: &impl Abort, alloc: Global, pos: Pos) -> FloorCert {
 /// A CHECKPOINT has a place and is kept.
 fn assert_keeps(
     rt: &impl Abort,
-    alloc: Global,
     shape: &Shape,
     low: Pos,
     kept: &mut Checkpoints,
@@ -139,7 +130,7 @@ fn assert_keeps(
     ensures shape { kept.new.shape ≡ shape.now }
     ensures low { low_of kept.new ≡ low }
 {
-    assert!(rt; keep(rt, alloc, shape, low, kept, checkpoint));
+    assert!(rt; keep(shape, low, kept, checkpoint));
 }
 
 fn assert_stable(rt: &impl Abort, alloc: Global, kept: &Checkpoints, stable: Option<StableCert>) {
@@ -158,27 +149,27 @@ fn two_hosts_of_three_that_agree_make_certificates(rt: HostRuntime) -> Result<()
     let shape = three_hosts(&rt);
     let mut kept = Checkpoints::make(alloc, shape)?;
     // one says another state
-    assert_keeps(&rt, alloc, &shape, 0, &mut kept, bare(0, 4, [0; 32]));
-    assert_keeps(&rt, alloc, &shape, 0, &mut kept, bare(1, 4, STATE));
+    assert_keeps(&rt, &shape, 0, &mut kept, bare(0, 4, [0; 32]));
+    assert_keeps(&rt, &shape, 0, &mut kept, bare(1, 4, STATE));
     assert_stable(&rt, alloc, &kept, None);
     // a newer one takes the place of its host's earlier one
-    assert_keeps(&rt, alloc, &shape, 0, &mut kept, bare(0, 4, STATE));
+    assert_keeps(&rt, &shape, 0, &mut kept, bare(0, 4, STATE));
     assert_stable(&rt, alloc, &kept, Some(stable_cert(&rt, alloc, 4)));
-    assert_keeps(&rt, alloc, &shape, 0, &mut kept, bare(2, 4, STATE));
+    assert_keeps(&rt, &shape, 0, &mut kept, bare(2, 4, STATE));
     assert_stable(&rt, alloc, &kept, Some(stable_cert(&rt, alloc, 4)));
     // for a floor they count whole alone
-    assert_keeps(&rt, alloc, &shape, 0, &mut kept, whole(&rt, alloc, 2, 4));
+    assert_keeps(&rt, &shape, 0, &mut kept, whole(&rt, alloc, 2, 4));
     assert_floor(&rt, alloc, &kept, None);
-    assert_keeps(&rt, alloc, &shape, 0, &mut kept, whole(&rt, alloc, 0, 4));
+    assert_keeps(&rt, &shape, 0, &mut kept, whole(&rt, alloc, 0, 4));
     assert_floor(&rt, alloc, &kept, Some(floor_cert(&rt, alloc, 4)));
     // what is stable is certified no more, but still gives a floor
     raise(&rt, &shape, 0, &mut kept, 4);
     assert_stable(&rt, alloc, &kept, None);
     assert_floor(&rt, alloc, &kept, Some(floor_cert(&rt, alloc, 4)));
     // the place of two intervals above the stable position is the last one
-    assert_keeps(&rt, alloc, &shape, 4, &mut kept, bare(0, 12, STATE));
-    assert!(rt; !keep(&rt, alloc, &shape, 4, &mut kept, bare(0, 16, STATE)));
-    assert_keeps(&rt, alloc, &shape, 4, &mut kept, bare(1, 12, STATE));
+    assert_keeps(&rt, &shape, 4, &mut kept, bare(0, 12, STATE));
+    assert!(rt; !keep(&shape, 4, &mut kept, bare(0, 16, STATE)));
+    assert_keeps(&rt, &shape, 4, &mut kept, bare(1, 12, STATE));
     assert_stable(&rt, alloc, &kept, Some(stable_cert(&rt, alloc, 12)));
     raise(&rt, &shape, 4, &mut kept, 12);
     assert_floor(&rt, alloc, &kept, None);

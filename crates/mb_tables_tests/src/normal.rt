@@ -93,8 +93,8 @@ fn order_one(rt: &impl Abort, alloc: Global, shape: &Shape, normal: &mut Normal,
 }
 
 /// Keeps a host's CHECKPOINT one interval above the stable position 0.
-#[tactic(auto, using(crate::proofs::NormalShapes::shape_kept_or_same, crate::proofs::NormalShapes::low_kept_or_same))]
-fn keep(rt: &impl Abort, alloc: Global, shape: &Shape, normal: &mut Normal, host: Host)
+#[tactic(auto, using(crate::proofs::NormalShapes::shape_kept, crate::proofs::NormalShapes::low_kept))]
+fn keep(rt: &impl Abort, shape: &Shape, normal: &mut Normal, host: Host)
     requires shape { normal.old.shape ≡ shape.now }
     requires low { normal.old.slots.window.low ≡ 0 }
     ensures shape { normal.new.shape ≡ shape.now }
@@ -111,7 +111,7 @@ fn keep(rt: &impl Abort, alloc: Global, shape: &Shape, normal: &mut Normal, host
             cert: [6; 32],
         },
     };
-    normal.keep(alloc, checkpoint).expect(rt, "memory");
+    normal.keep(checkpoint).expect(rt, "memory");
 }
 
 /// The stable position 0 becomes the next multiple of the interval.
@@ -222,9 +222,9 @@ fn two_hosts_make_a_position_stable(rt: HostRuntime) -> Result<(), Fail> {
     let alloc = rt.alloc();
     let shape = three_hosts(&rt);
     let mut normal = Normal::make(alloc, shape, 0)?;
-    keep(&rt, alloc, &shape, &mut normal, 0);
+    keep(&rt, &shape, &mut normal, 0);
     assert!(rt; stable(&rt, alloc, &normal).is_none());
-    keep(&rt, alloc, &shape, &mut normal, 2);
+    keep(&rt, &shape, &mut normal, 2);
     assert!(rt; stable(&rt, alloc, &normal) == Some((4, 2)));
     assert_no_floor(&rt, alloc, &normal);
     raise(&shape, &mut normal);

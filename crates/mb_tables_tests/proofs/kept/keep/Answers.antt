@@ -5,7 +5,7 @@ use Rattle.mb_tables_tests.proofs.Multiples.{place_above}
 use Rattle.mb_tables_tests.proofs.kept.keep.Goals as goal
 
 pub keep-requires-clause-place : goal.keep-requires-clause-place
-keep-requires-clause-place g c =
+keep-requires-clause-place c =
     let t = c.args.kept.now in
     let pos = c.args.checkpoint.pos in
     let k = c.from-interval.result in
