@@ -290,15 +290,6 @@ impl Commit {
             &self.body.batch_digest(),
         )
     }
-
-    /// What the certificate of the PREPARE that the message votes for covers.
-    pub fn named_bare(&self, alloc: Global) -> Result<Vec<u8>, NoMemory>
-        requires { FitsBody CanDigest self.now.body }
-        ensures { IfOk result (λ v. v.items ≡ bare_bytes (BarePrepare self.now.view self.now.pos (body_digest batch_bytes self.now.body))) }
-    {
-        let digest = self.body.batch_digest();
-        prepare_bare(alloc, self.view, self.pos, &digest)
-    }
 }
 
 impl Checkpoint {

@@ -27,8 +27,5 @@ pub fn starter_of(rt: &HostRuntime) -> Option<u32> {
     let Ok(word) = env::var(rt, STARTED_BY) else {
         return None;
     };
-    match word.as_str().parse::<u32>() {
-        Ok(number) => Some(number),
-        Err(_) => None,
-    }
+    word.as_str().parse::<u32>().ok()
 }
