@@ -10,9 +10,9 @@ use std::alloc::Global;
 
 /// All is done, and the answer is written.
 pub const DONE: u8 = 0;
-/// The words are no command.
+/// The words are no command, or name a host that there is not.
 pub const USAGE: u8 = 1;
-/// The schedule is too long or has a bad line, or an event cannot be.
+/// A text is too long or has a bad line, or an event of a schedule cannot be.
 pub const BAD_INPUT: u8 = 2;
 /// An event delivers what is forged.
 pub const FORGED: u8 = 3;
@@ -51,10 +51,12 @@ pub const CHILD_ENDED: u8 = 18;
 pub const USAGE_TEXT: &[u8] =
     b"usage: minbft replay | soak SEED N | node ID EVENTS [PATH] | retrace | cluster TURNS | audit H | learn | journal ID PATH\n";
 
-/// A status, and what is written with it.
+/// The answer to a text.
 #[derive(Drop)]
 pub struct Output {
+    /// The exit status.
     pub status: u8,
+    /// What is written with it.
     pub text: Vec<u8>,
 }
 

@@ -64,7 +64,7 @@ spawned starts waits = record { starts = starts; waits = waits }
 abbrev pub spawned_by : SpawnerState → Spawned
 spawned_by s = spawned s.starts s.waits
 
--- the node of each host was started, in order, as these children
+-- the nodes of the first so many hosts were started, in order, as these children
 pub record AreStarted (c : Config) (count : ℕ) (children : List ℕ) (old new : Option (List (ℕ × Start))) : Type 0 where
   pub each : length children ≡ count
   pub starts : new ≡ with_more old (zip children (node_starts c count))

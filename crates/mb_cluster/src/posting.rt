@@ -16,7 +16,7 @@ use mb_msg::{Message, encode};
 use std::alloc::Global;
 
 /// The client program as a peer.
-pub const PROGRAM: u8 = 255;
+pub(crate) const PROGRAM: u8 = 255;
 
 /// What messages are sent with: how many hosts there are, and the number of the next message.
 #[derive(Clone, Copy)]
@@ -50,7 +50,7 @@ impl Post {
         Ok(())
     }
 
-    /// The number of the next message, which is taken by it.
+    /// Takes the number of the next message.
     pub(crate) fn take_number(&mut self) -> u32
         ensures number { result ≡ self.old.number }
         ensures next { self.new.number ≡ next_number self.old.number }

@@ -6,7 +6,7 @@ ghost use Rattle.mb_cluster.specs.Stops.{link_stop, spawn_stop};
 
 use mb_base::{Host, NoMemory, Seq};
 use mb_edge::{Failed, WriteStop};
-use std::alloc::{AllocError, AllocFailed};
+use std::alloc::AllocError;
 use thiserror::Error;
 
 /// Why a run stopped before all was well.
@@ -24,7 +24,9 @@ pub enum ClusterStop {
     /// A node ended with a status other than 0. No node of a lower host did.
     #[error("the node of host {host} ended with status {status}")]
     ChildEnded {
+        /// The lowest host whose node did.
         host: Host,
+        /// That node's status.
         status: u8,
     },
     /// The receives for an operation brought no result.
@@ -52,14 +54,6 @@ impl From<AllocError> for ClusterStop {
     ghost from_gives = { λ _ e. e ≡ stop.NoMemory };
 
     fn from(_e: AllocError) -> ClusterStop {
-        ClusterStop::NoMemory
-    }
-}
-
-impl<T: Drop> From<AllocFailed<T>> for ClusterStop {
-    ghost from_gives = { λ _ e. e ≡ stop.NoMemory };
-
-    fn from(_e: AllocFailed<T>) -> ClusterStop {
         ClusterStop::NoMemory
     }
 }

@@ -1,7 +1,6 @@
 //! Making a journal, and opening it.
 
 ghost use Rattle.std.specs.Prelude.{◌≡◌, ◌≢◌, ◌⊎◌, ◌+◌, ◌<◌, ℕ, [], false, length, IfOk, OnOk, Err, IsErrOf};
-ghost use Rattle.mb_base.specs.Shapes.{host_count};
 ghost use Rattle.mb_edge.specs.Faults.{TellsFaults};
 ghost use Rattle.mb_edge.specs.Disks.{WhereTold, LeavesOnly, IsImage, settled};
 ghost use Rattle.mb_journal.specs.Files.{contents_of, Holds};
@@ -59,7 +58,9 @@ impl From<NoMemory> for MakeStop {
 /// A journal that was opened, and the events that it holds.
 #[derive(Drop)]
 pub struct Opened {
+    /// The journal, at rest.
     pub journal: Journal,
+    /// Its events, oldest first.
     pub events: Vec<Event>,
 }
 
@@ -73,7 +74,6 @@ impl Journal {
         config: &Config,
         id: Host,
     ) -> Result<(), MakeStop>
-        requires { id < host_count config.now.shape }
         ensures exists { (len : ℕ) → IsErrOf result (MakeStop.Exists len) → (len ≢ 0) × WhereTold (D.seen disk.old).moments (λ old. len ≡ length old.now.reads) }
         ensures kept { (len : ℕ) → IsErrOf result (MakeStop.Exists len) → (D.seen disk.new).moments ≡ (D.seen disk.old).moments }
         ensures empty { OnOk result (WhereTold (D.seen disk.old).moments (λ old. old.now.reads ≡ [])) }
@@ -108,7 +108,6 @@ impl Journal {
         id: Host,
         limit: u64,
     ) -> Result<Opened, OpenStop>
-        requires { id < host_count config.now.shape }
         ensures journal { IfOk result (λ opened. opened.journal ≡ record { header = header_text config.now id; end = opened.journal.end; limit = limit; halted = false }) }
         ensures events { IfOk result (λ opened. WhereTold (D.seen disk.old).moments (λ old. Holds (header_text config.now id) opened.events.items old.now.reads)) }
         ensures bad { (at : ℕ) → IsErrOf result (OpenStop.BadJournal at) → WhereTold (D.seen disk.old).moments (λ old. contents_of (header_text config.now id) old.now.reads ≡ Err at) }

@@ -20,8 +20,11 @@ pub enum LearnStop {
     Halted,
     /// At the lowest such position f+1 hosts say that their states have another digest than the learner's.
     Differs {
+        /// The position.
         pos: Pos,
+        /// The learner's digest there.
         found: Digest,
+        /// The digest that f+1 hosts say.
         certified: Digest,
     },
     /// Memory ran out.

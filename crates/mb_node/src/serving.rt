@@ -59,12 +59,12 @@ pub fn serve_kept<V: Service + Drop, K: Sink, L: Link, D: Disk>(
     disk: &mut D,
     link: &mut L,
     out: &mut K,
-    events: u64,
+    receives: u64,
 ) -> Result<(), ServeStop>
     requires runs { replica.old.halted ≡ false }
     requires rests { IsAtRest V.machine replica.old }
     requires keeps { journal.old.halted ≡ false }
-    ensures serves { ServesAndKeeps V.machine replica.old replica.new journal.old journal.new events (D.seen disk.old) (D.seen disk.new) (L.seen link.old) (L.seen link.new) (K.seen out.old) (K.seen out.new) result }
+    ensures serves { ServesAndKeeps V.machine replica.old replica.new journal.old journal.new receives (D.seen disk.old) (D.seen disk.new) (L.seen link.old) (L.seen link.new) (K.seen out.old) (K.seen out.new) result }
     ensures rests { replica.new.halted ≡ false → IsAtRest V.machine replica.new }
     ensures opens { (L.seen link.new).opens ≡ (L.seen link.old).opens }
     ensures link { TellsFaults (L.never_fails link.old) (L.never_fails link.new) (L.seen link.old).faults (L.seen link.new).faults (IsErrOf result ServeStop.LinkFault) }
@@ -72,10 +72,10 @@ pub fn serve_kept<V: Service + Drop, K: Sink, L: Link, D: Disk>(
     ensures disk { TellsFaults (D.never_fails disk.old) (D.never_fails disk.new) (D.seen disk.old).faults (D.seen disk.new).faults (IsErrOf result ServeStop.DiskFault) }
 {
     let mut node = Node::make(alloc, replica.shape(), replica.host())?;
-    for _ in 0..events {
+    for _ in 0..receives {
         if node.kept_round(alloc, replica, journal, disk, link, out)? {
             return Ok(());
         }
     }
-    Err(ServeStop::Budget { events })
+    Err(ServeStop::Budget { events: receives })
 }

@@ -4,7 +4,6 @@ ghost use Rattle.std.specs.Prelude.{◌≡◌};
 
 use mb_base::NoMemory;
 use mb_edge::{Failed, WriteStop};
-use std::alloc::{AllocError, AllocFailed};
 
 /// Why serving ended with no STOP.
 #[derive(Clone, Copy, Debug, PartialEq, Eq, thiserror::Error)]
@@ -27,7 +26,7 @@ pub enum ServeStop {
     /// The journal would become longer than it may. The end of its records is told.
     #[error("the journal ends at {length} and has no room for the next event")]
     Full {
-        /// How many bytes the journal has.
+        /// Where its records end, in bytes from the beginning of the file.
         length: u64,
     },
     /// Memory ran out.
@@ -41,26 +40,6 @@ impl From<NoMemory> for ServeStop {
     ghost from_gives = { λ _ e. e ≡ stop.NoMemory };
 
     fn from(_e: NoMemory) -> ServeStop {
-        ServeStop::NoMemory
-    }
-}
-
-impl From<AllocError> for ServeStop {
-    ghost use Rattle.mb_node.specs.declared.stops.ServeStop.TheVariants as stop;
-
-    ghost from_gives = { λ _ e. e ≡ stop.NoMemory };
-
-    fn from(_e: AllocError) -> ServeStop {
-        ServeStop::NoMemory
-    }
-}
-
-impl<T: Drop> From<AllocFailed<T>> for ServeStop {
-    ghost use Rattle.mb_node.specs.declared.stops.ServeStop.TheVariants as stop;
-
-    ghost from_gives = { λ _ e. e ≡ stop.NoMemory };
-
-    fn from(_e: AllocFailed<T>) -> ServeStop {
         ServeStop::NoMemory
     }
 }

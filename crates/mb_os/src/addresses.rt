@@ -1,6 +1,6 @@
 //! The addresses of peers.
 
-ghost use Rattle.std.specs.Prelude.{◌≡◌, ◌<◌, ◌+◌, ◌^◌, IfOk, IfSome, IsSome};
+ghost use Rattle.std.specs.Prelude.{◌≡◌, ◌<◌, ◌+◌, ◌^◌, IfOk, IsOk, IfSome, IsSome};
 ghost use Rattle.mb_os.specs.Addresses.{above, IsHere};
 
 use std::io;
@@ -34,9 +34,10 @@ fn address(port: u16, peer: u8) -> Option<SocketAddr>
     Some(SocketAddr::V4(SocketAddrV4::new(here, port)))
 }
 
-/// The address of a peer, or that no port is that high.
+/// The address of a peer. The error comes exactly where no port is that high.
 pub(crate) fn known_address(port: u16, peer: u8) -> io::Result<SocketAddr>
-    ensures { IfOk result (λ a. IsHere a (port + above peer)) }
+    ensures here { IfOk result (λ a. IsHere a (port + above peer)) }
+    ensures ok { port + above peer < 2 ^ 16 → IsOk result }
 {
     match address(port, peer) {
         Some(address) => Ok(address),

@@ -47,7 +47,7 @@ audit_findings = 0 ∷ 3 ∷ 12 ∷ 13 ∷ []
 abbrev pub audit_statuses : List ℕ
 audit_statuses = 0 ∷ 1 ∷ 2 ∷ 3 ∷ 4 ∷ 5 ∷ 6 ∷ 12 ∷ 13 ∷ []
 
--- ... it is written, or the text could not be read
+-- what the word does with a text: the answer to it is written, or the text could not be read
 abbrev pub Audits : Bytes → ℕ → ℕ → Device → Device → Device → Device → Type 0
 Audits text host status source source' sink sink' = Responds (AnswersText (AnswersAudit host) text) status source source' sink sink'
 

@@ -103,7 +103,7 @@ learn_findings = 0 ∷ 10 ∷ []
 abbrev pub learn_statuses : List ℕ
 learn_statuses = 0 ∷ 2 ∷ 4 ∷ 5 ∷ 6 ∷ 10 ∷ []
 
--- ... it is written, or the text could not be read
+-- what the word does with a text: the answer to it is written, or the text could not be read
 abbrev pub LearnsFrom : Bytes → ℕ → Device → Device → Device → Device → Type 0
 LearnsFrom text status source source' sink sink' = Responds (AnswersText AnswersLearn text) status source source' sink sink'
 

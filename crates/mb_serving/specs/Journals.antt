@@ -42,7 +42,7 @@ use Rattle.mb_serving.specs.declared.journals.TheConstants.{JOURNAL_LIMIT}
 -- ---- a journal is made
 
 module _ (c : Config) (host : ℕ) where
-  -- A file with bytes stays as it is. In one without a crash meanwhile leaves no journal, or one without events.
+  -- A file with bytes stays as it is. Of one without bytes, a crash meanwhile leaves no journal, or one without events.
   pub record SparesFile (before after : DiskState) : Type 0 where
     pub there : WhereTold before.moments (λ old. old.now.reads ≢ [] → after.moments ≡ before.moments)
     pub empty : WhereTold before.moments (λ old. old.now ≡ settled [] → LeavesOnly (SaysNothing (header_text c host)) old after.moments)

@@ -52,7 +52,7 @@ AnswersRecordText = AnswersText AnswersRecord
 abbrev pub retrace_statuses : List ℕ
 retrace_statuses = 0 ∷ 2 ∷ 4 ∷ 5 ∷ 6 ∷ 10 ∷ []
 
--- ... it is written, or the text could not be read
+-- what the word does with a text: the answer to it is written, or the text could not be read
 abbrev pub Retraces : Bytes → ℕ → Device → Device → Device → Device → Type 0
 Retraces text status source source' sink sink' = Responds (AnswersRecordText text) status source source' sink sink'
 

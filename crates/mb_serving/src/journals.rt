@@ -33,7 +33,7 @@ use mb_sched::{Config, Entry, print_entry};
 use std::alloc::Global;
 
 /// The most bytes that a node's journal may have.
-pub const JOURNAL_LIMIT: u64 = 268_435_456;
+const JOURNAL_LIMIT: u64 = 268_435_456;
 
 /// Makes the journal of a host in the file of a path.
 fn make_in<D: Disk>(
@@ -43,7 +43,6 @@ fn make_in<D: Disk>(
     path: &str,
     disk: &mut D,
 ) -> Result<(), MakeStop>
-    requires { host < host_count config.now.shape }
     ensures made { IsMade config.now host result (D.seen disk.old) (D.seen disk.new) }
     ensures crash { SparesFile config.now host (D.seen disk.old) (D.seen disk.new) }
     ensures disk { TellsFaults (D.never_fails disk.old) (D.never_fails disk.new) (D.seen disk.old).faults (D.seen disk.new).faults (IsErrOf result MakeStop.DiskFault) }
@@ -110,7 +109,6 @@ fn open_in<D: Disk>(
     path: &str,
     disk: &mut D,
 ) -> Result<Opened, OpenStop>
-    requires { host < host_count config.now.shape }
     ensures opened { IsOpened config.now host result (D.seen disk.old) (D.seen disk.new) }
     ensures runs { IfOk result (λ opened. opened.journal.halted ≡ false) }
     ensures disk { TellsFaults (D.never_fails disk.old) (D.never_fails disk.new) (D.seen disk.old).faults (D.seen disk.new).faults (IsErrOf result OpenStop.DiskFault) }

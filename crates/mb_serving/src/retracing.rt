@@ -9,12 +9,12 @@ ghost use Rattle.mb_sched.specs.Records.{max_record};
 ghost use Rattle.mb_answer.specs.Devices.{IsLow};
 ghost use Rattle.mb_serving.specs.Records.{AnswersRecord, AnswersRecordText, Retraces, same_text, differs_text, retrace_statuses};
 
-use mb_answer::{DIFFERS, DONE, Output, bad_line, respond, tell_unread, too_long};
+use mb_answer::{DIFFERS, DONE, Output, refusal, respond, tell_unread};
 use mb_base::{Digest, NoMemory};
 use mb_edge::{Sink, Source, read_all};
 use mb_kv::Kv;
 use mb_node::RetraceStop;
-use mb_sched::{BadText, MAX_RECORD, Record, parse_record};
+use mb_sched::{MAX_RECORD, Record, parse_record};
 use std::alloc::Global;
 
 /// Each of so many entries is that of the host's own step.
@@ -65,9 +65,7 @@ fn answer_to_record(alloc: Global, text: &[u8]) -> Result<Output, NoMemory>
 {
     match parse_record(alloc, text) {
         Ok(record) => answer_record(alloc, &record),
-        Err(BadText::TooLong) => too_long(alloc),
-        Err(BadText::BadLine { number }) => bad_line(alloc, u64::from(number)),
-        Err(BadText::NoMemory) => Err(NoMemory),
+        Err(fault) => refusal(alloc, fault),
     }
 }
 

@@ -1,22 +1,33 @@
 -- What a status says of the text of a schedule, and which status has to come.
 use Rattle.std.proofs.Common.{◌≡◌, ℕ, ◌-◌, ◌<◌, length, refl, sym, subst, ◌∙◌, arith, ◌⊎◌, inl, inr, Option}
-use Rattle.std.specs.Prelude.{Contains}
+use Rattle.std.specs.Prelude.{Contains, Err}
 use Rattle.std.specs.Io.KnownBytes.{Appends}
 use Rattle.std.proofs.lemmas.Option.{slice_get_within}
 use Rattle.mb_base.specs.Shapes.{Bytes}
 use Rattle.mb_edge.specs.Faults.{Rose}
 use Rattle.mb_schedule.specs.declared.schedule.Schedule.{Schedule}
-use Rattle.mb_sched.specs.Schedules.{IsScheduleText}
+use Rattle.mb_sched.specs.declared.bad_text.BadText.{BadText}
+use Rattle.mb_sched.specs.declared.bad_text.BadText.TheVariants as fault
+use Rattle.mb_sched.specs.Schedules.{IsScheduleText, Parses}
 use Rattle.mb_world_model.specs.Stops.{WorldStop}
 use Rattle.mb_top.specs.Runs.{AreUnstopped, IsFirstStopped}
 use Rattle.mb_top.specs.Answers.{IsForgedText, certificate, tag, AnswersSchedule, bad_event, forged, replayed, Answers, too_long, bad_line, right}
 use Rattle.mb_edge.specs.Seen.{Device}
+use Rattle.mb_answer.specs.Refusals.{IsRefusal}
 use Rattle.mb_answer.specs.Devices.{Says, said, failed, cut_short, IsToldBy, answered, unread, starved}
 use Rattle.mb_top.specs.Responses.{Replays}
 use Rattle.mb_top.specs.Doings.{replay_statuses}
 use Rattle.mb_top.specs.Outcomes.{ReportsOn, TellsForged, IsComplete}
 use Rattle.mb_answer.proofs.Statuses.{said_completes}
 use Rattle.mb_top.proofs.OneSchedule.{same_schedule}
+
+-- ---- no schedule
+
+-- What is answered to a text that says nothing is an answer to a text.
+pub refuses_schedule : (text : Bytes) (found : BadText) (status : ℕ) (out : Bytes) → Parses (Err found) text → IsRefusal found status out → Answers text status out
+refuses_schedule text fault.TooLong status out bad is = too_long bad is.0 is.1
+refuses_schedule text (fault.BadLine n) status out bad is = bad_line n bad.0 bad.1 is.0 is.1
+refuses_schedule text fault.NoMemory status out bad is = absurd is
 
 -- ---- where an answer was written
 

@@ -1,6 +1,6 @@
 //! What the words of a command ask for.
 
-ghost use Rattle.std.specs.Prelude.{◌≡◌, [], ◌∷◌, map, string_bytes, IfSome};
+ghost use Rattle.std.specs.Prelude.{◌≡◌, ◌-◌, [], ◌∷◌, length, map, slice_get, string_bytes, IfSome};
 ghost use Rattle.mb_top.specs.Commands.{command_of, soak_of, node_of, kept_node_of, journal_of, cluster_of, audit_of, with_path_of, IsWithin};
 
 use mb_base::Shape;
@@ -163,7 +163,9 @@ pub(crate) fn command_in(words: &[String]) -> Option<Command>
 }
 
 /// The path of a journal: the last word.
-pub(crate) fn path_in(words: &[String]) -> &str {
+pub(crate) fn path_in(words: &[String]) -> &str
+    ensures { IfSome (slice_get words.now (length words.now - 1)) (λ word. result.now ≡ string_bytes word) }
+{
     match words.last() {
         Some(path) => path.as_str(),
         None => "",

@@ -1,4 +1,4 @@
-//! The whole program, over any source, sink, link and spawner: what the words ask for, and the answer to what the source has.
+//! The whole program, over any source, sink, link, spawner and disk: what the words ask for, and the answer to what the source has.
 //!
 //! | Module | What it does |
 //! |---|---|

@@ -18,7 +18,7 @@ ghost use Rattle.mb_top.specs.Answers.{AnswersSchedule, Answers};
 ghost use Rattle.mb_top.specs.Responses.{Replays};
 ghost use Rattle.mb_top.specs.Doings.{replay_statuses};
 
-use mb_answer::{DONE, Output, bad_line, forged, forged_tag, respond, tell_unread, too_long};
+use mb_answer::{DONE, Output, bad_line, forged, forged_tag, refusal, respond, tell_unread};
 use mb_base::{Counter, Host, NoMemory};
 use mb_edge::{Sink, Source, read_all};
 use mb_kv::Kv;
@@ -187,9 +187,7 @@ fn answer_to(alloc: Global, text: Vec<u8>) -> Result<Output, NoMemory>
 {
     match schedule_of(alloc, text) {
         Ok(schedule) => answer_schedule(alloc, schedule),
-        Err(BadText::TooLong) => too_long(alloc),
-        Err(BadText::BadLine { number }) => bad_line(alloc, u64::from(number)),
-        Err(BadText::NoMemory) => Err(NoMemory),
+        Err(fault) => refusal(alloc, fault),
     }
 }
 

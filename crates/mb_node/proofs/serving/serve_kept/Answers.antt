@@ -12,7 +12,7 @@ use Rattle.mb_node.proofs.serving.serve_kept.Goals as goal
 pub returns-in_err-node-clause-serves : goal.returns-in_err-node-clause-serves
 returns-in_err-node-clause-serves g c =
     let p = err_from_is_err_and c.from_residual.result c.from_residual.ensures.1 in
-    rw (p.1, p.2) (kept_unbegun _ _ _ _ _ _ c.requires.keeps c.args.events)
+    rw (p.1, p.2) (kept_unbegun _ _ _ _ _ _ c.requires.keeps c.args.receives)
 
 pub loop-init : goal.loop-init
 loop-init g c =
@@ -40,7 +40,7 @@ returns-in_err-kept_round-clause-serves g c =
     let p = err_from_is_err_and c.from_residual-in_err-kept_round.result c.from_residual-in_err-kept_round.ensures.1 in
     let stopped = kept_stopped _ c.loop.node c.kept_round.new.self c.loop.replica c.kept_round.new.replica _ _ _ _ _ _ _ _ c.in_err-kept_round.field-0.0 c.in_err-kept_round.ensures.rounds in
     rw (p.1, p.2) (kept_until _ c.args.replica.now _ _ _ _ c.loop.replica c.kept_round.new.replica _ _ _ _ _ _ _ _ c.loop.node c.kept_round.new.self c.loop.counter c.loop.invariant.so_far c.loop.invariant.keeps
-    c.args.events c.in_err-kept_round.field-0.0 stopped.0 (omega (arith, c.loop-test.true)) stopped.1)
+    c.args.receives c.in_err-kept_round.field-0.0 stopped.0 (omega (arith, c.loop-test.true)) stopped.1)
 
 pub returns-then-branch-clause-serves : goal.returns-then-branch-clause-serves
 returns-then-branch-clause-serves g c =
@@ -48,7 +48,7 @@ returns-then-branch-clause-serves g c =
     let on = subst (λ (b : Bool). KeepsOn v.machine c.loop.node c.kept_round.new.self c.loop.replica c.kept_round.new.replica c.loop.journal c.kept_round.new.journal (g.D.Disk.seen c.loop.disk).moments (g.D.Disk.seen c.kept_round.new.disk).moments
     (g.L.Link.seen c.loop.link).received (g.L.Link.seen c.kept_round.new.link).received
     (record { written = (g.K.Sink.seen c.loop.out).bytes; sent = (g.L.Link.seen c.loop.link).sent }) (record { written = (g.K.Sink.seen c.kept_round.new.out).bytes; sent = (g.L.Link.seen c.kept_round.new.link).sent }) b) c.if-branch.true c.in_ok-kept_round.ensures.rounds in
-    kept_to_stop _ c.args.replica.now _ _ _ _ c.loop.replica c.kept_round.new.replica _ _ _ _ _ _ _ _ c.loop.node c.kept_round.new.self c.loop.counter c.loop.invariant.so_far c.loop.invariant.keeps c.args.events (omega (arith, c.loop-test.true)) c.in_ok-kept_round.ensures.keeps on
+    kept_to_stop _ c.args.replica.now _ _ _ _ c.loop.replica c.kept_round.new.replica _ _ _ _ _ _ _ _ c.loop.node c.kept_round.new.self c.loop.counter c.loop.invariant.so_far c.loop.invariant.keeps c.args.receives (omega (arith, c.loop-test.true)) c.in_ok-kept_round.ensures.keeps on
 
 pub loop-preserved : goal.loop-preserved
 loop-preserved g c =
@@ -72,7 +72,7 @@ loop-preserved g c =
 pub returns-clause-serves : goal.returns-clause-serves
 returns-clause-serves g c =
     let v = g.V.Service in
-    let all : c.loop.counter ≡ c.args.events = omega (arith, c.loop-test.false, c.loop.auto.counter-end) in
-    kept_by_budget _ c.args.replica.now _ _ _ _ c.loop.replica _ _ _ _ c.loop.node c.args.events c.loop.invariant.keeps
+    let all : c.loop.counter ≡ c.args.receives = omega (arith, c.loop-test.false, c.loop.auto.counter-end) in
+    kept_by_budget _ c.args.replica.now _ _ _ _ c.loop.replica _ _ _ _ c.loop.node c.args.receives c.loop.invariant.keeps
     (subst (λ (n : ℕ). KeptSoFar v.machine c.args.replica.now c.args.journal.now (g.D.Disk.seen c.args.disk.now).moments (g.L.Link.seen c.args.link.now).received (record { written = (g.K.Sink.seen c.args.out.now).bytes; sent = (g.L.Link.seen c.args.link.now).sent })
     c.loop.replica c.loop.journal (g.D.Disk.seen c.loop.disk).moments (g.L.Link.seen c.loop.link).received (record { written = (g.K.Sink.seen c.loop.out).bytes; sent = (g.L.Link.seen c.loop.link).sent }) c.loop.node n) all c.loop.invariant.so_far)
