@@ -47,7 +47,6 @@ fn whole(rt: &impl Abort, alloc: Global, host: Host, pos: Pos) -> Checkpoint {
 }
 
 /// Keeps a CHECKPOINT where it has a place at or above this stable position. Tells whether it was so.
-#[tactic(auto, using(mb_normal::proofs::Tables::kept_kept))]
 fn keep(shape: &Shape, low: Pos, kept: &mut Checkpoints, checkpoint: Checkpoint) -> bool
     requires shape { kept.old.shape ≡ shape.now }
     requires low { low_of kept.old ≡ low }
