@@ -10,7 +10,7 @@ use std::alloc::Global;
 
 /// All is done, and the answer is written.
 pub const DONE: u8 = 0;
-/// The words are no command, or name a host that there is not.
+/// The words are no command, or name no host of the system.
 pub const USAGE: u8 = 1;
 /// A text is too long or has a bad line, or an event of a schedule cannot be.
 pub const BAD_INPUT: u8 = 2;
@@ -71,7 +71,7 @@ pub fn usage(alloc: Global) -> Result<Output, NoMemory>
 }
 
 /// The source has more bytes than the longest text.
-pub fn too_long(alloc: Global) -> Result<Output, NoMemory>
+pub(crate) fn too_long(alloc: Global) -> Result<Output, NoMemory>
     ensures { IfOk result (λ a. (a.status ≡ 2) × (a.text.items ≡ too_long_text)) }
 {
     Ok(Output {

@@ -17,7 +17,7 @@ pub use answer::{
     BAD_INPUT, BAD_JOURNAL, BUDGET, CHILD_ENDED, DIFFERS, DISK_FAULT, DONE, DOUBLE, FORGED, GAP,
     ILLEGAL, JOURNAL_EXISTS, JOURNAL_FULL, LINK_FAULT, NO_MEMORY, Output, SINK_FAULT, SOURCE_FAULT,
     SPAWN_FAULT, USAGE, USAGE_TEXT, bad_journal, bad_line, forged, forged_tag, journal_exists,
-    refusal, too_long, usage,
+    refusal, usage,
 };
 pub use configs::{cluster, config_from};
 pub use saying::{respond, say, tell_unread};

@@ -1,10 +1,10 @@
 -- What reading and opening a journal answer.
-use Rattle.std.specs.Prelude.{◌≡◌, ◌≢◌, ◌⊎◌, ℕ, ◌+◌, ◌<◌, ◌==◌, if◌then◌else◌, List, [], ◌∷◌, ◌++◌, length, get_or, take, drop, None, Result, Ok, Err}
+use Rattle.std.specs.Prelude.{◌≡◌, ◌≢◌, ◌⊎◌, ℕ, ◌+◌, ◌<◌, ◌==◌, if◌then◌else◌, List, [], ◌∷◌, ◌++◌, length, get_or, take, drop, Option, None, Result, Ok, Err}
 use Rattle.std.specs.List.{AllByRecursion}
 use Rattle.mb_base.specs.Shapes.{Bytes}
 use Rattle.mb_edge.specs.declared.outside.Failed.{Failed}
 use Rattle.mb_edge.specs.declared.outside.Failed.TheVariants as causes
-use Rattle.mb_edge.specs.Disks.{overwritten}
+use Rattle.mb_edge.specs.Disks.{Moments, IsImage, LeavesOnly, overwritten}
 use Rattle.mb_msg.specs.declared.event.Event.{Event}
 use Rattle.mb_journal.specs.declared.opening.Found.{Found}
 use Rattle.mb_journal.specs.declared.opening.OpenStop.{OpenStop}
@@ -61,6 +61,10 @@ IsTouched header file image = (image ≡ file) ⊎ ((found : Contents) × (conte
 pub record StaysWhole (header file image : Bytes) : Type 0 where
   pub touched : IsTouched header file image
   pub keeps : KeepsEvents header file image
+
+-- A crash leaves a file as before, or one that is whole: no journal of this host as it reads, and of a journal its events.
+abbrev pub KeepsFile : Bytes → Moments → Option Moments → Type 0
+KeepsFile header old new = LeavesOnly (λ image. IsImage old.now image ⊎ StaysWhole header old.now.reads image) old new
 
 -- a gate is shut where it isn't
 abbrev pub shut_at : ℕ → ℕ → Bytes → Bytes

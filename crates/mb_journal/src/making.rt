@@ -1,11 +1,11 @@
 //! Making a journal, and opening it.
 
-ghost use Rattle.std.specs.Prelude.{◌≡◌, ◌≢◌, ◌⊎◌, ◌+◌, ◌<◌, ℕ, [], false, length, IfOk, OnOk, Err, IsErrOf};
+ghost use Rattle.std.specs.Prelude.{◌≡◌, ◌≢◌, ◌⊎◌, ◌+◌, ℕ, [], false, length, IfOk, OnOk, Err, IsErrOf};
 ghost use Rattle.mb_edge.specs.Faults.{TellsFaults};
-ghost use Rattle.mb_edge.specs.Disks.{WhereTold, LeavesOnly, IsImage, settled};
+ghost use Rattle.mb_edge.specs.Disks.{WhereTold, LeavesOnly, settled};
 ghost use Rattle.mb_journal.specs.Files.{contents_of, Holds};
 ghost use Rattle.mb_journal.specs.Keeping.{RestsAt, IsAtRest};
-ghost use Rattle.mb_journal.specs.Opening.{StaysWhole};
+ghost use Rattle.mb_journal.specs.Opening.{KeepsFile};
 ghost use Rattle.mb_journal.specs.Making.{SaysNothing};
 ghost use Rattle.mb_journal.specs.Headers.{header_text};
 
@@ -115,7 +115,7 @@ impl Journal {
 
         // A crash at any moment leaves what one before might have left, or a file that is whole: one that is no journal of this host as it reads, and of one
         // that is its events.
-        ensures any_moment { WhereTold (D.seen disk.old).moments (λ old. LeavesOnly (λ image. IsImage old.now image ⊎ StaysWhole (header_text config.now id) old.now.reads image) old (D.seen disk.new).moments) }
+        ensures any_moment { WhereTold (D.seen disk.old).moments (λ old. KeepsFile (header_text config.now id) old (D.seen disk.new).moments) }
 
         ensures faults { TellsFaults (D.never_fails disk.old) (D.never_fails disk.new) (D.seen disk.old).faults (D.seen disk.new).faults (IsErrOf result OpenStop.DiskFault) }
     {

@@ -1,7 +1,7 @@
 //! The whole program over what the system has: standard input and standard output, sockets of this machine, programs that it starts, and a file.
 #![tactic(auto)]
 
-ghost use Rattle.std.specs.Prelude.{◌≡◌, ℕ, ◌≤◌, ◌<◌, length, Contains, IfSome};
+ghost use Rattle.std.specs.Prelude.{◌≡◌, ℕ, ◌≤◌, length, Contains, IfSome};
 ghost use Rattle.std.specs.Io.KnownBytes.{IsAtEnd};
 ghost use Rattle.mb_edge.specs.Faults.{TellsFaults};
 ghost use Rattle.mb_edge.specs.Pieces.{ConsumesBetween};
@@ -12,16 +12,15 @@ ghost use Rattle.mb_top.specs.Outcomes.{ReportsOn, TellsForged, WithSchedule, Wi
 ghost use Rattle.mb_top.specs.Soaks.{soak_of};
 ghost use Rattle.mb_top.specs.Blames.{ConvictsRightly, TellsDisorder};
 ghost use Rattle.mb_top.specs.Histories.{LearnsTheLine};
+ghost use Rattle.mb_program.specs.Obeying.{Obeys};
 
+use mb_answer::NO_MEMORY;
 use mb_edge::{Sink, Source};
 use mb_os::{ChildSpawner, FileDisk, StdSink, StdSource, UdpLink, own_path, starter_of, words_of};
 use mb_top::minbft;
 use std::io::ErrorKind;
 use std::process;
 use std::process::ExitCode;
-
-/// The exit status where memory ran out before the words were had.
-const NO_MEMORY: u8 = 4;
 
 /// What the nodes of the largest cluster record.
 const RECORDS: [&str; 7] = [
@@ -37,26 +36,31 @@ const RECORDS: [&str; 7] = [
 /// Does what the words ask for, and answers the status. It reads from the source and writes to the sink. Nodes are started by the program's own path, and
 /// only where none of their records is there yet; one that was started so ends with the program that started it.
 ///
-/// All that `minbft` of `mb_top` promises of words, source and sink alone holds here too.
+/// Those clauses of `minbft` of `mb_top` that name words, source and sink alone hold here too; what is done with the devices is told of some link and spawner.
 pub fn obey<S: Source, K: Sink>(
     rt: &HostRuntime,
     words: &[String],
     source: &mut S,
     sink: &mut K,
 ) -> u8
+    // What the words ask for is done, and where no device fails it comes to one of its ends, unless memory runs out.
+    ensures obeys { Obeys (asked words.now) result (S.seen source.old) (S.seen source.new) (K.seen sink.old) (K.seen sink.new) }
     // Each command has its statuses.
     ensures statuses { Contains (statuses (asked words.now)) result }
     // At status 0 of the word `replay` the report behind all events of the schedule was written.
     ensures report { Asks words.now command.Replay → result ≡ 0
         → IsAtEnd (S.seen source.new).bytes × IfSome (S.seen source.old).bytes (λ text. ReportsOn text (K.seen sink.old).bytes (K.seen sink.new).bytes) }
-    // Behind each event of a schedule or of a soak all that is promised holds, whoever of f hosts is faulty: at status 0, whatever the status, and up to
-    // the first event that delivers what is forged.
+    // Whichever hosts are faulty, at most f, and where no two of the strings that were hashed so far share a digest: all that is promised holds behind each
+    // event of a schedule at status 0; behind events none of which something stood in the way of, whatever the status; at status 3 before the first event that
+    // delivers what is forged, which was told; and behind each event of a soak at status 0.
     ensures history { Asks words.now command.Replay → result ≡ 0 → WithSchedule (S.seen source.old).bytes (λ s. HoldsWhere (λ k. k ≤ length s.events) s) }
     ensures history_so_far { Asks words.now command.Replay → WithSchedule (S.seen source.old).bytes HoldsSoFar }
     ensures forged { Asks words.now command.Replay → result ≡ 3 → IfSome (S.seen source.old).bytes (λ text. TellsForged text (K.seen sink.old).bytes (K.seen sink.new).bytes) }
     ensures history_before { Asks words.now command.Replay → result ≡ 3 → HoldsBeforeForged (S.seen source.old).bytes }
     ensures soak_history { (seed n : ℕ) → Asks words.now (command.Soak seed n) → result ≡ 0 → HoldsWhere (λ k. k ≤ n) (soak_of seed n) }
-    // An audit convicts faulty hosts alone, and tells where their stamps are no list in order; what is learnt of a record is the world's one history.
+    // Where the record says what a correct host was given in a world in which nothing was forged: an audit convicts faulty hosts alone, and with at
+    // most f of them and no two strings of one digest, what is learnt is the world's one history. Whatever was forged, the stamps of a host that an audit
+    // convicts are no list in order, up to a counter that is told.
     ensures audit_blame { (host : ℕ) → Asks words.now (command.Audit host) → WithRecord (S.seen source.old).bytes (λ r. ConvictsRightly host result r) }
     ensures audit_disorder { (host : ℕ) → Asks words.now (command.Audit host) → result ≡ 12
         → WithRecord (S.seen source.old).bytes (λ r. TellsDisorder host r (K.seen sink.old).bytes (K.seen sink.new).bytes) }

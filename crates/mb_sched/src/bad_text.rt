@@ -3,7 +3,7 @@
 use mb_base::NoMemory;
 use std::alloc::AllocError;
 
-/// Why a text is no schedule. Lines count from 1.
+/// Why a text is no schedule, config or record. Lines count from 1.
 #[derive(Clone, Copy, Debug, PartialEq, Eq)]
 pub enum BadText {
     /// The text has more bytes than its kind may have: 67,108,864 for a record, 16,777,216 for a schedule or a config.

@@ -50,7 +50,7 @@ pub struct Config {
 /// ```
 ///
 /// `TooLong` comes exactly where the text has more than `MAX_CONFIG` bytes, before any other answer.
-/// Else `BadLine` comes exactly where some line is bad, with the number of the first. One of the first
+/// Else `BadLine` comes exactly where some line is bad, with the number of the first, unless memory runs out before. One of the first
 /// six lines that is missing is bad, and so is a last line without LF. `NoMemory` comes where memory
 /// runs out, and nowhere else.
 pub fn parse_config(alloc: Global, text: &[u8]) -> Result<Config, BadText>

@@ -27,7 +27,8 @@ const FIRST_EVENT_LINE: u32 = 7;
 ///
 /// The text is six lines of header and one line for each event, each with LF behind it. Words are
 /// parted by one space. `TooLong` comes exactly where the text has more than `MAX_TEXT` bytes, before
-/// any other answer. Else `BadLine` comes exactly where some line is bad, with the number of the first.
+/// any other answer. Else `BadLine` comes exactly where some line is bad, with the number of the first,
+/// unless memory runs out before.
 /// A missing line of the header is bad, and so is a last line without LF. `NoMemory` comes where memory
 /// runs out, and nowhere else.
 pub fn parse_schedule(alloc: Global, text: &[u8]) -> Result<Schedule, BadText>

@@ -77,7 +77,7 @@ pub struct Entry {
 /// whole pairs of lines: behind them one event's line may stand, and then bytes without LF.
 ///
 /// `TooLong` comes exactly where the text has more than `MAX_RECORD` bytes, before any other answer.
-/// Else `BadLine` comes exactly where some line is bad, with the number of the first. One of the first
+/// Else `BadLine` comes exactly where some line is bad, with the number of the first, unless memory runs out before. One of the first
 /// seven lines that is missing is bad. `NoMemory` comes where memory runs out, and nowhere else.
 pub fn parse_record(alloc: Global, text: &[u8]) -> Result<Record, BadText>
     ensures { ReadsText max_record record_contents record_of result text.now }

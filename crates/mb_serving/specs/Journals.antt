@@ -4,7 +4,7 @@ use Rattle.std.specs.List.{flat_map, AllByRecursion}
 use Rattle.std.specs.Io.KnownBytes.{Appends}
 use Rattle.mb_base.specs.Shapes.{Bytes, host_count}
 use Rattle.mb_edge.specs.Faults.{Rose}
-use Rattle.mb_edge.specs.Disks.{Moments, IsImage, WhereTold, LeavesOnly, settled}
+use Rattle.mb_edge.specs.Disks.{Moments, WhereTold, LeavesOnly, settled}
 use Rattle.mb_msg.specs.declared.event.Event.{Event}
 use Rattle.mb_model.specs.Histories.{History}
 use Rattle.mb_kv.specs.Pairs.{Pairs}
@@ -17,7 +17,7 @@ use Rattle.mb_journal.specs.declared.making.Opened.{Opened}
 use Rattle.mb_journal.specs.declared.opening.OpenStop.{OpenStop}
 use Rattle.mb_journal.specs.declared.opening.OpenStop.TheVariants as opening
 use Rattle.mb_journal.specs.Making.{SaysNothing}
-use Rattle.mb_journal.specs.Opening.{StaysWhole}
+use Rattle.mb_journal.specs.Opening.{KeepsFile}
 use Rattle.mb_journal.specs.Headers.{header_text}
 use Rattle.mb_node.specs.declared.stops.ServeStop.{ServeStop}
 use Rattle.mb_node.specs.declared.stops.ServeStop.TheVariants as stop
@@ -72,9 +72,9 @@ MakesBy text host status source source' sink sink' before after = Uses text (λ 
 -- ---- a journal is opened
 
 module _ (c : Config) (host : ℕ) where
-  -- Meanwhile a crash leaves a file as before, or one that is whole: no journal of this host as it reads, and of a journal its events.
+  -- what a crash leaves meanwhile
   abbrev pub Opens : DiskState → DiskState → Type 0
-  Opens before after = WhereTold before.moments (λ old. LeavesOnly (λ image. IsImage old.now image ⊎ StaysWhole (header_text c host) old.now.reads image) old after.moments)
+  Opens before after = WhereTold before.moments (λ old. KeepsFile (header_text c host) old after.moments)
 
   -- The file said these events, all of them of bytes, and the disk is at rest at them.
   pub record IsOpen (kept : List Event) (journal : JournalState) (before after : DiskState) : Type 0 where

@@ -9,7 +9,6 @@ use mb_checkpoints::Checkpoints;
 use mb_msg::{
     Body, Checkpoint, Floor, FloorCert, FloorMember, Floors, MAX_POS, StableCert, StableMember,
 };
-use mb_parts::Part;
 use std::alloc::Global;
 use std::process::Abort;
 use std::test::Fail;

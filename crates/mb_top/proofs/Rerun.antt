@@ -8,7 +8,7 @@ use Rattle.mb_model.specs.HostStep.{transition, after}
 use Rattle.mb_edge.specs.Disks.{Moments, next_all, IsImage}
 use Rattle.mb_journal.specs.Headers.{header_text}
 use Rattle.mb_journal.specs.Keeping.{JournalState}
-use Rattle.mb_journal.specs.Opening.{StaysWhole}
+use Rattle.mb_journal.specs.Opening.{StaysWhole, KeepsFile}
 use Rattle.mb_journal.proofs.Crashes.{leaves_same}
 use Rattle.mb_node.specs.declared.stops.ServeStop.{ServeStop}
 use Rattle.mb_node.specs.Events.{left_by, events}
@@ -24,7 +24,7 @@ use Rattle.mb_answer.proofs.ConfigLaws.{same_config}
 use Rattle.mb_serving.specs.Nodes.{served_status, IsUnbegun, headless, unopened}
 use Rattle.mb_serving.specs.Records.{host_of}
 use Rattle.mb_serving.specs.Journals.{IsOpen, ServesOn, ServesMore, served, unbegun, ServesKept, opened, bad, unread, no_host, KeptNodes}
-use Rattle.mb_top.specs.Reruns.{KeepsFile, IsRerun, IsUnsent, Reruns}
+use Rattle.mb_top.specs.Reruns.{IsRerun, IsUnsent, Reruns}
 
 -- where a host stands to which these events came
 stands_there : {S : Type 0} (self : Identity S) (es : List Event) → left_by self [] es ≡ after self es
@@ -71,7 +71,7 @@ module _ (c : Config) (host : ℕ) where
     behind kept journal budget status sink sink' between is_open (served journal' ended is on) = inl (is_rerun kept journal journal' budget status ended is sink sink' between is_open on)
     behind kept journal budget status sink sink' between is_open (unbegun is same) = inr (record {
       unsent = unbegun_sends _ status sink sink' l l' is;
-      opens = subst (λ (d : DiskState). KeepsFile c host old d.moments) same (is_open.opens old told);
+      opens = subst (λ (d : DiskState). KeepsFile (header_text c host) old d.moments) same (is_open.opens old told);
     })
 
 by_host : (c d : Config) (host budget status : ℕ) (sink sink' : Device) (l l' : LinkState) (before after' : DiskState) (old : Moments) → d ≡ c → host < host_count c.shape → before.moments ≡ Some old
@@ -79,9 +79,9 @@ by_host : (c d : Config) (host budget status : ℕ) (sink sink' : Device) (l l' 
 by_host c d host budget status sink sink' l l' before after' old same has told (opened kept journal between below is_open serves) =
     subst (λ (x : Config). IsRerun x host status l l' old after' ⊎ IsUnsent x host l l' old after') same (behind d host l l' before after' old told kept journal budget status sink sink' between is_open serves)
 by_host c d host budget status sink sink' l l' before after' old same has told (bad at below says is idle) =
-    inr (record { unsent = ap (λ (x : LinkState). x.sent) (sym idle); opens = subst (λ (x : Config). KeepsFile x host old after'.moments) same (is.opens old told) })
+    inr (record { unsent = ap (λ (x : LinkState). x.sent) (sym idle); opens = subst (λ (x : Config). KeepsFile (header_text x host) old after'.moments) same (is.opens old told) })
 by_host c d host budget status sink sink' l l' before after' old same has told (unread below fails opens same_sink idle) =
-    inr (record { unsent = ap (λ (x : LinkState). x.sent) (sym idle); opens = subst (λ (x : Config). KeepsFile x host old after'.moments) same (opens old told) })
+    inr (record { unsent = ap (λ (x : LinkState). x.sent) (sym idle); opens = subst (λ (x : Config). KeepsFile (header_text x host) old after'.moments) same (opens old told) })
 by_host c d host budget status sink sink' l l' before after' old same has told (no_host beyond says idle still) =
     let far : host_count c.shape ≤ host = subst (λ (x : Config). host_count x.shape ≤ host) same beyond in absurd (omega (arith, far, has))
 

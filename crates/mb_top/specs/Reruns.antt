@@ -2,10 +2,10 @@
 use Rattle.std.specs.Prelude.{◌≡◌, ◌⊎◌, ℕ, ◌<◌, List, ◌∷◌, Option, Some, Result}
 use Rattle.mb_base.specs.Shapes.{Bytes, host_count}
 use Rattle.mb_msg.specs.declared.event.Event.{Event}
-use Rattle.mb_edge.specs.Disks.{Moments, IsImage, WhereTold, LeavesOnly}
+use Rattle.mb_edge.specs.Disks.{Moments, WhereTold}
 use Rattle.mb_journal.specs.Files.{Holds}
 use Rattle.mb_journal.specs.Headers.{header_text}
-use Rattle.mb_journal.specs.Opening.{StaysWhole}
+use Rattle.mb_journal.specs.Opening.{KeepsFile}
 use Rattle.mb_node.specs.declared.stops.ServeStop.{ServeStop}
 use Rattle.mb_node.specs.Receives.{Receives}
 use Rattle.mb_node.specs.Events.{events}
@@ -23,10 +23,6 @@ use Rattle.mb_restart.specs.Restarts.{came, AreInWorld}
 use Rattle.mb_restart.specs.Servings.{EndsRun}
 use Rattle.mb_top.specs.Systems.{system_of}
 
--- A crash leaves a file as before, or one that is whole: no journal of this host as it reads, and of a journal its events.
-abbrev pub KeepsFile : Config → ℕ → Moments → Option Moments → Type 0
-KeepsFile c host old new = LeavesOnly (λ image. IsImage old.now image ⊎ StaysWhole (header_text c host) old.now.reads image) old new
-
 -- The file said these events, and kept them while it was opened. What followed was a run behind them with the events of what was received: whatever a crash
 -- leaves of the file, in the end or at a moment before, is what a run leaves, and what was sent is a first part of what a run sends. The status tells how it
 -- ended.
@@ -34,7 +30,7 @@ pub record IsRerun (c : Config) (host status : ℕ) (l l' : LinkState) (old : Mo
   pub kept : List Event
   pub says : Holds (header_text c host) kept old.now.reads
   pub opened : Moments
-  pub opens : KeepsFile c host old (Some opened)
+  pub opens : KeepsFile (header_text c host) old (Some opened)
   pub receives : Receives
   pub heard : HasListened c host l l' receives
   pub ended : Result (Unit {0}) ServeStop
@@ -44,7 +40,7 @@ pub record IsRerun (c : Config) (host status : ℕ) (l l' : LinkState) (old : Mo
 -- Nothing was sent, and the file kept its events.
 pub record IsUnsent (c : Config) (host : ℕ) (l l' : LinkState) (old : Moments) (after : DiskState) : Type 0 where
   pub unsent : l'.sent ≡ l.sent
-  pub opens : KeepsFile c host old after.moments
+  pub opens : KeepsFile (header_text c host) old after.moments
 
 -- what a node with a journal did with the text of a config that has its host, where the disk tells what stands on it
 abbrev pub Reruns : Bytes → ℕ → ℕ → LinkState → LinkState → DiskState → DiskState → Type 0
