@@ -7,6 +7,7 @@ mod addresses;
 mod children;
 mod files;
 mod program;
+mod rounds;
 mod sockets;
 mod starter;
 mod streams;

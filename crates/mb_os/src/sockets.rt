@@ -4,6 +4,7 @@ ghost use Rattle.std.specs.Prelude.{◌≡◌, ◌≤◌, None};
 ghost use Rattle.mb_edge.specs.Faults.{one_more};
 
 use crate::addresses::{CLIENT, known_address};
+use crate::rounds::Rounds;
 use crate::starter::Starter;
 use crate::watch::Watch;
 use crate::ways::Ways;
@@ -28,12 +29,16 @@ const TRY_WAIT: u64 = 10;
 /// Where this program was started by another one that is named here, the link fails once that one has ended: then it tells nothing that comes and sends
 /// nothing. It asks before each send to the client program. Before a send to a host, and behind a receive, it asks once for a tenth of a millisecond. So no
 /// node outlives the cluster that started it, and none is heard by a later one, whose nodes take longer to begin than that.
+///
+/// A client program that sends one round of datagrams behind another, with no receive between them, waits before each but the first.
 #[derive(Drop)]
 pub struct UdpLink<R> {
     rt: R,
     starter: Starter,
     socket: Option<Watch>,
     ways: Option<Ways>,
+    /// None of a host.
+    rounds: Option<Rounds>,
     faults: u64,
 }
 
@@ -47,6 +52,7 @@ impl<R> UdpLink<R> {
             starter: Starter::new(process, starter),
             socket: None,
             ways: None,
+            rounds: None,
             faults: 0,
         }
     }
@@ -92,6 +98,7 @@ impl<R: Net + Clock> Link for UdpLink<R> {
             Ok(socket) => {
                 self.socket = Some(Watch::new(socket));
                 self.ways = Some(Ways::new(port));
+                self.rounds = (own == CLIENT).then_some(Rounds::new());
                 Ok(())
             }
             Err(_) => Err(self.failed()),
@@ -103,6 +110,9 @@ impl<R: Net + Clock> Link for UdpLink<R> {
             return Got::Failed(self.failed());
         };
         let got = watch.receive(&self.rt, into);
+        if let Some(rounds) = &mut self.rounds {
+            *rounds = Rounds::new();
+        }
         if self.starter.had_ended(&self.rt) {
             return Got::Failed(self.failed());
         }
@@ -121,6 +131,11 @@ impl<R: Net + Clock> Link for UdpLink<R> {
         };
         if left {
             return Err(self.failed());
+        }
+        if let Some(rounds) = &mut self.rounds {
+            if let Some(pause) = rounds.pause_before(to) {
+                thread::sleep(&self.rt, pause);
+            }
         }
         let Some(ways) = &mut self.ways else {
             return Err(self.failed());
