@@ -1,7 +1,7 @@
 //! Rounds of datagrams: what a client program sends to one host after the other.
 //!
 //! A host that gets no processor for some milliseconds loses what its socket has no room for. Of three STOPs that come in a row behind many other datagrams it
-//! may so lose all. So a client program to which nothing came since its last round waits before the next one. Between requests something always comes.
+//! may so lose all. So a client program that made no receive since its last round waits before the next one. Between two sends of requests it makes one.
 
 use std::time::Duration;
 
@@ -11,10 +11,10 @@ const FIRST_PAUSE: u64 = 1;
 /// And before each further one.
 const LATER_PAUSE: u64 = 3;
 
-/// What a client program sent since something came to it.
+/// What a client program sent since its last receive.
 #[derive(Clone, Copy, PartialEq, Eq)]
 pub(crate) struct Rounds {
-    /// The host to which the last datagram went. None where nothing was sent.
+    /// The host of the last send, also of one that failed. None where there was none.
     last: Option<u8>,
     /// How long it waits before the next round, in milliseconds.
     pause: u64,

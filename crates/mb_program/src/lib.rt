@@ -36,14 +36,15 @@ const RECORDS: [&str; 7] = [
 /// Does what the words ask for, and answers the status. It reads from the source and writes to the sink. Nodes are started by the program's own path, and
 /// only where none of their records is there yet; one that was started so ends with the program that started it.
 ///
-/// Those clauses of `minbft` of `mb_top` that name words, source and sink alone hold here too; what is done with the devices is told of some link and spawner.
+/// Those clauses of `minbft` of `mb_top` that name words, source and sink alone hold here too.
 pub fn obey<S: Source, K: Sink>(
     rt: &HostRuntime,
     words: &[String],
     source: &mut S,
     sink: &mut K,
 ) -> u8
-    // What the words ask for is done, and where no device fails it comes to one of its ends, unless memory runs out.
+    // Where the words ask for what needs source and sink alone, or for nothing: that is done, and where neither fails it comes to one of its ends, unless memory
+    // runs out. Of a node and a cluster so it is with some link and some spawner, which may have failed. Of the disk nothing is said.
     ensures obeys { Obeys (asked words.now) result (S.seen source.old) (S.seen source.new) (K.seen sink.old) (K.seen sink.new) }
     // Each command has its statuses.
     ensures statuses { Contains (statuses (asked words.now)) result }
