@@ -22,8 +22,8 @@ const FAILED: u8 = 1;
 
 /// Writes the report of standard input, and answers whether there was one.
 fn report(rt: &HostRuntime) -> bool {
-    let mut source = StdSource::new(rt.stdin());
-    let mut sink = StdSink::new(rt.stdout());
+    let mut source = StdSource::new(rt, rt.stdin());
+    let mut sink = StdSink::new(rt, rt.stdout());
     let Ok(text) = read_all(rt.alloc(), MAX_TEXT, &mut source) else {
         return false;
     };

@@ -24,6 +24,13 @@ fn above(peer: u8) -> u16
     }
 }
 
+/// The number of a peer's port, which may be higher than any port.
+pub(crate) fn port_of(port: u16, peer: u8) -> u32
+    ensures { result ≡ port + above peer }
+{
+    u32::from(port) + u32::from(above(peer))
+}
+
 /// The address of a peer, where there is a port that high.
 fn address(port: u16, peer: u8) -> Option<SocketAddr>
     ensures here { IfSome result (λ a. IsHere a (port + above peer)) }
@@ -41,6 +48,6 @@ pub(crate) fn known_address(port: u16, peer: u8) -> io::Result<SocketAddr>
 {
     match address(port, peer) {
         Some(address) => Ok(address),
-        None => Err(io::Error::from(ErrorKind::InvalidInput)),
+        None => Err(io::Error::new(ErrorKind::InvalidInput, "no port is that high")),
     }
 }

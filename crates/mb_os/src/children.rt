@@ -6,6 +6,7 @@ ghost use Rattle.mb_edge.specs.Faults.{Rose};
 ghost use Rattle.mb_edge.specs.Children.{CountsBadEnds};
 
 use crate::program::STARTED_BY;
+use crate::telling::tell;
 use mb_edge::{Child, Failed, Spawner};
 use std::alloc::{AllocError, Global};
 use std::fs::{File, Files, OpenOptions};
@@ -76,19 +77,6 @@ impl<'a, R: Processes> ChildSpawner<'a, R> {
         }
     }
 
-    /// What an error of the system means. A device that failed is counted.
-    fn cause_of(&mut self, error: &io::Error) -> Failed
-        ensures rose { result ≡ Failed.Device → Rose self.old.faults self.new.faults }
-        ensures kept { result ≡ Failed.NoMemory → self.new.faults ≡ self.old.faults }
-        ensures later { self.old.faults ≤ self.new.faults }
-        ensures bad_ends { self.new.bad_ends ≡ self.old.bad_ends }
-    {
-        if error.kind() == ErrorKind::OutOfMemory {
-            return Failed::NoMemory;
-        }
-        self.count_fault()
-    }
-
     /// Counts a fault.
     fn count_fault(&mut self) -> Failed
         ensures device { result ≡ Failed.Device }
@@ -107,6 +95,25 @@ impl<'a, R: Processes> ChildSpawner<'a, R> {
     {
         if status != 0 {
             self.bad_ends = self.bad_ends.saturating_add(1);
+        }
+    }
+}
+
+impl<'a, R: Processes + Eprint> ChildSpawner<'a, R> {
+    /// What an error of a start means. A device that failed is counted, and told: of a file that is there already that was done.
+    fn cause_of(&mut self, output: &str, error: &io::Error) -> Failed
+        ensures rose { result ≡ Failed.Device → Rose self.old.faults self.new.faults }
+        ensures kept { result ≡ Failed.NoMemory → self.new.faults ≡ self.old.faults }
+        ensures later { self.old.faults ≤ self.new.faults }
+        ensures bad_ends { self.new.bad_ends ≡ self.old.bad_ends }
+    {
+        match error.kind() {
+            ErrorKind::OutOfMemory => Failed::NoMemory,
+            ErrorKind::AlreadyExists => self.count_fault(),
+            _ => {
+                tell(&self.rt, format_args!("a start failed: {output}"), error);
+                self.count_fault()
+            }
         }
     }
 }
@@ -132,17 +139,17 @@ fn command_of(alloc: Global, path: &str, words: &[String]) -> Result<Command, Al
     Ok(command)
 }
 
-/// Tells on standard error that a file is there already.
-fn tell_there<R: Eprint>(rt: &R, file: &str) -> io::Result<()> {
-    eprintln!(rt; "{file} is there already and is not overwritten")
+/// Tells on standard error that a file is there already. The error says no more than that.
+fn told_there<R: Eprint>(rt: &R, file: &str) -> io::Error {
+    let _ = eprintln!(rt; "minbft: {file} is there already and is not overwritten");
+    io::Error::from(ErrorKind::AlreadyExists)
 }
 
-/// Fails where one of these files is there already, and tells it on standard error.
+/// Fails where one of these files is there already, and tells it.
 fn none_is_there<R: Files + Eprint>(rt: &R, files: &[&str]) -> io::Result<()> {
     for file in files {
         if fs::exists(rt, *file)? {
-            tell_there(rt, *file)?;
-            return Err(io::Error::from(ErrorKind::AlreadyExists));
+            return Err(told_there(rt, *file));
         }
     }
     Ok(())
@@ -152,10 +159,7 @@ fn none_is_there<R: Files + Eprint>(rt: &R, files: &[&str]) -> io::Result<()> {
 fn new_file<R: Files<File = File> + Eprint>(rt: &R, output: &str) -> io::Result<File> {
     let opened = rt.open_file(OpenOptions::new().write(true).create_new(true), output);
     match opened {
-        Err(e) if e.kind() == ErrorKind::AlreadyExists => {
-            tell_there(rt, output)?;
-            Err(e)
-        }
+        Err(e) if e.kind() == ErrorKind::AlreadyExists => Err(told_there(rt, output)),
         opened => opened,
     }
 }
@@ -192,11 +196,13 @@ fn await_output<R: Files + Clock, P: OpenProcess>(
             return Ok(());
         }
         if has_ended {
-            return Err(io::Error::from(ErrorKind::UnexpectedEof));
+            let words = "the child ended before its output began";
+            return Err(io::Error::new(ErrorKind::UnexpectedEof, words));
         }
         thread::sleep(rt, wait_behind(look));
     }
-    Err(io::Error::from(ErrorKind::TimedOut))
+    let words = "the child's output did not begin in five seconds";
+    Err(io::Error::new(ErrorKind::TimedOut, words))
 }
 
 fn set_to_work<R: Files + Clock, P: OpenProcess>(
@@ -325,7 +331,7 @@ impl<'a, R: Files<File = File> + Processes + Clock + Eprint> Spawner for ChildSp
                 self.children.push_reserved(child);
                 Ok(number)
             }
-            Err(error) => Err(self.cause_of(&error)),
+            Err(error) => Err(self.cause_of(output, &error)),
         }
     }
 
@@ -343,7 +349,14 @@ impl<'a, R: Files<File = File> + Processes + Clock + Eprint> Spawner for ChildSp
                 self.count_end(status);
                 Ok(status)
             }
-            Err(_) => Err(self.count_fault()),
+            Err(error) => {
+                tell(
+                    &self.rt,
+                    format_args!("a wait failed: child {child}"),
+                    &error,
+                );
+                Err(self.count_fault())
+            }
         }
     }
 }

@@ -1,39 +1,47 @@
 //! The system's readers and writers, such as standard input and standard output, as a source and a sink.
 
-ghost use Rattle.std.specs.Prelude.{◌≡◌, ℕ};
+ghost use Rattle.std.specs.Prelude.{◌≡◌, ◌≤◌, ℕ};
+ghost use Rattle.mb_edge.specs.Faults.{one_more};
 ghost use Rattle.std.specs.Io.{ReadsAtMost, WritesAtMost};
 ghost use Rattle.std.specs.Io.KnownBytes.{ReadConsumes, WriteAppends};
 
+use crate::telling::tell;
 use mb_edge::{Failed, Sink, Source};
 use std::io;
-use std::io::{ErrorKind, Read, Write};
+use std::io::{Eprint, ErrorKind, Read, Write};
 
 /// A reader as a source. It tells of its bytes what the reader does: standard input tells nothing.
 #[derive(Drop)]
-pub struct StdSource<R> {
-    reader: R,
+pub struct StdSource<R, T> {
+    rt: R,
+    reader: T,
     faults: u64,
 }
 
-impl<R: Read> StdSource<R> {
+impl<R, T: Read> StdSource<R, T> {
     /// A source that has not failed yet.
-    pub fn new(reader: R) -> StdSource<R>
-        ensures { result ≡ record { reader = reader; faults = 0 } }
+    pub fn new(rt: R, reader: T) -> StdSource<R, T>
+        ensures { result ≡ record { rt = rt; reader = reader; faults = 0 } }
     {
-        StdSource { reader, faults: 0 }
+        StdSource {
+            rt,
+            reader,
+            faults: 0,
+        }
     }
 }
 
-impl<R: Read> Source for StdSource<R> {
+impl<R: Eprint, T: Read> Source for StdSource<R, T> {
     ghost use Rattle.mb_edge.specs.Seen.{device};
 
-    ghost seen = { λ s. device (R.remaining s.reader) s.faults };
+    ghost seen = { λ s. device (T.remaining s.reader) s.faults };
 
     /// An interrupted read is made again.
     fn read(&mut self, into: &mut [u8]) -> Result<usize, Failed> {
         match read_again(&mut self.reader, into) {
             Ok(count) => Ok(count),
-            Err(_) => {
+            Err(cause) => {
+                tell(&self.rt, "reading failed", &cause);
                 self.faults = self.faults.saturating_add(1);
                 Err(Failed::Device)
             }
@@ -57,21 +65,40 @@ fn read_again<R: Read>(reader: &mut R, into: &mut [u8]) -> io::Result<usize>
 
 /// A writer as a sink. It tells of its bytes what the writer does: standard output tells nothing.
 #[derive(Drop)]
-pub struct StdSink<W> {
+pub struct StdSink<R, W> {
+    rt: R,
     writer: W,
     faults: u64,
 }
 
-impl<W: Write> StdSink<W> {
+impl<R, W: Write> StdSink<R, W> {
     /// A sink that has not failed yet.
-    pub fn new(writer: W) -> StdSink<W>
-        ensures { result ≡ record { writer = writer; faults = 0 } }
+    pub fn new(rt: R, writer: W) -> StdSink<R, W>
+        ensures { result ≡ record { rt = rt; writer = writer; faults = 0 } }
     {
-        StdSink { writer, faults: 0 }
+        StdSink {
+            rt,
+            writer,
+            faults: 0,
+        }
     }
 }
 
-impl<W: Write> Sink for StdSink<W> {
+impl<R: Eprint, W: Write> StdSink<R, W> {
+    /// Counts a fault, and tells it.
+    fn failed(&mut self, cause: &io::Error) -> Failed
+        ensures failed { result ≡ Failed.Device }
+        ensures counted { self.new.faults ≡ one_more self.old.faults }
+        ensures later { self.old.faults ≤ self.new.faults }
+        ensures kept { self.new.writer ≡ self.old.writer }
+    {
+        tell(&self.rt, "writing failed", cause);
+        self.faults = self.faults.saturating_add(1);
+        Failed::Device
+    }
+}
+
+impl<R: Eprint, W: Write> Sink for StdSink<R, W> {
     ghost use Rattle.mb_edge.specs.Seen.{device};
 
     ghost seen = { λ s. device (W.contents s.writer) s.faults };
@@ -80,10 +107,8 @@ impl<W: Write> Sink for StdSink<W> {
     fn write(&mut self, from: &[u8]) -> Result<usize, Failed> {
         match write_again(&mut self.writer, from) {
             Ok(count) if count > 0 || from.is_empty() => Ok(count),
-            _ => {
-                self.faults = self.faults.saturating_add(1);
-                Err(Failed::Device)
-            }
+            Ok(_) => Err(self.failed(&io::Error::from(ErrorKind::WriteZero))),
+            Err(cause) => Err(self.failed(&cause)),
         }
     }
 }

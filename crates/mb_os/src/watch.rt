@@ -1,4 +1,7 @@
-//! A socket that looks for its next datagram before it waits for one.
+//! A socket that looks for its next datagram before it waits for one, and tells a quiet by the clock.
+//!
+//! A receive tells a quiet where one is due ([`Quiets`]), also where datagrams wait. Otherwise it looks, or waits, at most until one is due: how long a receive
+//! of the socket waits is set anew where that is another number of milliseconds than before, so at most once in a millisecond, and never while it looks.
 //!
 //! Who waits sleeps. To wake it takes a processor that has nothing else to do 20 to 40 microseconds on a virtual machine, and each request to a cluster is three
 //! datagrams in a row or more; what the processes do in between takes no longer than that. So behind a datagram a receive looks for the next one for a while,
@@ -9,6 +12,7 @@
 
 ghost use Rattle.std.specs.Prelude.{◌≤◌, length, IfOk, IfSome};
 
+use crate::quiets::Quiets;
 use std::io::ErrorKind;
 use std::net::UdpSocket;
 use std::time::{Clock, Duration, Instant};
@@ -47,6 +51,10 @@ const LOOKS: u32 = 10_000;
 #[derive(Drop)]
 pub(crate) struct Watch {
     socket: UdpSocket,
+    /// When the last quiet was.
+    quiets: Quiets,
+    /// How long a receive of the socket waits, in milliseconds. None where that was not set yet.
+    wait: Option<u64>,
     /// Whether it looks. Then a receive of the socket doesn't wait.
     looks: bool,
     /// How many datagrams are waited for before it looks again.
@@ -62,10 +70,12 @@ pub(crate) struct Watch {
 }
 
 impl Watch {
-    /// A socket that waits, up to the first datagram.
-    pub(crate) fn new(socket: UdpSocket) -> Watch {
+    /// A socket that is opened now. It waits, up to the first datagram.
+    pub(crate) fn new(socket: UdpSocket, now: Instant) -> Watch {
         Watch {
             socket,
+            quiets: Quiets::since(now),
+            wait: None,
             looks: false,
             rest: 0,
             next_rest: REST,
@@ -75,31 +85,50 @@ impl Watch {
         }
     }
 
-    /// One receive. None is a quiet.
+    /// One receive. None is a quiet: one that is due, or the end of the time to the next one.
     pub(crate) fn receive<R: Clock>(&mut self, rt: &R, into: &mut [u8]) -> io::Result<Option<usize>>
         ensures { IfOk result (λ count. IfSome count (λ n. n ≤ length into.new)) }
     {
+        let now = Instant::now(rt)?;
+        let Some(left) = self.quiets.left(now) else {
+            self.quiets = Quiets::since(now);
+            return Ok(None);
+        };
         if self.looks {
-            if let Some(count) = self.look(rt, into)? {
+            if let Some(count) = self.look(rt, now, into)? {
                 return Ok(Some(count));
             }
             self.set_looks(false)?;
         }
+        self.set_wait(left)?;
+        self.wait(rt, into)
+    }
+
+    /// Waits for a datagram. None where none came in time.
+    fn wait<R: Clock>(&mut self, rt: &R, into: &mut [u8]) -> io::Result<Option<usize>>
+        ensures { IfOk result (λ count. IfSome count (λ n. n ≤ length into.new)) }
+    {
         let got = taken(&self.socket, into)?;
         if got.is_some() {
             self.look_again()?;
+        } else {
+            self.quiets = Quiets::since(Instant::now(rt)?);
         }
         Ok(got)
     }
 
-    /// Looks for a datagram. None where none came in time, or the processor was crowded.
-    fn look<R: Clock>(&mut self, rt: &R, into: &mut [u8]) -> io::Result<Option<usize>>
+    /// Looks for a datagram, in a receive that began at this time. None where none came in time, or the processor was crowded.
+    fn look<R: Clock>(
+        &mut self,
+        rt: &R,
+        begun: Instant,
+        into: &mut [u8],
+    ) -> io::Result<Option<usize>>
         ensures { IfOk result (λ count. IfSome count (λ n. n ≤ length into.new)) }
     {
         if let Some(count) = taken(&self.socket, into)? {
             return Ok(Some(count));
         }
-        let begun = Instant::now(rt)?;
         for _ in 0..LOOKS {
             self.step_aside(rt)?;
             let spent = begun.elapsed(rt)?;
@@ -151,6 +180,16 @@ impl Watch {
             return self.set_looks(true);
         }
         self.rest -= 1;
+        Ok(())
+    }
+
+    /// Sets how long a receive of the socket waits, in milliseconds.
+    fn set_wait(&mut self, wait: u64) -> io::Result<()> {
+        if self.wait != Some(wait) {
+            self.socket
+                .set_read_timeout(Some(Duration::from_millis(wait)))?;
+            self.wait = Some(wait);
+        }
         Ok(())
     }
 

@@ -4,7 +4,8 @@ use std::alloc::Global;
 use std::io::{ErrorKind, Read, Write};
 use std::os::unix::process::parent_id;
 use std::process::Abort;
-use std::{fs, io};
+use std::time::{Clock, Duration, Instant};
+use std::{fs, io, thread};
 
 /// A stream whose calls end as listed: with a count, or with an error.
 #[derive(Drop)]
@@ -55,8 +56,8 @@ const BROKEN: Result<usize, ErrorKind> = Err(ErrorKind::BrokenPipe);
 #[test]
 fn interrupted_calls_are_made_again(rt: HostRuntime) {
     let calls = [INTERRUPTED, Ok(2), INTERRUPTED, INTERRUPTED, BROKEN, Ok(0)];
-    let mut source = StdSource::new(Listed::new(&rt, rt.alloc(), &calls));
-    let mut sink = StdSink::new(Listed::new(&rt, rt.alloc(), &calls));
+    let mut source = StdSource::new(&rt, Listed::new(&rt, rt.alloc(), &calls));
+    let mut sink = StdSink::new(&rt, Listed::new(&rt, rt.alloc(), &calls));
     let mut into = [0u8; 4];
     assert!(rt; source.read(&mut into) == Ok(2));
     assert!(rt; source.read(&mut into) == Err(Failed::Device));
@@ -69,7 +70,7 @@ fn interrupted_calls_are_made_again(rt: HostRuntime) {
 
 #[test]
 fn a_fault_in_mid_stream_is_told(rt: HostRuntime) {
-    let mut source = StdSource::new(Listed::new(&rt, rt.alloc(), &[Ok(3), BROKEN, Ok(3)]));
+    let mut source = StdSource::new(&rt, Listed::new(&rt, rt.alloc(), &[Ok(3), BROKEN, Ok(3)]));
     match read_all(rt.alloc(), 10, &mut source) {
         Ok(bytes) => assert!(rt; bytes.len() == 3, "the fault is lost"),
         Err(e) => assert!(rt; e == ReadStop::Fault),
@@ -109,6 +110,89 @@ fn datagrams_come_whole_and_in_order(rt: HostRuntime) {
     assert!(rt; second.recv(&mut into) == Got::Quiet);
     assert!(rt; first.send(1, b"abc") == Ok(()));
     assert!(rt; next_datagram(&mut second, &mut into) == Got::Datagram(3));
+}
+
+/// How many receives until a datagram comes were quiets.
+fn quiets_before_a_datagram<L: Link>(rt: &impl Abort, link: &mut L, into: &mut [u8]) -> usize {
+    for quiets in 0..100 {
+        match link.recv(into) {
+            Got::Quiet => {}
+            Got::Datagram(_) => return quiets,
+            Got::Failed(_) => panic!(rt; "the link failed"),
+        }
+    }
+    100
+}
+
+#[test]
+fn quiets_come_amid_datagrams(rt: HostRuntime) {
+    let mut first = UdpLink::new(&rt, rt.process(), None);
+    let mut second = UdpLink::new(&rt, rt.process(), None);
+    let mut into = [0u8; ROOM];
+    assert!(rt; first.open(40_040, 0) == Ok(()));
+    assert!(rt; second.open(40_040, 1) == Ok(()));
+    let mut quiets = 0usize;
+    let mut datagrams = 0usize;
+    for _ in 0..30 {
+        thread::sleep(&rt, Duration::from_millis(10));
+        assert!(rt; first.send(1, b"abc") == Ok(()));
+        match second.recv(&mut into) {
+            Got::Quiet => quiets = quiets.saturating_add(1),
+            Got::Datagram(_) => datagrams = datagrams.saturating_add(1),
+            Got::Failed(_) => panic!(rt; "the link failed"),
+        }
+    }
+    assert!(rt; quiets >= 4, "quiets are kept away");
+    for _ in datagrams..30 {
+        assert!(rt; next_datagram(&mut second, &mut into) == Got::Datagram(3));
+    }
+}
+
+#[test]
+fn quiets_that_nobody_waited_for_are_not_told_behind(rt: HostRuntime) {
+    let mut first = UdpLink::new(&rt, rt.process(), None);
+    let mut second = UdpLink::new(&rt, rt.process(), None);
+    let mut into = [0u8; ROOM];
+    assert!(rt; first.open(40_050, 0) == Ok(()));
+    assert!(rt; second.open(40_050, 1) == Ok(()));
+    assert!(rt; first.send(1, b"abc") == Ok(()));
+    thread::sleep(&rt, Duration::from_millis(500));
+    let quiets = quiets_before_a_datagram(&rt, &mut second, &mut into);
+    assert!(rt; quiets > 0, "a quiet that was due is not told");
+    assert!(rt; quiets < 5, "each quiet that was due is told");
+}
+
+/// Sends a burst of the longest datagrams to host 1. How long that takes.
+fn time_of_burst<R: Clock, L: Link>(rt: &R, link: &mut L) -> io::Result<Duration> {
+    let begun = Instant::now(rt)?;
+    for i in 1..=4u8 {
+        let out = [i; ROOM];
+        if link.send(1, out.get(1..).unwrap_or(&[])).is_err() {
+            return Err(io::Error::from(ErrorKind::Other));
+        }
+    }
+    begun.elapsed(rt)
+}
+
+#[test]
+fn bursts_are_paced_and_fit(rt: HostRuntime) -> io::Result<()> {
+    let mut first = UdpLink::new(&rt, rt.process(), None);
+    let mut second = UdpLink::new(&rt, rt.process(), None);
+    let mut into = [0u8; ROOM];
+    assert!(rt; first.open(40_060, 0) == Ok(()));
+    assert!(rt; second.open(40_060, 1) == Ok(()));
+    for burst in 0..32 {
+        let time = time_of_burst(&rt, &mut first)?;
+        assert!(rt; time >= Duration::from_millis(1), "a burst is not paced");
+        if burst % 4 == 0 {
+            thread::sleep(&rt, Duration::from_millis(20));
+        }
+        for i in 1..=4u8 {
+            assert!(rt; next_datagram(&mut second, &mut into) == Got::Datagram(ROOM - 1));
+            assert!(rt; into.iter().take(ROOM - 1).all(|x| *x == i));
+        }
+    }
+    Ok(())
 }
 
 #[test]
@@ -234,9 +318,26 @@ fn a_file_keeps_what_was_written_and_synced(rt: HostRuntime) {
         disk.sync(),
     ];
     assert!(rt; done == [Ok(()); 3]);
+    drop(disk);
     let mut again = FileDisk::new(&rt);
     assert!(rt; again.open("disk") == Ok(()));
     let counts = (again.len(), again.read_at(1, &mut into));
     assert!(rt; counts == (Ok(4), Ok(3)) && into == [0, 4, 5, 9]);
     assert!(rt; again.read_at(4, &mut into) == Ok(0));
+}
+
+#[test]
+fn a_file_is_open_once(rt: HostRuntime) {
+    let _ = fs::remove_file(&rt, "locked");
+    let mut first = FileDisk::new(&rt);
+    let mut second = FileDisk::new(&rt);
+    assert!(rt; first.open("locked") == Ok(()));
+    assert!(rt; second.open("locked") == Err(Failed::Device));
+    assert!(rt; first.write_at(0, &[1]) == Ok(()));
+    assert!(rt; first.open("locked") == Ok(()));
+    assert!(rt; first.len() == Ok(1));
+    assert!(rt; second.len() == Err(Failed::Device));
+    drop(first);
+    assert!(rt; second.open("locked") == Ok(()));
+    assert!(rt; second.len() == Ok(1));
 }

@@ -14,10 +14,10 @@ ghost use Rattle.mb_top.specs.Blames.{ConvictsRightly, TellsDisorder};
 ghost use Rattle.mb_top.specs.Histories.{LearnsTheLine};
 ghost use Rattle.mb_program.specs.Obeying.{Obeys};
 
-use mb_answer::NO_MEMORY;
+use mb_answer::{NO_MEMORY, USAGE};
 use mb_edge::{Sink, Source};
 use mb_os::{ChildSpawner, FileDisk, StdSink, StdSource, UdpLink, own_path, starter_of, words_of};
-use mb_top::minbft;
+use mb_top::{beyond_limits, is_command, minbft};
 use std::io::ErrorKind;
 use std::process;
 use std::process::ExitCode;
@@ -88,15 +88,30 @@ pub fn obey<S: Source, K: Sink>(
     )
 }
 
-/// Does what the program's own words ask for, and ends with the status that is answered.
+/// Why words may get the usage line, as far as they tell. None where they begin like no command.
+fn reason_in(words: &[String]) -> Option<&'static str> {
+    if is_command(words) {
+        return Some("the system has no host of this number");
+    }
+    beyond_limits(words)
+}
+
+/// Does what the program's own words ask for, and ends with the status that is answered. Behind the usage line standard error tells why, where the words do.
 pub fn run(rt: &HostRuntime) -> ExitCode {
-    let mut source = StdSource::new(rt.stdin());
-    let mut sink = StdSink::new(rt.stdout());
-    let words = match words_of(rt) {
-        Ok(words) => words,
+    let mut source = StdSource::new(rt, rt.stdin());
+    let mut sink = StdSink::new(rt, rt.stdout());
+    let (words, reason) = match words_of(rt) {
+        Ok(words) => {
+            let reason = reason_in(&words);
+            (words, reason)
+        }
         Err(error) if error.kind() == ErrorKind::OutOfMemory => return ExitCode::from(NO_MEMORY),
         // A word that isn't UTF-8 belongs to no command.
-        Err(_) => Vec::new(rt.alloc()),
+        Err(_) => (Vec::new(rt.alloc()), Some("a word is not UTF-8")),
     };
-    ExitCode::from(obey(rt, &words, &mut source, &mut sink))
+    let status = obey(rt, &words, &mut source, &mut sink);
+    if let (USAGE, Some(reason)) = (status, reason) {
+        let _ = eprintln!(rt; "minbft: {reason}");
+    }
+    ExitCode::from(status)
 }

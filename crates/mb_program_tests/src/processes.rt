@@ -55,8 +55,8 @@ fn words_from(rt: &HostRuntime, from: &[&str]) -> io::Result<Vec<String>> {
 /// Runs a cluster at the system's streams.
 fn run_cluster(rt: &HostRuntime) -> io::Result<()> {
     let words = words_from(rt, &["cluster", "2000"])?;
-    let mut source = StdSource::new(rt.stdin());
-    let mut sink = StdSink::new(rt.stdout());
+    let mut source = StdSource::new(rt, rt.stdin());
+    let mut sink = StdSink::new(rt, rt.stdout());
     let status = obey(rt, &words, &mut source, &mut sink);
     println!(rt; "cluster: {status}")
 }

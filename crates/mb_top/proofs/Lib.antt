@@ -1,5 +1,6 @@
 -- `KvService` and `Promised` bring the promise of all hosts to the key-value service; `StopLaws` and `RunLaws` follow a run event by event;
 -- `Answered` and `RecordLaws` read the statuses.
+pub mod FourWords
 pub mod OneSchedule
 pub mod KvService
 pub mod Promised

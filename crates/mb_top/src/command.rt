@@ -7,13 +7,13 @@ use mb_base::Shape;
 use mb_sched::{is_word, number_in};
 
 /// The most events that are drawn.
-const MAX_DRAWN: u64 = 100_000;
+pub(crate) const MAX_DRAWN: u64 = 100_000;
 
 /// The most receives of a node, and the most turns of a client program.
-const MAX_BUDGET: u64 = 1_000_000;
+pub(crate) const MAX_BUDGET: u64 = 1_000_000;
 
 /// The greatest number that a host of any system has.
-const LAST_HOST: u64 = 2 * Shape::MAX_F as u64;
+pub(crate) const LAST_HOST: u64 = 2 * Shape::MAX_F as u64;
 
 /// What the words ask for.
 #[derive(Clone, Copy, PartialEq, Eq)]

@@ -3,6 +3,7 @@
 //! | Module | What it does |
 //! |---|---|
 //! | `command` | reads the words |
+//! | `reasons` | says which number makes words no command |
 //! | `replay` | runs a schedule in the world of hosts that keep the key-value service |
 //! | `soak` | runs drawn events in such a world, and sums them up |
 //! | `top` | the call that `main` makes, with all that is promised of it |
@@ -10,11 +11,13 @@
 #![tactic(auto)]
 
 mod command;
+mod reasons;
 mod replay;
 mod soak;
 mod top;
 mod worlds;
 
 pub use command::Command;
+pub use reasons::{beyond_limits, is_command};
 pub use top::minbft;
 pub use worlds::nodes_are_hosts_of_worlds;
