@@ -1,16 +1,15 @@
 -- One receive of a node with a journal, and all receives.
 use Rattle.std.proofs.Common.{◌≡◌, ◌⊎◌, inl, inr, ℕ, ◌+◌, ◌≤◌, Bool, true, false, List, [], ◌∷◌, ◌++◌, length, refl, sym, ap, ◌∙◌, subst, Option, Some, None, Ok, Err, arith}
-use Rattle.std.specs.Prelude.{◌%◌, ◌^◌, if◌then◌else◌, Result}
+use Rattle.std.specs.Prelude.{◌%◌, ◌^◌, Result}
 use Rattle.mb_base.specs.Shapes.{host_count}
 use Rattle.mb_service.specs.Machine.{ServiceMachine}
 use Rattle.mb_edge.specs.Disks.{Moments}
 use Rattle.mb_msg.specs.declared.event.Event.{Event}
-use Rattle.mb_model.specs.Histories.{History, Identity, onto}
+use Rattle.mb_model.specs.Histories.{History, Identity, onto, view_of}
 use Rattle.mb_steps.specs.Arises.{IsWhole}
 use Rattle.mb_core.specs.declared.replica.Replica.{Replica}
 use Rattle.mb_core.specs.Represents.{Represents}
 use Rattle.mb_replica.specs.Represents.{Serves}
-use Rattle.mb_replica.specs.Waiting.{wants}
 use Rattle.mb_journal.specs.Keeping.{JournalState}
 use Rattle.mb_node.specs.declared.node.Node.{Node}
 use Rattle.mb_node.specs.declared.receiving.Arrival.{Arrival}
@@ -21,14 +20,15 @@ use Rattle.mb_node.specs.declared.turn.Turn.{Turn}
 use Rattle.mb_node.specs.Receives.{Receives}
 use Rattle.mb_node.specs.Inboxes.{HasReceived, arrival_at}
 use Rattle.mb_node.specs.Receiving.{GivesOne, LosesOne}
-use Rattle.mb_node.specs.Events.{left_by, quiets, events}
+use Rattle.mb_node.specs.Events.{patience, events}
+use Rattle.mb_node.specs.Patience.{standing, fresh, is_spent, behind}
 use Rattle.mb_node.specs.Outside.{Outside}
 use Rattle.mb_node.specs.Serving.{AreDone, AreCutOff, IsCutOff, StandsBehind}
 use Rattle.mb_node.specs.Turns.{HasTurned}
-use Rattle.mb_node.specs.Rounds.{quiets_of, event_of, IsServing}
+use Rattle.mb_node.specs.Rounds.{event_of, IsServing}
 use Rattle.mb_node.specs.Stops.{IsOfDisk}
 use Rattle.mb_node.specs.Keeping.{AreKept, IsFullFor, KeepsOn, KeepsLast, LacksLast, KeepsUntil, KeptRounds, HasAll, LacksOne, EndsKept, HasServedKept}
-use Rattle.mb_node.proofs.Runs.{next_events, cut_begun, SoFar, so_far_none, so_far_more, ends_unbegun, ends_by_stop, ends_cut, ends_by_budget}
+use Rattle.mb_node.proofs.Runs.{next_events, spent_at, cut_begun, SoFar, so_far_none, so_far_more, ends_unbegun, ends_by_stop, ends_cut, ends_by_budget}
 use Rattle.mb_node.proofs.Rounding.{done_moved, events_now, event_now, round_lost, round_quietly, round_cut, round_turned}
 use Rattle.mb_node.proofs.Kept.{kept_none, lost_one, kept_both, full_unless}
 
@@ -57,7 +57,7 @@ module _ {V : Type 0} (machine : ServiceMachine V) (node : Node) (old : Replica 
     by_more me start before receives so_far (one ∷ []) few =
         let es = events me start receives in
         let done = done_moved machine node old here mid told told_mid written sent me start before es so_far.done in
-        let e = event_of (wants me (left_by me start es)) (quiets me start es) (arrival_at me.shape receives one) in
+        let e = event_of (spent_at me start es (patience me start es)) (arrival_at me.shape receives one) in
         subst (λ (l : List Event). KeepsLast s journal journal disk disk es l ⊎ LacksLast me start before mid old s journal journal disk disk es l) (sym (next_events me start receives one)) (by_event me start before es done so_far.stands e)
     by_more me start before receives so_far (one ∷ (two ∷ more)) few = absurd (omega (arith, few))
 
@@ -69,9 +69,9 @@ module _ {V : Type 0} (machine : ServiceMachine V) (node : Node) (old : Replica 
     }
 
   module _ (next : Receiver) (arrival : Arrival) (gives : GivesOne node.receiver next arrival told told_mid) (ev : Option Event)
-      (ev_is : (me : Identity V) (d : History) → Represents me old d → ev ≡ event_of (wants me d) node.quiets arrival) where
+      (ev_is : (me : Identity V) (d : History) → Represents me old d → ev ≡ event_of (is_spent (standing me d) node.patience) arrival) where
     -- it is no event
-    pub kept_quietly : (now : Node) (journal : JournalState) (disk : Option Moments) → ev ≡ None → now.receiver ≡ next → now.quiets ≡ node.quiets → now.outbox ≡ node.outbox
+    pub kept_quietly : (now : Node) (journal : JournalState) (disk : Option Moments) → ev ≡ None → now.receiver ≡ next → now.patience ≡ node.patience → now.outbox ≡ node.outbox
         → KeepsOn machine node now old old journal journal disk disk told told_mid here mid false
     unfolding round_quietly
     kept_quietly now journal disk none receiver counted outbox = record {
@@ -126,7 +126,7 @@ module _ {V : Type 0} (machine : ServiceMachine V) (node : Node) (old : Replica 
 
         -- or was whole
         pub kept_turned : (now : Node) (t : Turn) (stopped : Bool) → AreKept journal journal' disk disk' (e ∷ []) (e ∷ [])
-            → t.stops ≡ stopped → later.halted ≡ false → now.receiver ≡ next → now.quiets ≡ (if t.settles then 0 else node.quiets + quiets_of arrival)
+            → t.stops ≡ stopped → later.halted ≡ false → now.receiver ≡ next → now.patience ≡ behind t.shown node.patience
             → now.outbox.hosts ≡ node.outbox.hosts → now.outbox.host ≡ node.outbox.host
             → ((me : Identity V) (d : History) (n : ℕ) → Serves machine me → Represents me old d → IsWhole d → node.outbox.hosts ≡ host_count me.shape → node.outbox.host ≡ me.host → node.outbox.number ≡ n % 2 ^ 32 → HasTurned me d n e mid there later now.outbox t)
             → KeepsOn machine node now old later journal journal' disk disk' told told_mid here there stopped
@@ -147,7 +147,7 @@ module _ {V : Type 0} (machine : ServiceMachine V) (old : Replica V) (journal : 
     pub keeps : (me : Identity V) (d : History) → Serves machine me → Represents me old d → IsWhole d → AreKept journal journal_now disk disk_now (events me d so_far.receives) (events me d so_far.receives)
 
   pub kept_begins : (node : Node) → old.halted ≡ false → ((me : Identity V) (d : History) → Represents me old d → HasReceived me.shape [] node.receiver.inbox)
-      → ((me : Identity V) (d : History) → Represents me old d → node.outbox ≡ record { host = me.host; hosts = host_count me.shape; number = 0 }) → node.quiets ≡ 0 → KeptSoFar old journal disk told before node 0
+      → ((me : Identity V) (d : History) → Represents me old d → node.outbox ≡ record { host = me.host; hosts = host_count me.shape; number = 0 }) → ((me : Identity V) (d : History) → Represents me old d → node.patience ≡ fresh (view_of me d)) → KeptSoFar old journal disk told before node 0
   unfolding so_far_none events
   kept_begins node runs inbox outbox none = record {
     so_far = so_far_none machine old told before node runs inbox outbox none;

@@ -3,6 +3,7 @@ pub mod Told
 pub mod Peers
 pub mod Joining
 pub mod Retraced
+pub mod Patient
 pub mod Runs
 pub mod Turning
 pub mod Counting

@@ -1,5 +1,5 @@
 -- Where each datagram is of bytes, so is each event.
-use Rattle.std.proofs.Common.{◌≡◌, inl, inr, ℕ, Bool, true, false, [], ◌∷◌, List, Option, Some, None, refl, sym, ◌∙◌, subst}
+use Rattle.std.proofs.Common.{◌≡◌, inl, inr, ℕ, Bool, true, false, [], ◌∷◌, List, Option, Some, None, refl, subst}
 use Rattle.std.specs.Prelude.{if◌then◌else◌}
 use Rattle.std.specs.List.{AllByRecursion}
 use Rattle.std.proofs.lemmas.Bool.{cases_Bool}
@@ -14,7 +14,7 @@ use Rattle.mb_frag.specs.declared.pushed.Pushed.TheVariants as pushed
 use Rattle.mb_frag.specs.Held.{Step, push_of}
 use Rattle.mb_frag.proofs.ByteLemmas.{IsBytes-nil, push_bytes}
 use Rattle.mb_node.specs.Receives.{Receives, ReceiveFits, held_of, is_from, is_peer, whole_message, made_whole}
-use Rattle.mb_node.specs.Events.{quiet_event, given_to, events}
+use Rattle.mb_node.specs.Events.{given_to, events}
 
 held_bytes : (sender : ℕ) (receives : Receives) → AllByRecursion ReceiveFits receives → IsBytes (held_of sender receives).bytes
 unfolding held_of

@@ -1,6 +1,6 @@
 -- One receive of a node, and what follows.
-use Rattle.std.proofs.Common.{◌≡◌, ℕ, ◌+◌, Bool, true, false, List, [], ◌∷◌, length, sym, ap, ◌∙◌, Option, Some, None, subst, arith}
-use Rattle.std.specs.Prelude.{◌%◌, ◌^◌, if◌then◌else◌}
+use Rattle.std.proofs.Common.{◌≡◌, ℕ, Bool, true, false, List, [], ◌∷◌, length, sym, ap, ◌∙◌, Option, Some, None, subst, arith}
+use Rattle.std.specs.Prelude.{◌%◌, ◌^◌}
 use Rattle.mb_base.specs.Shapes.{host_count}
 use Rattle.mb_service.specs.Machine.{ServiceMachine}
 use Rattle.mb_msg.specs.declared.event.Event.{Event}
@@ -9,7 +9,7 @@ use Rattle.mb_steps.specs.Arises.{IsWhole}
 use Rattle.mb_core.specs.declared.replica.Replica.{Replica}
 use Rattle.mb_core.specs.Represents.{Represents}
 use Rattle.mb_replica.specs.Represents.{Serves}
-use Rattle.mb_replica.specs.Waiting.{wants}
+use Rattle.mb_node.specs.declared.patience.Patience.{Patience}
 use Rattle.mb_node.specs.declared.node.Node.{Node}
 use Rattle.mb_node.specs.declared.receiving.Arrival.{Arrival}
 use Rattle.mb_node.specs.declared.receiving.Receiver.{Receiver}
@@ -17,13 +17,14 @@ use Rattle.mb_node.specs.declared.turn.Turn.{Turn}
 use Rattle.mb_node.specs.Receives.{Receives}
 use Rattle.mb_node.specs.Inboxes.{HasReceived, arrival_at}
 use Rattle.mb_node.specs.Receiving.{GivesOne, LosesOne}
-use Rattle.mb_node.specs.Events.{left_by, quiets, quiets_in, has_stop, events}
+use Rattle.mb_node.specs.Events.{left_by, patience, has_stop, events}
+use Rattle.mb_node.specs.Patience.{standing, is_spent, behind}
 use Rattle.mb_node.specs.Recording.{sent_of}
 use Rattle.mb_node.specs.Outside.{Outside}
 use Rattle.mb_node.specs.Serving.{AreDone, AreCutOff, IsCutOff}
 use Rattle.mb_node.specs.Turns.{HasTurned}
-use Rattle.mb_node.specs.Rounds.{quiets_of, event_of, IsServing, Goes, GoesOn, IsStopped}
-use Rattle.mb_node.proofs.Runs.{next_events, same_quiets, cut_lost, cut_more, serving_same, goes_to_stop, goes_on}
+use Rattle.mb_node.specs.Rounds.{event_of, IsServing, Goes, GoesOn, IsStopped}
+use Rattle.mb_node.proofs.Runs.{next_events, spent_at, cut_lost, cut_more, serving_same, goes_to_stop, goes_on}
 
 module _ {V : Type 0} (machine : ServiceMachine V) (node : Node) (old : Replica V) (here mid : Outside) (told told_mid : Option Receives)
     (written : mid.written ≡ here.written) (sent : mid.sent ≡ here.sent) where
@@ -55,17 +56,18 @@ module _ {V : Type 0} (machine : ServiceMachine V) (node : Node) (old : Replica 
   -- ---- there was a receive
 
   module _ (next : Receiver) (arrival : Arrival) (gives : GivesOne node.receiver next arrival told told_mid) (ev : Option Event)
-      (ev_is : (me : Identity V) (d : History) → Represents me old d → ev ≡ event_of (wants me d) node.quiets arrival) where
+      (ev_is : (me : Identity V) (d : History) → Represents me old d → ev ≡ event_of (is_spent (standing me d) node.patience) arrival) where
     pub events_now : (me : Identity V) (start : History) (o : Outside) (receives : Receives) → IsServing me start o receives here node old → events me start (gives.one ∷ receives) ≡ onto ev (events me start receives)
     events_now me start o receives so_far =
         let d : History = left_by me start (events me start receives) in
         let arrives : arrival ≡ arrival_at me.shape receives gives.one = gives.is me.shape receives so_far.inbox in
         next_events me start receives gives.one
         ∙ ap (λ (x : Option Event). onto x (events me start receives))
-        (sym (ev_is me d so_far.stands.represents ∙ ap (λ (n : ℕ). event_of (wants me d) n arrival) so_far.counted ∙ ap (event_of (wants me d) (quiets me start (events me start receives))) arrives))
+        (sym (ev_is me d so_far.stands.represents ∙ ap (λ (p : Patience). event_of (spent_at me start (events me start receives) p) arrival) so_far.counted
+        ∙ ap (event_of (spent_at me start (events me start receives) (patience me start (events me start receives)))) arrives))
 
     -- that is no event
-    unfoldable pub round_quietly : (now : Node) → ev ≡ None → now.receiver ≡ next → now.quiets ≡ node.quiets → now.outbox ≡ node.outbox → GoesOn machine node now old old told told_mid here mid false
+    unfoldable pub round_quietly : (now : Node) → ev ≡ None → now.receiver ≡ next → now.patience ≡ node.patience → now.outbox ≡ node.outbox → GoesOn machine node now old old told told_mid here mid false
     round_quietly now none receiver counted outbox = record {
       one = gives.one;
       told = gives.told;
@@ -80,9 +82,6 @@ module _ {V : Type 0} (machine : ServiceMachine V) (node : Node) (old : Replica 
     module _ (e : Event) (some : ev ≡ Some e) (later : Replica V) (there : Outside) where
       pub event_now : (me : Identity V) (start : History) (o : Outside) (receives : Receives) → IsServing me start o receives here node old → events me start (gives.one ∷ receives) ≡ e ∷ events me start receives
       event_now me start o receives so_far = events_now me start o receives so_far ∙ ap (λ (x : Option Event). onto x (events me start receives)) some
-
-      pub count_is : (me : Identity V) (d : History) → Represents me old d → quiets_of arrival ≡ quiets_in e
-      count_is me d rep = same_quiets (wants me d) node.quiets arrival e (sym (ev_is me d rep) ∙ some)
 
       -- where it stopped on the way
       unfoldable pub round_cut : ((me : Identity V) (d : History) (n : ℕ) → Serves machine me → Represents me old d → IsWhole d → node.outbox.hosts ≡ host_count me.shape → node.outbox.host ≡ me.host → node.outbox.number ≡ n % 2 ^ 32 → IsCutOff me mid there later.halted n d e)
@@ -100,7 +99,7 @@ module _ {V : Type 0} (machine : ServiceMachine V) (node : Node) (old : Replica 
       }
 
       -- where it is whole
-      unfoldable pub round_turned : (now : Node) (t : Turn) (stopped : Bool) → t.stops ≡ stopped → later.halted ≡ false → now.receiver ≡ next → now.quiets ≡ (if t.settles then 0 else node.quiets + quiets_of arrival)
+      unfoldable pub round_turned : (now : Node) (t : Turn) (stopped : Bool) → t.stops ≡ stopped → later.halted ≡ false → now.receiver ≡ next → now.patience ≡ behind t.shown node.patience
           → now.outbox.hosts ≡ node.outbox.hosts → now.outbox.host ≡ node.outbox.host
           → ((me : Identity V) (d : History) (n : ℕ) → Serves machine me → Represents me old d → IsWhole d → node.outbox.hosts ≡ host_count me.shape → node.outbox.host ≡ me.host → node.outbox.number ≡ n % 2 ^ 32 → HasTurned me d n e mid there later now.outbox t)
           → GoesOn machine node now old later told told_mid here there stopped
@@ -119,6 +118,5 @@ module _ {V : Type 0} (machine : ServiceMachine V) (node : Node) (old : Replica 
         either me start o receives serves so_far unstopped false is =
             let es : List Event = events me start receives in
             let has : HasReceived me.shape (gives.one ∷ receives) now.receiver.inbox = subst (λ (x : Receiver). HasReceived me.shape (gives.one ∷ receives) x.inbox) (sym receiver) (gives.has me.shape receives so_far.inbox) in
-            let count : now.quiets ≡ (if t.settles then 0 else node.quiets + quiets_in e) = counted ∙ ap (λ (n : ℕ). if t.settles then 0 else node.quiets + n) (count_is me (left_by me start es) so_far.stands.represents) in
             goes_on me start o mid there receives gives.one e node now old later t (serving_moved me start o receives so_far) (event_now me start o receives so_far) unstopped
-            (turned me (left_by me start es) (length (sent_of me start es)) serves so_far.stands.represents so_far.stands.whole so_far.hosts so_far.host so_far.number) runs is has count hosts host
+            (turned me (left_by me start es) (length (sent_of me start es)) serves so_far.stands.represents so_far.stands.whole so_far.hosts so_far.host so_far.number) runs is has counted hosts host

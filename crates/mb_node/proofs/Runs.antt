@@ -1,6 +1,6 @@
 -- A node's receives and events, one after the other.
 use Rattle.std.proofs.Common.{◌≡◌, ℕ, ◌+◌, ◌≤◌, Bool, true, false, List, [], ◌∷◌, ◌++◌, length, reverse, refl, sym, ap, ◌∙◌, append-nil, append_assoc, length-append, Option, Some, None, Ok, Err, arith}
-use Rattle.std.specs.Prelude.{◌%◌, ◌^◌, ◌==◌, ◌&&◌, ◌||◌, if◌then◌else◌, Result}
+use Rattle.std.specs.Prelude.{◌%◌, ◌^◌, ◌||◌, Result}
 use Rattle.std.specs.Io.KnownBytes.{Appends}
 use Rattle.std.proofs.lemmas.Bool.{false≢true}
 use Rattle.std.specs.List.{flat_map, AllByRecursion}
@@ -9,8 +9,7 @@ use Rattle.std.proofs.lemmas.List.Concat.{flat_map-append}
 use Rattle.mb_base.specs.Shapes.{Bytes, host_count}
 use Rattle.mb_service.specs.Machine.{ServiceMachine}
 use Rattle.mb_msg.specs.declared.event.Event.{Event}
-use Rattle.mb_msg.specs.declared.event.Event.TheVariants as event
-use Rattle.mb_model.specs.Histories.{History, Identity, onto}
+use Rattle.mb_model.specs.Histories.{History, Identity, onto, view_of}
 use Rattle.mb_steps.specs.Arises.{IsWhole}
 use Rattle.mb_sched.specs.declared.records.Entry.{Entry}
 use Rattle.mb_sched.specs.Records.{entry_text}
@@ -21,24 +20,25 @@ use Rattle.mb_edge.proofs.ToldLemmas.{with_more-nil, with_more-append}
 use Rattle.mb_core.specs.declared.replica.Replica.{Replica}
 use Rattle.mb_core.specs.Represents.{Represents}
 use Rattle.mb_replica.specs.Represents.{Serves}
-use Rattle.mb_replica.specs.Waiting.{wants}
 use Rattle.mb_node.specs.declared.node.Node.{Node}
 use Rattle.mb_node.specs.declared.outbox.Outbox.{Outbox}
-use Rattle.mb_node.specs.declared.receiving.Arrival.{Arrival}
-use Rattle.mb_node.specs.declared.receiving.Arrival.TheVariants as arrival
+use Rattle.mb_node.specs.declared.patience.Patience.{Patience}
+use Rattle.mb_node.specs.declared.patience.Shown.{Shown}
 use Rattle.mb_node.specs.declared.stops.ServeStop.{ServeStop}
 use Rattle.mb_node.specs.declared.stops.ServeStop.TheVariants as stop
 use Rattle.mb_node.specs.declared.turn.Turn.{Turn}
 use Rattle.mb_node.specs.Receives.{Receives, ReceiveFits, made_whole}
 use Rattle.mb_node.specs.Inboxes.{HasReceived, arrival_of, arrival_at}
-use Rattle.mb_node.specs.Events.{patience_limit, left_by, quiets, quiets_in, settles, stops, has_stop, events, given_to}
+use Rattle.mb_node.specs.Events.{left_by, worked_in, asked_again, quiets, patience, stops, has_stop, events, given_to}
 use Rattle.mb_node.specs.Recording.{end_line, entry_at, lines_at, entries_of, lines_of, sent_at, sent_of}
 use Rattle.mb_node.specs.Sends.{Sends, numbered}
 use Rattle.mb_node.specs.Outside.{Outside, Adds}
 use Rattle.mb_node.specs.Serving.{datagrams_at, datagrams_of, IsDone, IsCutOff, AreDone, AreCutOff, StandsBehind, Ends, HasServed}
-use Rattle.mb_node.specs.Turns.{HasTurned, Turned}
-use Rattle.mb_node.specs.Rounds.{quiets_of, event_of, IsServing, Goes, GoesOn, IsStopped, Rounds}
+use Rattle.mb_node.specs.Patience.{standing, fresh, is_spent, behind}
+use Rattle.mb_node.specs.Turns.{shown_by, HasTurned, Turned}
+use Rattle.mb_node.specs.Rounds.{event_of, IsServing, Goes, GoesOn, IsStopped, Rounds}
 use Rattle.mb_node.proofs.Told.{part_none, part_whole, sent_both}
+use Rattle.mb_node.proofs.Patient.{patience_more}
 use Rattle.mb_node.proofs.Peers.{numbered_both, numbered_none}
 
 -- nothing more was written
@@ -65,37 +65,22 @@ few_reversed [] le = refl
 few_reversed (x ∷ []) le = refl
 few_reversed (x ∷ (y ∷ more)) le = absurd (omega (arith, le))
 
--- a quiet counts, and a message doesn't
-one_quiet : (b : Bool) → quiets_in (if b then event.Patience else event.Nudge) ≡ 1
-one_quiet true = refl
-one_quiet false = refl
-
-pub same_quiets : (wanting : Bool) (q : ℕ) (a : Arrival) (e : Event) → event_of wanting q a ≡ Some e → quiets_of a ≡ quiets_in e
-same_quiets wanting q (arrival.Message m) e is = let same : event.Given m ≡ e = cc in ap quiets_in same
-same_quiets wanting q arrival.Nothing e is = absurd cc
-same_quiets wanting q arrival.Quiet e is =
-    let b : Bool = (q + 1) == patience_limit && wanting in
-    let same : (if b then event.Patience else event.Nudge) ≡ e = cc in
-    sym (one_quiet b) ∙ ap quiets_in same
-
--- what is no event counts nothing
-pub none_counts : (wanting : Bool) (q : ℕ) (a : Arrival) → event_of wanting q a ≡ None → q + quiets_of a ≡ q
-none_counts wanting q (arrival.Message m) is = absurd cc
-none_counts wanting q arrival.Nothing is = omega arith
-none_counts wanting q arrival.Quiet is = absurd cc
-
 module _ {V : Type 0} (me : Identity V) (start : History) where
   -- ---- the events of one receive more
 
-  given_events : (es : List Event) (w : Bool) (q : ℕ) (o : Option Bytes) → given_to me start es o ≡ onto (event_of w q (arrival_of o)) es
-  given_events es w q None = refl
-  given_events es w q (Some m) = refl
+  given_events : (es : List Event) (spent : Bool) (o : Option Bytes) → given_to me start es o ≡ onto (event_of spent (arrival_of o)) es
+  given_events es spent None = refl
+  given_events es spent (Some m) = refl
+
+  -- The next quiet is the last that the host bears.
+  abbrev pub spent_at : List Event → Patience → Bool
+  spent_at es p = is_spent (standing me (left_by me start es)) p
 
   pub next_events : (receives : Receives) (one : Option Bytes) → events me start (one ∷ receives)
-      ≡ onto (event_of (wants me (left_by me start (events me start receives))) (quiets me start (events me start receives)) (arrival_at me.shape receives one)) (events me start receives)
+      ≡ onto (event_of (spent_at (events me start receives) (patience me start (events me start receives))) (arrival_at me.shape receives one)) (events me start receives)
   unfolding events
   next_events receives None = refl
-  next_events receives (Some datagram) = given_events (events me start receives) (wants me (left_by me start (events me start receives))) (quiets me start (events me start receives)) (made_whole me.shape receives datagram)
+  next_events receives (Some datagram) = given_events (events me start receives) (spent_at (events me start receives) (patience me start (events me start receives))) (made_whole me.shape receives datagram)
 
   -- ---- what one event more adds
 
@@ -186,7 +171,7 @@ module _ {V : Type 0} (me : Identity V) (start : History) where
       → AreCutOff me start o here halted (events me start (more ++ receives))
   cut_lost o here halted receives [] runs few done unstopped = cut_done o here halted (events me start receives) runs done unstopped
   cut_lost o here halted receives (one ∷ []) runs few done unstopped =
-      rw (next_events receives one) (either (event_of (wants me (left_by me start (events me start receives))) (quiets me start (events me start receives)) (arrival_at me.shape receives one))) where
+      rw (next_events receives one) (either (event_of (spent_at (events me start receives) (patience me start (events me start receives))) (arrival_at me.shape receives one))) where
         either : (e : Option Event) → AreCutOff me start o here halted (onto e (events me start receives))
         either None = cut_done o here halted (events me start receives) runs done unstopped
         either (Some e) = cut_begun o here halted (events me start receives) e done unstopped
@@ -196,7 +181,7 @@ module _ {V : Type 0} (me : Identity V) (start : History) where
 
   -- that is no event
   pub serving_same : (o here : Outside) (receives : Receives) (one : Option Bytes) (node now : Node) (r : Replica V) → IsServing me start o receives here node r → events me start (one ∷ receives) ≡ events me start receives
-      → HasReceived me.shape (one ∷ receives) now.receiver.inbox → now.quiets ≡ node.quiets → now.outbox ≡ node.outbox → IsServing me start o (one ∷ receives) here now r
+      → HasReceived me.shape (one ∷ receives) now.receiver.inbox → now.patience ≡ node.patience → now.outbox ≡ node.outbox → IsServing me start o (one ∷ receives) here now r
   serving_same o here receives one node now r so_far same has counted outbox = record {
     done = rw same so_far.done;
     stands = rw same so_far.stands;
@@ -230,15 +215,15 @@ module _ {V : Type 0} (me : Identity V) (start : History) where
     pub goes_to_stop : t.stops ≡ true → Goes me start o (one ∷ receives) there now later true
     goes_to_stop stopping = (turned_done, (stops_now stopping, unstopped), turned_stands)
 
-    counted_more : now.quiets ≡ (if t.settles then 0 else node.quiets + quiets_in e) → now.quiets ≡ quiets me start (events me start (one ∷ receives))
-    unfolding quiets
-    counted_more count = rw is (count ∙ ap (λ (b : Bool). if b then 0 else node.quiets + quiets_in e) turned.settling ∙ ap (λ (n : ℕ). if settles me (left_by me start (events me start receives)) e then 0 else n + quiets_in e) so_far.counted)
+    counted_more : now.patience ≡ behind t.shown node.patience → now.patience ≡ patience me start (events me start (one ∷ receives))
+    counted_more count =
+        rw is (count ∙ ap (λ (s : Shown). behind s node.patience) turned.showing ∙ ap (behind (shown_by me (left_by me start (events me start receives)) e)) so_far.counted ∙ sym (patience_more me start (events me start receives) e))
 
     number_more : now.outbox.number ≡ length (sent_of me start (events me start (one ∷ receives))) % 2 ^ 32
     unfolding sent_of
     number_more = rw is (turned.numbers ∙ ap (λ (n : ℕ). n % 2 ^ 32) (sym (length-append (sent_of me start (events me start receives)) (sent_at me (left_by me start (events me start receives)) e))))
 
-    pub goes_on : t.stops ≡ false → HasReceived me.shape (one ∷ receives) now.receiver.inbox → now.quiets ≡ (if t.settles then 0 else node.quiets + quiets_in e)
+    pub goes_on : t.stops ≡ false → HasReceived me.shape (one ∷ receives) now.receiver.inbox → now.patience ≡ behind t.shown node.patience
         → now.outbox.hosts ≡ node.outbox.hosts → now.outbox.host ≡ node.outbox.host → Goes me start o (one ∷ receives) there now later false
     goes_on going has count hosts host = (
       record {
@@ -265,8 +250,8 @@ module _ {V : Type 0} (machine : ServiceMachine V) (old : Replica V) (told : Opt
     pub stands : (me : Identity V) (d : History) → Serves machine me → Represents me old d → IsWhole d → IsServing me d before receives here node now × (has_stop me d (events me d receives) ≡ false)
 
   unfoldable pub so_far_none : (node : Node) → old.halted ≡ false → ((me : Identity V) (d : History) → Represents me old d → HasReceived me.shape [] node.receiver.inbox)
-      → ((me : Identity V) (d : History) → Represents me old d → node.outbox ≡ record { host = me.host; hosts = host_count me.shape; number = 0 }) → node.quiets ≡ 0 → SoFar old told before node 0
-  unfolding left_by events quiets sent_of
+      → ((me : Identity V) (d : History) → Represents me old d → node.outbox ≡ record { host = me.host; hosts = host_count me.shape; number = 0 }) → ((me : Identity V) (d : History) → Represents me old d → node.patience ≡ fresh (view_of me d)) → SoFar old told before node 0
+  unfolding left_by events quiets worked_in asked_again sent_of
   so_far_none node runs inbox outbox none = record {
     receives = [];
     told_is = sym (with_more-nil told);
@@ -277,7 +262,7 @@ module _ {V : Type 0} (machine : ServiceMachine V) (old : Replica V) (told : Opt
         done = done_none me d before;
         stands = record { represents = rep; whole = whole; runs = runs };
         inbox = inbox me d rep;
-        counted = none;
+        counted = none me d rep;
         hosts = ap (λ (b : Outbox). b.hosts) (outbox me d rep);
         host = ap (λ (b : Outbox). b.host) (outbox me d rep);
         number = ap (λ (b : Outbox). b.number) (outbox me d rep);

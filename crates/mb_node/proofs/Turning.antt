@@ -1,6 +1,6 @@
 -- What an event writes and sends, by its step.
 use Rattle.std.proofs.Common.{◌≡◌, ℕ, ◌+◌, Bool, false, List, [], length, take, drop, refl, sym, ap, ◌∙◌, Err}
-use Rattle.std.specs.Prelude.{◌%◌, ◌^◌, ◌||◌, not, Result}
+use Rattle.std.specs.Prelude.{◌%◌, ◌^◌, ◌&&◌, not, Option, Result}
 use Rattle.std.specs.Io.KnownBytes.{Appends}
 use Rattle.std.proofs.lemmas.Bool.{false≢true}
 use Rattle.std.proofs.lemmas.List.{take-append-drop}
@@ -17,17 +17,19 @@ use Rattle.mb_edge.specs.Pieces.{AppendsPart}
 use Rattle.mb_edge.specs.Told.{with_more}
 use Rattle.mb_edge.proofs.ToldLemmas.{with_more-nil}
 use Rattle.mb_core.specs.declared.replica.Replica.{Replica}
-use Rattle.mb_replica.specs.Waiting.{wants}
 use Rattle.mb_node.specs.declared.outbox.Outbox.{Outbox}
+use Rattle.mb_node.specs.declared.patience.Shown.{Shown}
+use Rattle.mb_node.specs.declared.patience.Standing.{Standing}
 use Rattle.mb_node.specs.declared.stops.ServeStop.{ServeStop}
 use Rattle.mb_node.specs.declared.stops.ServeStop.TheVariants as stop
 use Rattle.mb_node.specs.declared.turn.Turn.{Turn}
-use Rattle.mb_node.specs.Events.{is_stopping, is_patience, executes_none, stops, settles}
+use Rattle.mb_node.specs.Events.{is_stopping, is_patience, is_again, quiets_in, next, stops}
+use Rattle.mb_node.specs.Patience.{standing, course_of}
 use Rattle.mb_node.specs.Recording.{entry_with, lines_with, lines_at}
 use Rattle.mb_node.specs.Sends.{numbered}
 use Rattle.mb_node.specs.Outside.{Outside, SendsPart}
 use Rattle.mb_node.specs.Serving.{datagrams_at, IsCutOff}
-use Rattle.mb_node.specs.Turns.{Steps, HasTurned, Turned}
+use Rattle.mb_node.specs.Turns.{shown_of, shown_by, Steps, HasTurned, Turned}
 use Rattle.mb_node.proofs.Told.{part_none, part_whole}
 use Rattle.mb_node.proofs.Runs.{appends_none}
 
@@ -46,23 +48,35 @@ module _ {V : Type 0} (me : Identity V) (d : History) (e : Event) (s : Step) (r 
   sends_are hosts host n count who =
       ap (λ (k : ℕ). numbered k host n s.sent) count ∙ ap (λ (k : ℕ). numbered (host_count me.shape) k n s.sent) who ∙ ap (numbered (host_count me.shape) me.host n) is.step.sent
 
-  pub settling_is : (wanting b : Bool) → wanting ≡ wants me (transition me d e).left.history → b ≡ (is_patience e || (not (executes_none s.executed) || not wanting)) → b ≡ settles me d e
-  settling_is wanting b want made =
-      made ∙ ap (λ (l : List Slot). is_patience e || (not (executes_none l) || not wanting)) is.step.executed
-      ∙ ap (λ (w : Bool). is_patience e || (not (executes_none (transition me d e).left.executed) || not w)) want
+  pub showing_is : (before after : Standing) (t : Shown) → before ≡ standing me d → after ≡ standing me (next me d e) → t ≡ shown_of e s before after → t ≡ shown_by me d e
+  showing_is before after t stood stands made =
+      let of : Outcome → List Slot → Option ℕ → Standing → Standing → Shown = λ o l p x y. record {
+        quiets = quiets_in e;
+        lost = is_patience e;
+        again = is_again o;
+        begins = not x.waits && y.waits;
+        course = course_of l p x.at y.at;
+        view = y.at.view;
+        waits = y.waits;
+      } in
+      made ∙ ap (λ (o : Outcome). of o s.executed s.adopted before after) is.step.outcome
+      ∙ ap (λ (l : List Slot). of (transition me d e).outcome l s.adopted before after) is.step.executed
+      ∙ ap (λ (p : Option ℕ). of (transition me d e).outcome (transition me d e).left.executed p before after) is.step.adopted
+      ∙ ap (λ (x : Standing). of (transition me d e).outcome (transition me d e).left.executed (transition me d e).left.installed x after) stood
+      ∙ ap (λ (y : Standing). of (transition me d e).outcome (transition me d e).left.executed (transition me d e).left.installed (standing me d) y) stands
 
   -- ---- how far it came
 
   module _ (n hosts host : ℕ) (here there : Outside) (text : Bytes) (text_is : text ≡ lines_at me d e) (sends_is : numbered hosts host n s.sent ≡ datagrams_at me n d e) where
     pub turned : (outbox : Outbox) (t : Turn) → Appends here.written there.written text → there.sent ≡ with_more here.sent (numbered hosts host n s.sent) → outbox.number ≡ (n + length s.sent) % 2 ^ 32
-        → t.stops ≡ is_stopping s.outcome → t.settles ≡ settles me d e → HasTurned me d n e here there r outbox t
-    turned outbox t written sent number stopping settling = record {
+        → t.stops ≡ is_stopping s.outcome → t.shown ≡ shown_by me d e → HasTurned me d n e here there r outbox t
+    turned outbox t written sent number stopping showing = record {
       done = record { adds = record { written = rw (← text_is) written; sent = rw (← sends_is) sent } };
       represents = is.represents;
       whole = is.whole;
       numbers = number ∙ ap (λ (l : List Sent). (n + length l) % 2 ^ 32) is.step.sent;
       stopping = stopping ∙ ap is_stopping is.step.outcome;
-      settling = settling;
+      showing = showing;
     }
 
     pub cut_sending : r.halted ≡ false → Appends here.written there.written text → SendsPart (numbered hosts host n s.sent) here.sent there.sent → IsCutOff me here there r.halted n d e

@@ -1,5 +1,6 @@
 pub mod Stops
 pub mod Receives
+pub mod Patience
 pub mod Events
 pub mod Recording
 pub mod Sends

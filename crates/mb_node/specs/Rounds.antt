@@ -1,5 +1,5 @@
 -- A node between two receives, and what one receive leads to.
-use Rattle.std.specs.Prelude.{◌≡◌, ℕ, ◌+◌, ◌%◌, ◌^◌, ◌≤◌, ◌==◌, ◌&&◌, ◌++◌, Bool, true, false, [], ◌∷◌, length, if◌then◌else◌, Option, Some, None, Result, Ok, Err}
+use Rattle.std.specs.Prelude.{◌≡◌, ◌%◌, ◌^◌, ◌≤◌, ◌++◌, Bool, true, false, [], ◌∷◌, length, if◌then◌else◌, Option, Some, None, Result, Ok, Err}
 use Rattle.std.specs.List.{AllByRecursion}
 use Rattle.mb_base.specs.Shapes.{Bytes, host_count}
 use Rattle.mb_service.specs.Machine.{ServiceMachine}
@@ -17,21 +17,16 @@ use Rattle.mb_node.specs.declared.stops.ServeStop.{ServeStop}
 use Rattle.mb_node.specs.declared.stops.ServeStop.TheVariants as stop
 use Rattle.mb_node.specs.Receives.{Receives, ReceiveFits}
 use Rattle.mb_node.specs.Inboxes.{HasReceived}
-use Rattle.mb_node.specs.Events.{patience_limit, quiets, has_stop, events}
+use Rattle.mb_node.specs.Events.{patience, has_stop, events}
 use Rattle.mb_node.specs.Recording.{sent_of}
 use Rattle.mb_node.specs.Outside.{Outside, outside}
 use Rattle.mb_node.specs.Serving.{AreDone, AreCutOff, EndsByStop, StandsBehind}
 
--- how many quiets an arrival is
-abbrev pub quiets_of : Arrival → ℕ
-quiets_of arrival.Quiet = 1
-quiets_of a = 0
-
--- the event of an arrival behind so many quiets, at a host that wants something or not
-abbrev pub event_of : Bool → ℕ → Arrival → Option Event
-event_of wanting quiets (arrival.Message m) = Some (event.Given m)
-event_of wanting quiets arrival.Nothing = None
-event_of wanting quiets arrival.Quiet = Some (if (quiets + 1) == patience_limit && wanting then event.Patience else event.Nudge)
+-- the event of an arrival, where a quiet is the last that the host bears, or not
+abbrev pub event_of : Bool → Arrival → Option Event
+event_of spent (arrival.Message m) = Some (event.Given m)
+event_of spent arrival.Nothing = None
+event_of spent arrival.Quiet = Some (if spent then event.Patience else event.Nudge)
 
 module _ {V : Type 0} where
   -- A node stands behind these receives: their events are whole, with what they wrote and sent since the start.
@@ -39,7 +34,7 @@ module _ {V : Type 0} where
     pub done : AreDone me start before now (events me start receives)
     pub stands : StandsBehind me start r (events me start receives)
     pub inbox : HasReceived me.shape receives node.receiver.inbox
-    pub counted : node.quiets ≡ quiets me start (events me start receives)
+    pub counted : node.patience ≡ patience me start (events me start receives)
     pub hosts : node.outbox.hosts ≡ host_count me.shape
     pub host : node.outbox.host ≡ me.host
     pub number : node.outbox.number ≡ length (sent_of me start (events me start receives)) % 2 ^ 32

@@ -9,6 +9,7 @@
 //! | `inbox`, `receiving` | which messages datagrams make whole | `specs/Receives`, `Inboxes`, `Receiving` |
 //! | `entries` | the lines of the record | `specs/Recording` |
 //! | `outbox` | messages as datagrams to their peers | `specs/Sends`, `Messages` |
+//! | `patience` | how many quiets a host bears | `specs/Patience`, `Events` |
 //! | `turn` | one event | `specs/Turns` |
 //! | `keeping` | one event in a journal, before its step | `specs/Keeping` |
 //! | `node` | one receive, and which event it is | `specs/Events`, `Rounds` |
@@ -28,6 +29,7 @@ mod inbox;
 mod keeping;
 mod node;
 mod outbox;
+mod patience;
 mod receiving;
 mod replaying;
 mod retracing;

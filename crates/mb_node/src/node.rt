@@ -5,21 +5,22 @@ ghost use Rattle.mb_base.specs.Shapes.{host_count};
 ghost use Rattle.mb_core.specs.Represents.{IsAtRest};
 ghost use Rattle.mb_node.specs.Inboxes.{HasReceived};
 ghost use Rattle.mb_edge.specs.Faults.{TellsFaults};
-ghost use Rattle.mb_node.specs.Rounds.{RoundsOver, event_of, quiets_of};
+ghost use Rattle.mb_node.specs.Rounds.{RoundsOver, event_of};
+ghost use Rattle.mb_node.specs.Patience.{standing, fresh, is_spent};
 ghost use Rattle.mb_node.specs.Keeping.{RoundsKept};
 ghost use Rattle.mb_node.specs.Receiving.{ArrivalFits};
 ghost use Rattle.mb_journal.specs.Files.{EventFits};
 ghost use Rattle.mb_node.specs.Stops.{IsOfDisk};
 ghost use Rattle.mb_model.specs.Histories.{Identity, History};
 ghost use Rattle.mb_core.specs.Represents.{Represents};
-ghost use Rattle.mb_replica.specs.Waiting.{wants};
 
 use crate::keeping::keep;
 use crate::outbox::Outbox;
+use crate::patience::{Patience, Standing};
 use crate::receiving::{Arrival, Receiver};
 use crate::stops::ServeStop;
 use crate::turn::take_turn;
-use mb_base::{Host, NoMemory, Shape};
+use mb_base::{Host, NoMemory, Shape, View};
 use mb_core::Replica;
 use mb_edge::{Disk, Link, Sink};
 use mb_journal::Journal;
@@ -27,24 +28,25 @@ use mb_msg::Event;
 use mb_service::Service;
 use std::alloc::Global;
 
-/// The quiet that counts so many makes a host lose patience, where it wants something.
-const PATIENCE: u64 = 8;
-
 /// What a node keeps between two receives, beside the host.
 #[derive(Drop)]
 pub(crate) struct Node {
     receiver: Receiver,
     outbox: Outbox,
-    /// How many quiets count.
-    quiets: u64,
+    patience: Patience,
 }
 
 impl Node {
-    /// Nothing was received and sent yet.
-    pub(crate) fn make(alloc: Global, shape: Shape, host: Host) -> Result<Node, NoMemory>
+    /// That of a host which stands in this view. Nothing was received and sent yet.
+    pub(crate) fn make(
+        alloc: Global,
+        shape: Shape,
+        host: Host,
+        view: View,
+    ) -> Result<Node, NoMemory>
         ensures inbox { IfOk result (λ node. HasReceived shape [] node.receiver.inbox) }
         ensures outbox { IfOk result (λ node. node.outbox ≡ record { host = host; hosts = host_count shape; number = 0 }) }
-        ensures quiets { IfOk result (λ node. node.quiets ≡ 0) }
+        ensures patience { IfOk result (λ node. node.patience ≡ fresh view) }
     {
         Ok(Node {
             receiver: Receiver::make(alloc, shape)?,
@@ -53,7 +55,7 @@ impl Node {
                 hosts: shape.n(),
                 number: 0,
             },
-            quiets: 0,
+            patience: Patience::new(view),
         })
     }
 
@@ -65,12 +67,12 @@ impl Node {
         link: &mut L,
         out: &mut K,
     ) -> Result<bool, ServeStop>
-        requires few { self.old.quiets < 2 ^ 64 - 1 }
+        requires few { self.old.patience.quiets < 2 ^ 64 - 1 }
         requires runs { replica.old.halted ≡ false }
         requires rests { IsAtRest V.machine replica.old }
         ensures rounds { RoundsOver V.machine self.old self.new replica.old replica.new (L.seen link.old) (L.seen link.new) (K.seen out.old) (K.seen out.new) result }
         ensures alone { IfErr result (λ s. ¬ IsOfDisk s) }
-        ensures few { self.new.quiets ≤ self.old.quiets + 1 }
+        ensures few { self.new.patience.quiets ≤ self.old.patience.quiets + 1 }
         ensures runs { OnOk result (replica.new.halted ≡ false) }
         ensures rests { replica.new.halted ≡ false → IsAtRest V.machine replica.new }
         ensures opens { (L.seen link.new).opens ≡ (L.seen link.old).opens }
@@ -82,9 +84,7 @@ impl Node {
             return Ok(false);
         };
         let turn = take_turn(alloc, replica, link, out, &mut self.outbox, event)?;
-        if turn.settles {
-            self.quiets = 0;
-        }
+        self.patience = self.patience.behind(turn.shown);
         Ok(turn.stops)
     }
 
@@ -98,12 +98,12 @@ impl Node {
         link: &mut L,
         out: &mut K,
     ) -> Result<bool, ServeStop>
-        requires few { self.old.quiets < 2 ^ 64 - 1 }
+        requires few { self.old.patience.quiets < 2 ^ 64 - 1 }
         requires runs { replica.old.halted ≡ false }
         requires rests { IsAtRest V.machine replica.old }
         requires keeps { journal.old.halted ≡ false }
         ensures rounds { RoundsKept V.machine self.old self.new replica.old replica.new journal.old journal.new (D.seen disk.old) (D.seen disk.new) (L.seen link.old) (L.seen link.new) (K.seen out.old) (K.seen out.new) result }
-        ensures few { self.new.quiets ≤ self.old.quiets + 1 }
+        ensures few { self.new.patience.quiets ≤ self.old.patience.quiets + 1 }
         ensures runs { OnOk result (replica.new.halted ≡ false) }
         ensures rests { replica.new.halted ≡ false → IsAtRest V.machine replica.new }
         ensures keeps { OnOk result (journal.new.halted ≡ false) }
@@ -118,34 +118,22 @@ impl Node {
         };
         keep(journal, disk, &event)?;
         let turn = take_turn(alloc, replica, link, out, &mut self.outbox, event)?;
-        if turn.settles {
-            self.quiets = 0;
-        }
+        self.patience = self.patience.behind(turn.shown);
         Ok(turn.stops)
     }
 
-    /// The event of what arrived. A quiet counts.
-    fn event_of<V: Service + Drop>(
-        &mut self,
-        replica: &Replica<V>,
-        arrival: Arrival,
-    ) -> Option<Event>
-        requires { self.old.quiets < 2 ^ 64 - 1 }
-        ensures event { (me : Identity V) (d : History) → Represents me replica.now d → result ≡ event_of (wants me d) self.old.quiets arrival }
-        ensures counts { self.new ≡ record self.old { quiets = self.old.quiets + quiets_of arrival } }
+    /// The event of what arrived.
+    fn event_of<V: Service + Drop>(&self, replica: &Replica<V>, arrival: Arrival) -> Option<Event>
+        ensures event { (me : Identity V) (d : History) → Represents me replica.now d → result ≡ event_of (is_spent (standing me d) self.now.patience) arrival }
         ensures fits { ArrivalFits arrival → IfSome result EventFits }
     {
         match arrival {
             Arrival::Message(message) => Some(Event::Given(message)),
             Arrival::Nothing => None,
-            Arrival::Quiet => {
-                self.quiets += 1;
-                if self.quiets == PATIENCE && replica.wants() {
-                    Some(Event::Patience)
-                } else {
-                    Some(Event::Nudge)
-                }
+            Arrival::Quiet if self.patience.is_spent(&Standing::of(replica)) => {
+                Some(Event::Patience)
             }
+            Arrival::Quiet => Some(Event::Nudge),
         }
     }
 }

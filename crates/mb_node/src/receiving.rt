@@ -16,7 +16,7 @@ pub(crate) enum Arrival {
     Message(Items<u8>),
     /// A datagram came, and no message is whole.
     Nothing,
-    /// No datagram came for a while.
+    /// A while has passed since the last quiet.
     Quiet,
 }
 

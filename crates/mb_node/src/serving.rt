@@ -17,9 +17,9 @@ use std::alloc::Global;
 
 /// Serves as a host: at most so many receives, until a STOP with a right tag. The host has not run out of memory.
 ///
-/// Each whole message is an event, and so is each quiet: at the eighth quiet since the host last executed something, lost patience or wanted
-/// nothing, it loses patience where it wants something, and every other quiet is a nudge. After each step the record's two lines are written to
-/// `out`, behind those of a right STOP also `end`, and then the messages are sent, the pieces of each under one number, from 0 on. `Ok` comes
+/// Each whole message is an event, and so is each quiet. A host that waits for something loses patience at the eighth quiet since it began to wait, executed
+/// something, lost patience or opened its view; one that was only asked again for what it had executed at the fortieth; and twice as late for each view by
+/// which it is ahead of the last one that it saw work. Every other quiet is a nudge. After each step the record's two lines are written to `out`, behind those of a right STOP also `end`, and then the messages are sent, the pieces of each under one number, from 0 on. `Ok` comes
 /// exactly at a right STOP; `Budget` where that many receives were made and none brought one; `LinkFault` and `SinkFault` only where that count
 /// of faults rose. `DiskFault` and `Full` never come.
 pub fn serve<V: Service + Drop, K: Sink, L: Link>(
@@ -38,7 +38,7 @@ pub fn serve<V: Service + Drop, K: Sink, L: Link>(
     ensures link { TellsFaults (L.never_fails link.old) (L.never_fails link.new) (L.seen link.old).faults (L.seen link.new).faults (IsErrOf result ServeStop.LinkFault) }
     ensures sink { TellsFaults (K.never_fails out.old) (K.never_fails out.new) (K.seen out.old).faults (K.seen out.new).faults (IsErrOf result ServeStop.SinkFault) }
 {
-    let mut node = Node::make(alloc, replica.shape(), replica.host())?;
+    let mut node = Node::make(alloc, replica.shape(), replica.host(), replica.at().view)?;
     for _ in 0..events {
         if node.round(alloc, replica, link, out)? {
             return Ok(());
@@ -71,7 +71,7 @@ pub fn serve_kept<V: Service + Drop, K: Sink, L: Link, D: Disk>(
     ensures sink { TellsFaults (K.never_fails out.old) (K.never_fails out.new) (K.seen out.old).faults (K.seen out.new).faults (IsErrOf result ServeStop.SinkFault) }
     ensures disk { TellsFaults (D.never_fails disk.old) (D.never_fails disk.new) (D.seen disk.old).faults (D.seen disk.new).faults (IsErrOf result ServeStop.DiskFault) }
 {
-    let mut node = Node::make(alloc, replica.shape(), replica.host())?;
+    let mut node = Node::make(alloc, replica.shape(), replica.host(), replica.at().view)?;
     for _ in 0..receives {
         if node.kept_round(alloc, replica, journal, disk, link, out)? {
             return Ok(());

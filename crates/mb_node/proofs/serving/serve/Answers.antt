@@ -2,7 +2,10 @@ use Rattle.std.proofs.Common.{◌≡◌, ◌∙◌, ℕ, Bool, [], refl, ap, sym
 use Rattle.std.proofs.lemmas.Result.{err_from_is_err_and}
 use Rattle.mb_base.specs.Shapes.{host_count}
 use Rattle.mb_base.specs.declared.shape.Shape.{Shape}
+use Rattle.mb_parts.specs.declared.floor.Floor.{Floor}
 use Rattle.mb_node.specs.declared.outbox.Outbox.{Outbox}
+use Rattle.mb_node.specs.declared.patience.Patience.{Patience}
+use Rattle.mb_node.specs.Patience.{fresh}
 use Rattle.mb_node.specs.Inboxes.{HasReceived}
 use Rattle.mb_node.specs.Rounds.{GoesOn}
 use Rattle.mb_node.proofs.Faults.{calm_none, calm_both, calm_of}
@@ -24,8 +27,8 @@ loop-init g c =
           (λ me d rep.
           let outbox_of : ℕ → Shape → Outbox = λ h s. record { host = h; hosts = host_count s; number = 0 } in
           made.outbox ∙ ap (λ (h : ℕ). outbox_of h c.shape.result) (c.host.ensures ∙ sym rep.who.host) ∙ ap (outbox_of me.host) (c.shape.ensures ∙ sym rep.who.shape))
-          made.quiets;
-      few = omega (arith, made.quiets);
+          (λ me d rep. made.patience ∙ ap (λ (f : Floor). fresh f.view) (c.at.ensures me d rep));
+      few = omega (arith, ap (λ (p : Patience). p.quiets) made.patience);
       runs = c.requires.runs;
       rests = c.requires.rests;
       opens = refl;

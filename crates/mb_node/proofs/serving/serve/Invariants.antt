@@ -12,7 +12,7 @@ invariant-loop g l =
     record {
       so_far : SoFar v.machine l.fn.replica (link.seen l.fn.link).received (record { written = (sink.seen l.fn.out).bytes; sent = (link.seen l.fn.link).sent })
           l.replica (link.seen l.link).received (record { written = (sink.seen l.out).bytes; sent = (link.seen l.link).sent }) l.node l.counter;
-      few : l.node.quiets ≤ l.counter;
+      few : l.node.patience.quiets ≤ l.counter;
       runs : l.replica.halted ≡ false;
       rests : IsAtRest v.machine l.replica;
       opens : (link.seen l.link).opens ≡ (link.seen l.fn.link).opens;

@@ -13,7 +13,7 @@ invariant-loop g l =
     record {
       so_far : KeptSoFar v.machine l.fn.replica l.fn.journal (disk.seen l.fn.disk).moments (link.seen l.fn.link).received (record { written = (sink.seen l.fn.out).bytes; sent = (link.seen l.fn.link).sent })
           l.replica l.journal (disk.seen l.disk).moments (link.seen l.link).received (record { written = (sink.seen l.out).bytes; sent = (link.seen l.link).sent }) l.node l.counter;
-      few : l.node.quiets ≤ l.counter;
+      few : l.node.patience.quiets ≤ l.counter;
       runs : l.replica.halted ≡ false;
       rests : IsAtRest v.machine l.replica;
       keeps : l.journal.halted ≡ false;

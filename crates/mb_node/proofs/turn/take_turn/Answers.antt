@@ -3,13 +3,14 @@ use Rattle.std.specs.Prelude.{◌%◌, ◌^◌}
 use Rattle.std.proofs.lemmas.Result.{err_from_is_err_and}
 use Rattle.mb_base.specs.Shapes.{Bytes}
 use Rattle.mb_msg.specs.declared.event.Sent.{Sent}
+use Rattle.mb_model.specs.Histories.{History}
 use Rattle.mb_model.specs.HostStep.{transition}
 use Rattle.mb_edge.specs.Told.{with_more}
 use Rattle.mb_node.specs.Recording.{entry_with, lines_with, lines_at}
 use Rattle.mb_node.specs.Sends.{numbered}
 use Rattle.mb_node.specs.Outside.{SendsPart}
 use Rattle.mb_node.proofs.Faults.{link_no_budget, sink_no_budget, link_alone, sink_alone}
-use Rattle.mb_node.proofs.Turning.{cut_none, turned_err, lines_are, sends_are, settling_is, turned, cut_sending, cut_writing}
+use Rattle.mb_node.proofs.Turning.{cut_none, turned_err, lines_are, sends_are, showing_is, turned, cut_sending, cut_writing}
 use Rattle.mb_node.proofs.turn.take_turn.Goals as goal
 
 pub returns-in_err-step-clause-stands : goal.returns-in_err-step-clause-stands
@@ -63,9 +64,10 @@ returns-clause-stands g c = λ me d n serves rep whole hosts host number.
     let lines : text ≡ lines_at me d e = lines_are me d e s r steps c.is_stopping.result text c.is_stopping.ensures made in
     let sent = c.in_ok-send_all.ensures.sends n number ∙ ap (λ (l : List Sent). with_more (g.L.Link.seen c.args.link.now).sent (numbered outbox.hosts outbox.host n l)) c.as_slice-sent.ensures in
     let count = c.in_ok-send_all.ensures.number n number ∙ ap (λ (l : List Sent). (n + length l) % 2 ^ 32) c.as_slice-sent.ensures in
-    let want = c.wants.ensures me (transition me d e).left.history steps.represents in
+    let later : History = (transition me d e).left.history in
+    let showing = showing_is me d e s r steps c.of-before.result c.of.result c.shown.result (c.of-before.ensures me d rep) (c.of.ensures me later steps.represents) c.shown.ensures in
     turned me d e s r steps n outbox.hosts outbox.host _ _ text lines (sends_are me d e s r steps outbox.hosts outbox.host n hosts host) c.send_all.new.self _ c.in_ok-write_all.ensures.all sent count c.is_stopping.ensures
-    (settling_is me d e s r steps c.wants.result c.settles.result want c.settles.ensures)
+    showing
 
 pub returns-in_err-step-clause-alone : goal.returns-in_err-step-clause-alone
 returns-in_err-step-clause-alone g c =

@@ -1,8 +1,5 @@
-use Rattle.std.proofs.Common.{◌≡◌, ◌∙◌, [], ◌∷◌, Option, refl, ap, sym, subst}
+use Rattle.std.proofs.Common.{◌≡◌, ◌∙◌, [], ◌∷◌, Option, refl, sym, subst}
 use Rattle.std.proofs.lemmas.Result.{err_from_is_err_and}
-use Rattle.mb_replica.specs.Waiting.{wants}
-use Rattle.mb_node.specs.declared.node.Node.{Node}
-use Rattle.mb_node.specs.declared.outbox.Outbox.{Outbox}
 use Rattle.mb_node.specs.Receives.{Receives}
 use Rattle.mb_node.specs.Receiving.{GivesOne}
 use Rattle.mb_node.specs.declared.stops.ServeStop.{ServeStop}
@@ -11,7 +8,7 @@ use Rattle.mb_node.specs.Stops.{IsOfDisk, IsOfKeeping}
 use Rattle.mb_node.specs.Keeping.{AreKept, IsFullFor}
 use Rattle.mb_node.proofs.Faults.{link_no_budget, keeping_no_budget, link_alone, link_unwritten, calm_none, calm_of, counts_none, counts_after, counts_as}
 use Rattle.mb_node.proofs.Kept.{keeping_unlinked, keeping_unwritten}
-use Rattle.mb_node.proofs.Runs.{none_counts, turn_stopped}
+use Rattle.mb_node.proofs.Runs.{turn_stopped}
 use Rattle.mb_node.proofs.KeptRounds.{kept_lost, kept_quietly, kept_unsaid, kept_cut, kept_turned, stopped_kept}
 use Rattle.mb_node.proofs.node.Node.kept_round.Goals as goal
 
@@ -24,12 +21,8 @@ returns-in_err-arrived-clause-rounds g c =
 
 pub returns-in_default-clause-rounds : goal.returns-in_default-clause-rounds
 returns-in_default-clause-rounds g c =
-    let r = c.requires.rests in
-    let counts = c.event_of.ensures.counts in
     kept_quietly _ c.args.self.now c.args.replica.now _ _ _ _ refl c.receive.ensures.sent c.receive.new.self c.in_ok-arrived.arrived c.in_ok-arrived.ensures.gives c.event_of.result (λ me d rep. c.event_of.ensures.event me d rep)
-    c.event_of.new.self _ _ c.in_default.is (ap (λ (n : Node). n.receiver) counts)
-    (ap (λ (n : Node). n.quiets) counts ∙ none_counts (wants r.me r.history) c.args.self.now.quiets c.in_ok-arrived.arrived (sym (c.event_of.ensures.event r.me r.history r.represents) ∙ c.in_default.is))
-    (ap (λ (n : Node). n.outbox) counts)
+    _ _ _ c.in_default.is refl refl refl
 
 pub returns-in_err-keep-clause-rounds : goal.returns-in_err-keep-clause-rounds
 returns-in_err-keep-clause-rounds g c =
@@ -60,34 +53,20 @@ returns-in_err-keep-clause-disk g c =
 pub returns-in_err-turn-clause-rounds : goal.returns-in_err-turn-clause-rounds
 returns-in_err-turn-clause-rounds g c =
     let p = err_from_is_err_and c.from_residual-in_err-turn.result c.from_residual-in_err-turn.ensures.1 in
-    let counts = c.event_of.ensures.counts in
-    let same : c.event_of.new.self.outbox ≡ c.args.self.now.outbox = ap (λ (n : Node). n.outbox) counts in
     let gives = subst (λ (t : Option Receives). GivesOne c.args.self.now.receiver c.receive.new.self c.in_ok-arrived.arrived (g.L.Link.seen c.args.link.now).received t) (sym c.in_err-turn.ensures.received) c.in_ok-arrived.ensures.gives in
     stopped_kept _ _ _ _ _ _ _ _ _ _ _ _ _ c.from_residual-in_err-turn.result p.0 p.1 (λ n is. c.in_err-turn.ensures.unspent n (let e = sym p.2 ∙ is in cc))
     (kept_cut _ c.args.self.now c.args.replica.now _ _ _ _ refl c.receive.ensures.sent c.receive.new.self c.in_ok-arrived.arrived gives c.event_of.result (λ me d rep. c.event_of.ensures.event me d rep)
     c.in-Some.event c.in-Some.is c.args.journal.now c.keep.new.journal _ _ c.take_turn.new.replica _ p.0 (subst (λ (s : ServeStop). ¬ IsOfDisk s) (sym p.2) c.in_err-turn.ensures.alone) c.in_ok-keep.ensures.kept c.in_ok-keep.ensures.runs
     (λ me d n serves rep whole hosts host number. (turn_stopped me d n c.in-Some.event (record { written = (g.K.Sink.seen c.args.out.now).bytes; sent = (g.L.Link.seen c.receive.new.link).sent }) (record { written = (g.K.Sink.seen c.take_turn.new.out).bytes; sent = (g.L.Link.seen c.take_turn.new.link).sent }) c.take_turn.new.replica c.take_turn.new.outbox c.in_err-turn.field-0.0
-    (c.in_err-turn.ensures.stands me d n serves rep whole (ap (λ (b : Outbox). b.hosts) same ∙ hosts) (ap (λ (b : Outbox). b.host) same ∙ host) (ap (λ (b : Outbox). b.number) same ∙ number))).1))
+    (c.in_err-turn.ensures.stands me d n serves rep whole hosts host number)).1))
 
-pub returns-then-turn-clause-rounds : goal.returns-then-turn-clause-rounds
-returns-then-turn-clause-rounds g c =
-    let counts = c.event_of.ensures.counts in
-    let same : c.event_of.new.self.outbox ≡ c.args.self.now.outbox = ap (λ (n : Node). n.outbox) counts in
+pub returns-clause-rounds : goal.returns-clause-rounds
+returns-clause-rounds g c =
     let gives = subst (λ (t : Option Receives). GivesOne c.args.self.now.receiver c.receive.new.self c.in_ok-arrived.arrived (g.L.Link.seen c.args.link.now).received t) (sym c.in_ok-turn.ensures.received) c.in_ok-arrived.ensures.gives in
     kept_turned _ c.args.self.now c.args.replica.now _ _ _ _ refl c.receive.ensures.sent c.receive.new.self c.in_ok-arrived.arrived gives c.event_of.result (λ me d rep. c.event_of.ensures.event me d rep)
-    c.in-Some.event c.in-Some.is c.args.journal.now c.keep.new.journal _ _ c.take_turn.new.replica _ _ c.in_ok-turn.turn c.in_ok-turn.turn.stops c.in_ok-keep.ensures.kept refl c.in_ok-turn.ensures.runs (ap (λ (n : Node). n.receiver) counts) (rw c.if-turn.true refl)
-    (c.in_ok-turn.ensures.who.1 ∙ ap (λ (b : Outbox). b.hosts) same) (c.in_ok-turn.ensures.who.0 ∙ ap (λ (b : Outbox). b.host) same)
-    (λ me d n serves rep whole hosts host number. c.in_ok-turn.ensures.stands me d n serves rep whole (ap (λ (b : Outbox). b.hosts) same ∙ hosts) (ap (λ (b : Outbox). b.host) same ∙ host) (ap (λ (b : Outbox). b.number) same ∙ number))
-
-pub returns-else-turn-clause-rounds : goal.returns-else-turn-clause-rounds
-returns-else-turn-clause-rounds g c =
-    let counts = c.event_of.ensures.counts in
-    let same : c.event_of.new.self.outbox ≡ c.args.self.now.outbox = ap (λ (n : Node). n.outbox) counts in
-    let gives = subst (λ (t : Option Receives). GivesOne c.args.self.now.receiver c.receive.new.self c.in_ok-arrived.arrived (g.L.Link.seen c.args.link.now).received t) (sym c.in_ok-turn.ensures.received) c.in_ok-arrived.ensures.gives in
-    kept_turned _ c.args.self.now c.args.replica.now _ _ _ _ refl c.receive.ensures.sent c.receive.new.self c.in_ok-arrived.arrived gives c.event_of.result (λ me d rep. c.event_of.ensures.event me d rep)
-    c.in-Some.event c.in-Some.is c.args.journal.now c.keep.new.journal _ _ c.take_turn.new.replica _ _ c.in_ok-turn.turn c.in_ok-turn.turn.stops c.in_ok-keep.ensures.kept refl c.in_ok-turn.ensures.runs (ap (λ (n : Node). n.receiver) counts) (rw c.if-turn.false (ap (λ (n : Node). n.quiets) counts))
-    (c.in_ok-turn.ensures.who.1 ∙ ap (λ (b : Outbox). b.hosts) same) (c.in_ok-turn.ensures.who.0 ∙ ap (λ (b : Outbox). b.host) same)
-    (λ me d n serves rep whole hosts host number. c.in_ok-turn.ensures.stands me d n serves rep whole (ap (λ (b : Outbox). b.hosts) same ∙ hosts) (ap (λ (b : Outbox). b.host) same ∙ host) (ap (λ (b : Outbox). b.number) same ∙ number))
+    c.in-Some.event c.in-Some.is c.args.journal.now c.keep.new.journal _ _ c.take_turn.new.replica _ _ c.in_ok-turn.turn c.in_ok-turn.turn.stops c.in_ok-keep.ensures.kept refl c.in_ok-turn.ensures.runs refl c.behind-self.ensures
+    c.in_ok-turn.ensures.who.1 c.in_ok-turn.ensures.who.0
+    (λ me d n serves rep whole hosts host number. c.in_ok-turn.ensures.stands me d n serves rep whole hosts host number)
 
 pub returns-in_default-clause-link : goal.returns-in_default-clause-link
 returns-in_default-clause-link g c = counts_none _ _ _ _ _ (calm_of _ _ _ _ _ c.in_ok-arrived.ensures.link) (λ told. absurd cc)

@@ -1,12 +1,9 @@
-use Rattle.std.proofs.Common.{◌≡◌, ◌∙◌, Option, refl, ap, sym, subst}
+use Rattle.std.proofs.Common.{◌∙◌, Option, refl, sym, subst}
 use Rattle.std.proofs.lemmas.Result.{err_from_is_err_and}
-use Rattle.mb_replica.specs.Waiting.{wants}
-use Rattle.mb_node.specs.declared.node.Node.{Node}
-use Rattle.mb_node.specs.declared.outbox.Outbox.{Outbox}
 use Rattle.mb_node.specs.Receives.{Receives}
 use Rattle.mb_node.specs.Receiving.{GivesOne}
 use Rattle.mb_node.proofs.Faults.{link_no_budget, link_alone, calm_of, counts_none, counts_after, counts_as}
-use Rattle.mb_node.proofs.Runs.{none_counts, stopped_round, turn_stopped}
+use Rattle.mb_node.proofs.Runs.{stopped_round, turn_stopped}
 use Rattle.mb_node.proofs.Rounding.{round_lost, round_quietly, round_cut, round_turned}
 use Rattle.mb_node.proofs.node.Node.round.Goals as goal
 
@@ -18,12 +15,8 @@ returns-in_err-arrival-clause-rounds g c =
 
 pub returns-in_default-clause-rounds : goal.returns-in_default-clause-rounds
 returns-in_default-clause-rounds g c =
-    let r = c.requires.rests in
-    let counts = c.event_of.ensures.counts in
     round_quietly _ c.args.self.now c.args.replica.now _ _ _ _ refl c.receive.ensures.sent c.receive.new.self c.in_ok-arrival.arrival c.in_ok-arrival.ensures.gives c.event_of.result (λ me d rep. c.event_of.ensures.event me d rep)
-    c.event_of.new.self c.in_default.is (ap (λ (n : Node). n.receiver) counts)
-    (ap (λ (n : Node). n.quiets) counts ∙ none_counts (wants r.me r.history) c.args.self.now.quiets c.in_ok-arrival.arrival (sym (c.event_of.ensures.event r.me r.history r.represents) ∙ c.in_default.is))
-    (ap (λ (n : Node). n.outbox) counts)
+    _ c.in_default.is refl refl refl
 
 pub returns-in_default-clause-link : goal.returns-in_default-clause-link
 returns-in_default-clause-link g c = counts_none _ _ _ _ _ (calm_of _ _ _ _ _ c.in_ok-arrival.ensures.link) (λ told. absurd cc)
@@ -31,14 +24,12 @@ returns-in_default-clause-link g c = counts_none _ _ _ _ _ (calm_of _ _ _ _ _ c.
 pub returns-in_err-turn-clause-rounds : goal.returns-in_err-turn-clause-rounds
 returns-in_err-turn-clause-rounds g c =
     let p = err_from_is_err_and c.from_residual-in_err-turn.result c.from_residual-in_err-turn.ensures.1 in
-    let counts = c.event_of.ensures.counts in
-    let same : c.event_of.new.self.outbox ≡ c.args.self.now.outbox = ap (λ (n : Node). n.outbox) counts in
     let gives = subst (λ (t : Option Receives). GivesOne c.args.self.now.receiver c.receive.new.self c.in_ok-arrival.arrival (g.L.Link.seen c.args.link.now).received t) (sym c.in_err-turn.ensures.received) c.in_ok-arrival.ensures.gives in
     stopped_round _ _ _ _ _ _ _ _ _ c.from_residual-in_err-turn.result p.0 p.1 (λ n is. c.in_err-turn.ensures.unspent n (let e = sym p.2 ∙ is in cc))
     (round_cut _ c.args.self.now c.args.replica.now _ _ _ _ refl c.receive.ensures.sent c.receive.new.self c.in_ok-arrival.arrival gives c.event_of.result (λ me d rep. c.event_of.ensures.event me d rep)
     c.in-Some.event c.in-Some.is c.take_turn.new.replica _
     (λ me d n serves rep whole hosts host number. (turn_stopped me d n c.in-Some.event (record { written = (g.K.Sink.seen c.args.out.now).bytes; sent = (g.L.Link.seen c.receive.new.link).sent }) (record { written = (g.K.Sink.seen c.take_turn.new.out).bytes; sent = (g.L.Link.seen c.take_turn.new.link).sent }) c.take_turn.new.replica c.take_turn.new.outbox c.in_err-turn.field-0.0
-    (c.in_err-turn.ensures.stands me d n serves rep whole (ap (λ (b : Outbox). b.hosts) same ∙ hosts) (ap (λ (b : Outbox). b.host) same ∙ host) (ap (λ (b : Outbox). b.number) same ∙ number))).1))
+    (c.in_err-turn.ensures.stands me d n serves rep whole hosts host number)).1))
 
 pub returns-in_err-turn-clause-link : goal.returns-in_err-turn-clause-link
 returns-in_err-turn-clause-link g c =
@@ -50,25 +41,13 @@ returns-in_err-turn-clause-sink g c =
     let p = err_from_is_err_and c.from_residual-in_err-turn.result c.from_residual-in_err-turn.ensures.1 in
     counts_as _ _ _ _ _ _ c.in_err-turn.ensures.sink (λ told. cc (p.1, p.2, told))
 
-pub returns-then-turn-clause-rounds : goal.returns-then-turn-clause-rounds
-returns-then-turn-clause-rounds g c =
-    let counts = c.event_of.ensures.counts in
-    let same : c.event_of.new.self.outbox ≡ c.args.self.now.outbox = ap (λ (n : Node). n.outbox) counts in
+pub returns-clause-rounds : goal.returns-clause-rounds
+returns-clause-rounds g c =
     let gives = subst (λ (t : Option Receives). GivesOne c.args.self.now.receiver c.receive.new.self c.in_ok-arrival.arrival (g.L.Link.seen c.args.link.now).received t) (sym c.in_ok-turn.ensures.received) c.in_ok-arrival.ensures.gives in
     round_turned _ c.args.self.now c.args.replica.now _ _ _ _ refl c.receive.ensures.sent c.receive.new.self c.in_ok-arrival.arrival gives c.event_of.result (λ me d rep. c.event_of.ensures.event me d rep)
-    c.in-Some.event c.in-Some.is c.take_turn.new.replica _ _ c.in_ok-turn.turn c.in_ok-turn.turn.stops refl c.in_ok-turn.ensures.runs (ap (λ (n : Node). n.receiver) counts) (rw c.if-turn.true refl)
-    (c.in_ok-turn.ensures.who.1 ∙ ap (λ (b : Outbox). b.hosts) same) (c.in_ok-turn.ensures.who.0 ∙ ap (λ (b : Outbox). b.host) same)
-    (λ me d n serves rep whole hosts host number. c.in_ok-turn.ensures.stands me d n serves rep whole (ap (λ (b : Outbox). b.hosts) same ∙ hosts) (ap (λ (b : Outbox). b.host) same ∙ host) (ap (λ (b : Outbox). b.number) same ∙ number))
-
-pub returns-else-turn-clause-rounds : goal.returns-else-turn-clause-rounds
-returns-else-turn-clause-rounds g c =
-    let counts = c.event_of.ensures.counts in
-    let same : c.event_of.new.self.outbox ≡ c.args.self.now.outbox = ap (λ (n : Node). n.outbox) counts in
-    let gives = subst (λ (t : Option Receives). GivesOne c.args.self.now.receiver c.receive.new.self c.in_ok-arrival.arrival (g.L.Link.seen c.args.link.now).received t) (sym c.in_ok-turn.ensures.received) c.in_ok-arrival.ensures.gives in
-    round_turned _ c.args.self.now c.args.replica.now _ _ _ _ refl c.receive.ensures.sent c.receive.new.self c.in_ok-arrival.arrival gives c.event_of.result (λ me d rep. c.event_of.ensures.event me d rep)
-    c.in-Some.event c.in-Some.is c.take_turn.new.replica _ _ c.in_ok-turn.turn c.in_ok-turn.turn.stops refl c.in_ok-turn.ensures.runs (ap (λ (n : Node). n.receiver) counts) (rw c.if-turn.false (ap (λ (n : Node). n.quiets) counts))
-    (c.in_ok-turn.ensures.who.1 ∙ ap (λ (b : Outbox). b.hosts) same) (c.in_ok-turn.ensures.who.0 ∙ ap (λ (b : Outbox). b.host) same)
-    (λ me d n serves rep whole hosts host number. c.in_ok-turn.ensures.stands me d n serves rep whole (ap (λ (b : Outbox). b.hosts) same ∙ hosts) (ap (λ (b : Outbox). b.host) same ∙ host) (ap (λ (b : Outbox). b.number) same ∙ number))
+    c.in-Some.event c.in-Some.is c.take_turn.new.replica _ _ c.in_ok-turn.turn c.in_ok-turn.turn.stops refl c.in_ok-turn.ensures.runs refl c.behind-self.ensures
+    c.in_ok-turn.ensures.who.1 c.in_ok-turn.ensures.who.0
+    (λ me d n serves rep whole hosts host number. c.in_ok-turn.ensures.stands me d n serves rep whole hosts host number)
 
 pub returns-in_err-arrival-clause-alone : goal.returns-in_err-arrival-clause-alone
 returns-in_err-arrival-clause-alone g c =
