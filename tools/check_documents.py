@@ -2,18 +2,25 @@
 """check_documents.py: checks README.md, docs and examples/README.md, and prints what is not right; then the status is 1.
 
 Each relative link leads to a file that is there, and to a heading of it; each file that is named whole, as `crates/..`, `tools/..` or `mb_x/specs/..`, is there; no
-cell of a table has more than 300 characters; README, PROMISE and ARCHITECTURE keep their sizes; no `@@NAME@@` is left that waits for a number; each story
-is that of the example of its name."""
+cell of a table has more than 300 characters, in the documents of BRIEF no cell more than 200 and no sentence more than 300; README, PROMISE, ARCHITECTURE,
+DECISIONS and PROVED keep their sizes, and all documents together theirs; no `@@NAME@@` is left that waits for a number; each story is that of the example of
+its name."""
 import pathlib
 import re
 import sys
 
 TOP = pathlib.Path(__file__).resolve().parent.parent
-SIZES = {"README.md": 12288, "docs/PROMISE.md": 15360, "docs/ARCHITECTURE.md": 10240}
+SIZES = {"README.md": 12288, "docs/PROMISE.md": 15360, "docs/ARCHITECTURE.md": 10240, "docs/DECISIONS.md": 25600, "docs/PROVED.md": 23552}
+MOST_BYTES = 320000
 LONGEST_CELL = 300
+BRIEF = ("docs/DECISIONS.md", "docs/PROVED.md", "docs/MUTATIONS.md", "docs/model/")
+LONGEST_BRIEF_CELL = 200
+LONGEST_SENTENCE = 300
 LINK = re.compile(r"\[[^\]]*\]\(([^)\s]+)\)")
 NAMED = re.compile(r"`((?:crates|tools|docs|examples)/[\w./-]+|mb_\w+/(?:src|specs|proofs|data)/[\w./-]+)`")
 WAITING = re.compile(r"@@\w+@@")
+TARGET = re.compile(r"\]\([^)\s]+\)")
+SENTENCE_END = re.compile(r"(?<=[.?!])[*)]*\s+(?=[A-Z*`\[(])")
 
 
 def documents():
@@ -63,11 +70,28 @@ def is_there(name):
     return "NAME" in name or path.exists() or path.with_suffix(".antt").exists()
 
 
+def is_brief(document):
+    return document.relative_to(TOP).as_posix().startswith(BRIEF)
+
+
+def sentences_of(line):
+    """The sentences of a line that is no row of a table, without where their links lead."""
+    return [] if line.startswith("|") else SENTENCE_END.split(TARGET.sub("]", line))
+
+
+def long_parts(document, line):
+    """Cells and sentences that are too long."""
+    most = LONGEST_BRIEF_CELL if is_brief(document) else LONGEST_CELL
+    yield from (f"a cell of {len(cell.strip())} characters: {cell.strip()[:50]}" for cell in cells_of(line) if len(cell.strip()) > most)
+    if is_brief(document):
+        yield from (f"a sentence of {len(part)} characters: {part[:50]}" for part in sentences_of(line) if len(part) > LONGEST_SENTENCE)
+
+
 def faults_of_line(document, line):
     """What is not right in a line."""
     yield from filter(None, (link_fault(document, target) for target in LINK.findall(line)))
     yield from (f"no {name}" for name in NAMED.findall(line) if not is_there(name))
-    yield from (f"a cell of {len(cell.strip())} characters: {cell.strip()[:50]}" for cell in cells_of(line) if len(cell.strip()) > LONGEST_CELL)
+    yield from long_parts(document, line)
 
 
 def size_faults():
@@ -75,6 +99,9 @@ def size_faults():
         size = (TOP / name).stat().st_size
         if size > most:
             yield f"{name}: {size} bytes, more than {most}"
+    total = sum(document.stat().st_size for document in documents())
+    if total > MOST_BYTES:
+        yield f"all documents: {total} bytes, more than {MOST_BYTES}"
 
 
 def story_faults():

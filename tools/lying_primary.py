@@ -179,9 +179,9 @@ def bound(port):
     return taken
 
 
-def started(words, config):
-    """The node, which ends where this script does."""
-    node = subprocess.Popen(words, stdin=subprocess.PIPE, env={**os.environ, "MINBFT_STARTED_BY": str(os.getpid())})
+def started(words, config, record=None):
+    """The node, which ends where this script does. Its record goes to a file, where one is given."""
+    node = subprocess.Popen(words, stdin=subprocess.PIPE, stdout=record, env={**os.environ, "MINBFT_STARTED_BY": str(os.getpid())})
     text = config.text.replace(f"\nport {config.port}\n", f"\nport {config.port + BESIDE}\n")
     node.stdin.write(text.encode())
     node.stdin.close()
@@ -216,6 +216,10 @@ class Wire:
             for piece in pieces(self.liar.host, self.count, one):
                 self.send(piece, peer)
             self.count += 1
+
+    def close(self):
+        for one in (self.outside, *self.inside):
+            one.close()
 
 
 def main():

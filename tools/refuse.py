@@ -2,7 +2,8 @@
 """refuse.py PROGRAM SCHEDULE REPORT [MOST]: replays a schedule, and refuses its N-th allocation, read or write, for each N in turn.
 
 Each is tried with the one call refused, and with all behind it refused too. Right is the report with status 0, or status 4
-(allocation), 5 (read) or 6 (write) with at most a beginning of the report. At most MOST numbers of a kind are tried, evenly spread.
+(allocation), 5 (read) or 6 (write) with at most a beginning of the report. Of a read and a write standard error has a line, unless that write is refused
+too. At most MOST numbers of a kind are tried, evenly spread.
 Prints each other answer and, of each kind, how often each status came."""
 import collections
 import os
@@ -12,6 +13,7 @@ import tempfile
 
 HERE = os.path.dirname(os.path.abspath(__file__))
 STATUS = {"allocation": 4, "read": 5, "write": 6}
+TOLD = {"read": b"minbft: reading failed: ", "write": b"minbft: writing failed: "}
 
 
 def run(program, text, kind, number, lasting, tell=None):
@@ -33,7 +35,11 @@ def is_right(kind, ended, report):
     if ended.returncode == 0:
         return ended.stdout == report
     begun = report.startswith(ended.stdout) if kind == "write" else not ended.stdout
-    return ended.returncode == STATUS[kind] and begun and not ended.stderr
+    return ended.returncode == STATUS[kind] and begun and is_told(kind, ended.stderr)
+
+
+def is_told(kind, said):
+    return not said or (kind in TOLD and said.startswith(TOLD[kind]) and said.count(b"\n") == 1)
 
 
 def try_kind(program, text, report, kind, most):

@@ -2,9 +2,10 @@
 """time_journal.py PROGRAM CONFIG [TIMES]: what a journal costs a node.
 
 First the config's operations are asked of three nodes, TIMES times without journals and with them in turn: how many are answered in a second, by median.
-Then host 0 opens journals of 1,000, 10,000 and 100,000 events, those that its journal got so, again and again, and receives once: the seconds that it
-takes, the processor's, the most memory, and the bytes of the journal and of the record. Prints these, and ends by 0 where each operation was answered,
-each node heard its STOP, and each opening ended by its budget."""
+Then they are asked of three nodes without journals again and again, under numbers that rise, until host 0's record has 100,000 events, so that none of these was
+for nothing. From its first 1,000, its first 10,000 and its first 100,000 journals are made, as its own journal would have them; host 0 opens each, and receives
+once: the seconds that it takes, the processor's, the most memory, and the bytes of the journal and of the record. Prints these, and ends by 0 where each
+operation was answered, each node heard its STOP, and each opening ended by its budget."""
 import argparse
 import os
 import statistics
@@ -15,12 +16,17 @@ import time
 from itertools import cycle, islice
 
 from by_hand import Client, ended, start
-from journal import HEAD, events_of
+from journal import file_of
+from make_journal import HEADER_LINES
 from restart_nodes import Host
 from wire import Config, stop
 
 SIZES = (1_000, 10_000, 100_000)
 SPENT = 9
+EVENTS_OF_ONE = 3
+"""How many events of host 0 an operation is at least: its REQUEST and two COMMITs."""
+REQUEST = "given 01"
+LOOKS_EACH = 0.005
 
 
 def rate(nodes, config):
@@ -45,13 +51,14 @@ def with_journals(program, config, folder):
     return rate([host.node for host in hosts], config)
 
 
-def read(path):
-    with open(path, "rb") as file:
-        return file.read()
+def most_memory(process):
+    """The most resident memory that a process had, in kB; 0 where it has ended. What the system tells behind its end counts the memory of who started it too."""
+    with open(f"/proc/{process}/status", encoding="ascii") as lines:
+        return next((int(line.split()[1]) for line in lines if line.startswith("VmHWM")), 0)
 
 
 def opening(program, config, file, folder):
-    """The status of a node that opens this file and receives once, its seconds, the processor's, its most memory in bytes, and the length of its record."""
+    """The status of a node that opens this file and receives once, its seconds, the processor's, its most memory in kB, and the length of its record."""
     path, record = os.path.join(folder, "long.journal"), os.path.join(folder, "long.record")
     with open(path, "wb") as journal:
         journal.write(file)
@@ -60,19 +67,45 @@ def opening(program, config, file, folder):
         node = subprocess.Popen([*program.split(" "), "node", "0", "1", path], stdin=subprocess.PIPE, stdout=output)
         node.stdin.write(config.text.encode())
         node.stdin.close()
-        _, status, used = os.wait4(node.pid, 0)
+        memory, process = 0, 0
+        while not process:
+            memory = max(memory, most_memory(node.pid))
+            time.sleep(LOOKS_EACH)
+            process, status, used = os.wait4(node.pid, os.WNOHANG)
     seconds = time.monotonic() - begun
-    return os.waitstatus_to_exitcode(status), seconds, used.ru_utime + used.ru_stime, used.ru_maxrss * 1024, os.path.getsize(record)
+    return os.waitstatus_to_exitcode(status), seconds, used.ru_utime + used.ru_stime, memory, os.path.getsize(record)
 
 
-def repeated(file, count):
-    """A journal of so many events: those of this one, again and again."""
-    records, place = [], HEAD
-    for event in events_of(file):
-        size = 6 + (len(event.removeprefix("given ")) // 2 if event.startswith("given ") else 0)
-        records.append(file[place : place + size])
-        place += size
-    return file[:HEAD] + b"".join(islice(cycle(records), count)) + b"\0"
+def long_run(program, config, folder):
+    """The settings and the events of host 0's record of as many operations as it takes, and whether all was right."""
+    nodes, path = [start(program, number, config, folder) for number in range(3)], os.path.join(folder, "node-0.record")
+    client, right, begun = Client(config), True, 0
+    while begun < SIZES[-1]:
+        asked = (SIZES[-1] - begun) // EVENTS_OF_ONE + 1
+        right &= None not in [client.ask(operation) for operation in islice(cycle(config.operations), asked)]
+        begun = (sum(1 for _ in lines_of(path)) - HEADER_LINES) // 2
+    for _ in range(3):
+        client.tell(stop(config))
+    client.socket.close()
+    right &= [ended(node) for node in nodes] == [0, 0, 0]
+    lines = list(lines_of(path))
+    return lines[:HEADER_LINES], lines[HEADER_LINES::2], right
+
+
+def lines_of(path):
+    with open(path, encoding="ascii") as record:
+        yield from (line.rstrip("\n") for line in record)
+
+
+def tell_opening(words, config, settings, events):
+    """Opens a journal of these events, prints what it took, and tells whether the node ended by its budget."""
+    with tempfile.TemporaryDirectory() as folder:
+        long = file_of(settings, events)
+        status, seconds, processor, memory, record = opening(words.program, config, long, folder)
+    asked = sum(line.startswith(REQUEST) for line in events)
+    took = f"{seconds:.2f} s, {processor:.2f} s of the processor, {memory >> 10} MiB"
+    print(f"{len(events)} events, {asked} requests among them, {len(long)} bytes: status {status}, {took}, a record of {record} bytes")
+    return status == SPENT
 
 
 def main():
@@ -90,14 +123,12 @@ def main():
                 answered, good = way(words.program, config, folder)
                 found.append(answered)
                 right &= good
-                file = read(os.path.join(folder, "journal-0")) if way is with_journals else b""
     print(f"{len(config.operations)} operations a second: {statistics.median(rates[without]):.0f} without journals, {statistics.median(rates[with_journals]):.0f} with")
+    with tempfile.TemporaryDirectory() as folder:
+        settings, events, all_right = long_run(words.program, config, folder)
+    right &= all_right
     for size in SIZES:
-        with tempfile.TemporaryDirectory() as folder:
-            long = repeated(file, size)
-            status, seconds, processor, memory, record = opening(words.program, config, long, folder)
-        right &= status == SPENT
-        print(f"{size} events, {len(long)} bytes: status {status}, {seconds:.2f} s, {processor:.2f} s of the processor, {memory >> 20} MiB, a record of {record} bytes")
+        right &= tell_opening(words, config, settings, events[:size])
     return 0 if right else 1
 
 
